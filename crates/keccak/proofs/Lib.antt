@@ -1,0 +1,4 @@
+pub mod Tables
+pub mod Fits
+pub mod Rotation
+pub mod Known

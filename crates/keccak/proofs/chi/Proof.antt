@@ -1,0 +1,20 @@
+-- `keccak::chi` meets its contract: the definition computes to the 25 lanes that the code makes. The 25 places that it reads are below 25.
+-- Assumes nothing.
+use mathlib.Core.Path.{refl}
+use lib.Dec.{lit<}
+use Rattle.keccak.proofs.chi.Statement.{statement}
+use Rattle.keccak.proofs.chi.Tie as tie
+
+returns : tie.Need-returns
+returns c = refl
+
+pub chi-spec : {M : Type 1} → statement M
+chi-spec =
+    tie.close
+    (tie.spec
+    (λ c. lit< tt) (λ c. lit< tt) (λ c. lit< tt) (λ c. lit< tt) (λ c. lit< tt)
+    (λ c. lit< tt) (λ c. lit< tt) (λ c. lit< tt) (λ c. lit< tt) (λ c. lit< tt)
+    (λ c. lit< tt) (λ c. lit< tt) (λ c. lit< tt) (λ c. lit< tt) (λ c. lit< tt)
+    (λ c. lit< tt) (λ c. lit< tt) (λ c. lit< tt) (λ c. lit< tt) (λ c. lit< tt)
+    (λ c. lit< tt) (λ c. lit< tt) (λ c. lit< tt) (λ c. lit< tt) (λ c. lit< tt)
+    returns)

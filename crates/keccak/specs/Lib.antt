@@ -1,0 +1,5 @@
+pub mod Lanes
+pub mod Offsets
+pub mod RoundConstants
+pub mod Steps
+pub mod Keccak

@@ -1,0 +1,37 @@
+-- Laws of the lowest number of which a test holds.
+-- Assumes nothing.
+use mathlib.Core.Path.{_≡_, refl, ap, sym, _∙_, subst}
+use mathlib.Core.Bool.{Bool, true, false}
+use Prim.Native.Nat.{ℕ, zero, suc, _+_, _≤_, _<_}
+use native.Mathlib.Nat.{not-suc-le-zero, add-zero, zero-add}
+use native.Mathlib.Omega.{arith}
+use Rattle.lists.specs.First.{firstFrom, first}
+
+-- where the tests before i fail and the one at i holds, i is the first
+from-at : (left from i : ℕ) (test : ℕ → Bool) → i < left → ((j : ℕ) → j < i → test (from + j) ≡ false) → test (from + i) ≡ true → firstFrom from left test ≡ from + i
+unfolding firstFrom
+from-at zero from i test h before here = absurd (not-suc-le-zero h)
+from-at (suc left) from zero test h before here = rw (rw add-zero at here, firstFrom) (sym (add-zero from))
+from-at (suc left) from (suc i) test h before here =
+    rw (rw add-zero at (before 0 (omega arith)), firstFrom)
+    (from-at left (suc from) i test (omega arith) (λ j l. subst (λ m. test m ≡ false) (omega arith) (before (suc j) (omega arith)))
+    (subst (λ m. test m ≡ true) (omega arith) here)
+    ∙ omega arith)
+
+from-none : (left from : ℕ) (test : ℕ → Bool) → ((j : ℕ) → j < left → test (from + j) ≡ false) → firstFrom from left test ≡ from + left
+unfolding firstFrom
+from-none zero from test fails = sym (add-zero from)
+from-none (suc left) from test fails =
+    rw (rw add-zero at (fails 0 (omega arith)), firstFrom)
+    (from-none left (suc from) test (λ j l. subst (λ m. test m ≡ false) (omega arith) (fails (suc j) (omega arith))) ∙ omega arith)
+
+pub first-at : (n i : ℕ) (test : ℕ → Bool) → i < n → ((j : ℕ) → j < i → test j ≡ false) → test i ≡ true → first n test ≡ i
+unfolding first
+first-at n i test h before here =
+    from-at n 0 i test h (λ j l. subst (λ m. test m ≡ false) (sym (zero-add j)) (before j l)) (subst (λ m. test m ≡ true) (sym (zero-add i)) here)
+    ∙ zero-add i
+
+-- where the test holds of none, n
+pub first-none : (n : ℕ) (test : ℕ → Bool) → ((j : ℕ) → j < n → test j ≡ false) → first n test ≡ n
+unfolding first
+first-none n test fails = from-none n 0 test (λ j l. subst (λ m. test m ≡ false) (sym (zero-add j)) (fails j l)) ∙ zero-add n

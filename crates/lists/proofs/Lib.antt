@@ -1,0 +1,9 @@
+pub mod Parts
+pub mod Sums
+pub mod Blocks
+pub mod Written
+pub mod Filled
+pub mod Wrote
+pub mod Steps
+pub mod Grown
+pub mod First

@@ -1,0 +1,11 @@
+pub mod Cancel
+pub mod Identities
+pub mod InPlace
+pub mod Laws
+pub mod Moduli
+pub mod Parts
+pub mod Reduced
+pub mod Ring
+pub mod Table
+pub mod VectorRing
+pub mod Vectors

@@ -1,0 +1,91 @@
+// The moduli: a table of the primes from 2 to 251, and the questions that it answers.
+ghost use mathlib.Core.Path.{_≡_};
+ghost use Rattle.residue.specs.Prime.{isPrime, primesBelow, Primes};
+
+const PRIMES: [u8; 54] = [
+    2,
+    3,
+    5,
+    7,
+    11,
+    13,
+    17,
+    19,
+    23,
+    29,
+    31,
+    37,
+    41,
+    43,
+    47,
+    53,
+    59,
+    61,
+    67,
+    71,
+    73,
+    79,
+    83,
+    89,
+    97,
+    101,
+    103,
+    107,
+    109,
+    113,
+    127,
+    131,
+    137,
+    139,
+    149,
+    151,
+    157,
+    163,
+    167,
+    173,
+    179,
+    181,
+    191,
+    193,
+    197,
+    199,
+    211,
+    223,
+    227,
+    229,
+    233,
+    239,
+    241,
+    251,
+];
+
+// The table, ascending: at place i the prime that has i primes below it.
+pub fn prime_table() -> [u8; 54]
+    ensures { λ r. ⌜ Primes r ⌝ }
+{
+    PRIMES
+}
+
+// The place of the first prime that is not below `x`, or 54 where there is none: as many primes are below `x`.
+pub fn primes_below(x: u8) -> usize
+    ensures { λ r. ⌜ r ≡ primesBelow x ⌝ }
+{
+    let table = prime_table();
+    let mut i = 0;
+    while i < 54 {
+        if x <= table[i] {
+            return i;
+        }
+        i += 1;
+    }
+    i
+}
+
+// Whether `p` is a modulus, so a prime: a byte's primes are all in the table.
+pub fn is_modulus(p: u8) -> bool
+    ensures { λ r. ⌜ r ≡ isPrime p ⌝ }
+{
+    let table = prime_table();
+    let place = primes_below(p);
+    if place < 54 { table[place] == p } else { false }
+}

@@ -1,0 +1,11 @@
+pub mod Xor
+pub mod Bytes
+pub mod Fields
+pub mod Stream
+pub mod Squeezed
+pub mod Padded
+pub mod Streamed
+pub mod Numbers
+pub mod Whole
+pub mod Absorbing
+pub mod Known

@@ -1,0 +1,4 @@
+pub mod Numbers
+pub mod Padding
+pub mod Shake
+pub mod Stream
