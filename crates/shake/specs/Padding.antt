@@ -32,12 +32,12 @@ pad10*1 x m = 1 ∷ replicate ((x - (m + 2) % x) % x) 0 ++ (1 ∷ [])
 unfoldable pub suffix : List ℕ
 suffix = 1 ∷ 1 ∷ 1 ∷ 1 ∷ []
 
--- the rate of SHAKE256 in bits, and in bytes
-abbrev pub rateBits : ℕ
-rateBits = 1088
-
+-- the rate of SHAKE256: 136 bytes, which are 1088 bits
 abbrev pub rate : ℕ
 rate = 136
+
+abbrev pub rateBits : ℕ
+rateBits = 8 * rate
 
 -- N = M ‖ 1111, and P = N ‖ pad10*1(rate, len(N))
 unfoldable pub suffixed : List ℕ → List ℕ
