@@ -2,7 +2,7 @@
 """Prints crates/vectors/src/data.rt: the values that the program `vectors` compares with.
 
 SHAKE256 comes from python's hashlib (OpenSSL's implementation), the permutation of the zero state from the few lines below, which follow
-FIPS 202 bit by bit and are first checked against hashlib. The first 32 bytes of the two published examples of FIPS 202 (the empty message
+FIPS 202 bit by bit and are first checked against hashlib. The circuits are laid out from document 01. The first 32 bytes of the two published examples of FIPS 202 (the empty message
 and the message of 1600 bits, 200 bytes 0xA3) stand here as published and are checked too."""
 import hashlib
 
@@ -10,6 +10,12 @@ PUBLISHED = {
     b"": "46b9dd2b0ba88d13233b3feb743eeb243fcd52ea62b81b82b50c27646ed5762f",
     b"\xa3" * 200: "cd8a920ed141aa0407a22d59288652e9d9f1a7ee0c1e7c1ca699424da84a904d",
 }
+
+HEAD, END = 0x10000000, 0xB0000000
+# constants 250, 0 and 251 at modulus 251; moduli 251, 2, 1 and 253
+CIRCUITS = [
+    (f"CONSTANT_{c}", [HEAD, 0x200000FB, 0x40000000 | c << 10, 0xA0000001, END]) for c in (250, 0, 251)
+] + [(f"MODULUS_{p}", [HEAD, 0x20000000 | p, 0xA0000000, END]) for p in (251, 2, 1, 253)]
 
 
 def shake(message, size):
@@ -66,6 +72,8 @@ def main():
     for n in (135, 136, 137, 271, 272, 273):
         text += array(f"RAMP_{n}", f"SHAKE256 of the ramp's first {n} bytes.", "u8", shake(ramp[:n], 32))
     text += array("LONG", "SHAKE256 of the ramp's first 3 bytes, over four blocks and a byte of the fifth.", "u8", shake(ramp[:3], 545))
+    for name, words in CIRCUITS:
+        text += array(name, "A circuit of document 01's examples, as the bytes of its file.", "u8", b"".join(w.to_bytes(4, "little") for w in words))
     lanes = keccak_f([0] * 1600)
     words = [hex(sum(lanes[64 * i + z] << z for z in range(64))) for i in range(25)]
     text += array("ZERO_STATE", "Keccak-f[1600] of the zero state.", "u64", words)

@@ -1,9 +1,10 @@
 -- Laws of the lowest number of which a test holds.
 -- Assumes nothing.
-use mathlib.Core.Path.{_≡_, refl, ap, sym, _∙_, subst}
+use mathlib.Core.Path.{_≡_, refl, sym, _∙_, subst}
+use mathlib.Core.Logic.{⊎-elim}
 use mathlib.Core.Bool.{Bool, true, false}
 use Prim.Native.Nat.{ℕ, zero, suc, _+_, _≤_, _<_}
-use native.Mathlib.Nat.{not-suc-le-zero, add-zero, zero-add}
+use native.Mathlib.Nat.{not-suc-le-zero, eq-or-lt-of-le, add-zero, zero-add}
 use native.Mathlib.Omega.{arith}
 use Rattle.lists.specs.First.{firstFrom, first}
 
@@ -35,3 +36,32 @@ first-at n i test h before here =
 pub first-none : (n : ℕ) (test : ℕ → Bool) → ((j : ℕ) → j < n → test j ≡ false) → first n test ≡ n
 unfolding first
 first-none n test fails = from-none n 0 test (λ j l. subst (λ m. test m ≡ false) (sym (zero-add j)) (fails j l)) ∙ zero-add n
+
+-- the first is no more than n; tests before it fail; and it holds there, where it is below n
+from-before : (left from i : ℕ) (test : ℕ → Bool) → from ≤ i → i < firstFrom from left test → test i ≡ false
+unfolding firstFrom
+from-before zero from i test h l = absurd (omega arith)
+from-before (suc left) from i test h l = go (test from) refl (from-before left (suc from) i test) l
+  where
+    go : (b : Bool) → test from ≡ b → (from < i → i < firstFrom (suc from) left test → test i ≡ false) → i < (elim b as (λ _. ℕ) [ true ↦ from | false ↦ firstFrom (suc from) left test ]) → test i ≡ false
+    go true e later k = absurd (omega arith)
+    go false e later k = ⊎-elim (λ (w : from ≡ i). rw (← w) e) (λ (w : from < i). later w k) (eq-or-lt-of-le h)
+
+pub first-before : (n i : ℕ) (test : ℕ → Bool) → i < first n test → test i ≡ false
+unfolding first
+first-before n i test l = from-before n 0 i test (omega arith) l
+
+from-here : (left from : ℕ) (test : ℕ → Bool) → firstFrom from left test < from + left → test (firstFrom from left test) ≡ true
+unfolding firstFrom
+from-here zero from test l = absurd (omega arith)
+from-here (suc left) from test l = go (test from) refl (from-here left (suc from) test) l
+  where
+    go : (b : Bool) → test from ≡ b → (firstFrom (suc from) left test < suc from + left → test (firstFrom (suc from) left test) ≡ true)
+        → (elim b as (λ _. ℕ) [ true ↦ from | false ↦ firstFrom (suc from) left test ]) < from + suc left
+        → test (elim b as (λ _. ℕ) [ true ↦ from | false ↦ firstFrom (suc from) left test ]) ≡ true
+    go true e later k = e
+    go false e later k = later (omega arith)
+
+pub first-here : (n : ℕ) (test : ℕ → Bool) → first n test < n → test (first n test) ≡ true
+unfolding first
+first-here n test l = from-here n 0 test (omega arith)

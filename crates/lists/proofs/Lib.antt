@@ -7,3 +7,4 @@ pub mod Wrote
 pub mod Steps
 pub mod Grown
 pub mod First
+pub mod Search

@@ -15,4 +15,7 @@ pub use primes::prime_table;
 pub use primes::primes_below;
 pub use residues::add;
 pub use residues::mul;
+pub use residues::multiple_added;
+pub use residues::reciprocal;
+pub use residues::reduce;
 pub use residues::sub;

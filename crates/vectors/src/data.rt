@@ -2074,6 +2074,90 @@ pub const LONG: [u8; 545] = [
     151,
 ];
 
+// A circuit of document 01's examples, as the bytes of its file.
+pub const CONSTANT_250: [u8; 20] = [
+    0,
+    0,
+    0,
+    16,
+    251,
+    0,
+    0,
+    32,
+    0,
+    232,
+    3,
+    64,
+    1,
+    0,
+    0,
+    160,
+    0,
+    0,
+    0,
+    176,
+];
+
+// A circuit of document 01's examples, as the bytes of its file.
+pub const CONSTANT_0: [u8; 20] = [
+    0,
+    0,
+    0,
+    16,
+    251,
+    0,
+    0,
+    32,
+    0,
+    0,
+    0,
+    64,
+    1,
+    0,
+    0,
+    160,
+    0,
+    0,
+    0,
+    176,
+];
+
+// A circuit of document 01's examples, as the bytes of its file.
+pub const CONSTANT_251: [u8; 20] = [
+    0,
+    0,
+    0,
+    16,
+    251,
+    0,
+    0,
+    32,
+    0,
+    236,
+    3,
+    64,
+    1,
+    0,
+    0,
+    160,
+    0,
+    0,
+    0,
+    176,
+];
+
+// A circuit of document 01's examples, as the bytes of its file.
+pub const MODULUS_251: [u8; 16] = [0, 0, 0, 16, 251, 0, 0, 32, 0, 0, 0, 160, 0, 0, 0, 176];
+
+// A circuit of document 01's examples, as the bytes of its file.
+pub const MODULUS_2: [u8; 16] = [0, 0, 0, 16, 2, 0, 0, 32, 0, 0, 0, 160, 0, 0, 0, 176];
+
+// A circuit of document 01's examples, as the bytes of its file.
+pub const MODULUS_1: [u8; 16] = [0, 0, 0, 16, 1, 0, 0, 32, 0, 0, 0, 160, 0, 0, 0, 176];
+
+// A circuit of document 01's examples, as the bytes of its file.
+pub const MODULUS_253: [u8; 16] = [0, 0, 0, 16, 253, 0, 0, 32, 0, 0, 0, 160, 0, 0, 0, 176];
+
 // Keccak-f[1600] of the zero state.
 pub const ZERO_STATE: [u64; 25] = [
     0xf1258f7940e1dde7,

@@ -1,5 +1,6 @@
-// Runs the hash functions on published and independently computed values, and prints each name and whether the values agree. Rests on
-// `shake` and `keccak`; what it prints is held to the file stdout.
+// Runs the hash functions on published and independently computed values and the reader on the specification's examples, and prints each
+// name and whether the values agree. Rests on `shake`, `keccak` and `circuit`; what it prints is held to the file stdout.
+mod circuits;
 mod data;
 
 use data::BITS_1600;
@@ -52,7 +53,7 @@ fn first_lane(a: [u64; 25], b: [u64; 25]) -> usize
 }
 
 // Prints a name, and ok or the place of the first difference.
-fn report(name: &[u8], same: bool, place: usize) {
+pub fn report(name: &[u8], same: bool, place: usize) {
     io::write_all(STDOUT_FILENO, name);
     if same {
         io::write_all(STDOUT_FILENO, b": ok\n");
@@ -114,4 +115,5 @@ fn main() {
     published();
     around_blocks();
     long_output();
+    circuits::examples();
 }

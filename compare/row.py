@@ -1,0 +1,27 @@
+#!/usr/bin/env python3
+"""Prints the two rows of the circuit in crates/examples/proofs/Row.antt, for both receivers: a bit projected to 7 and 200 modulo 251, two
+parties, key length 1. Written from document 01; SHAKE256 is python's hashlib."""
+import hashlib
+
+# of each party: offsets modulo 2 and 251; zero key and mask share of the bit; zero key and mask share of its image
+CONTRIBUTIONS = [[1, 100, 1, 0, 33, 17], [1, 9, 0, 1, 250, 90]]
+IMAGES = [7, 200]
+
+
+def pad(modulus, wire, component, receiver, key, q):
+    taken = b"ROWPAD" + bytes([modulus]) + wire.to_bytes(4, "little") + bytes([component, receiver, key])
+    return int.from_bytes(hashlib.shake_256(taken).digest(8), "little") % q
+
+
+def row(alpha):
+    mask_of_bit = sum(c[3] for c in CONTRIBUTIONS) % 2
+    mask_of_image = sum(c[5] for c in CONTRIBUTIONS) % 251
+    keys = [(c[2] + alpha * c[0]) % 2 for c in CONTRIBUTIONS]
+    entries = []
+    for receiver, c in enumerate(CONTRIBUTIONS):
+        message = c[4] + (IMAGES[(alpha - mask_of_bit) % 2] + mask_of_image) * c[1]
+        entries.append((message + sum(pad(2, 1, 0, receiver, key, 251) for key in keys)) % 251)
+    return entries
+
+
+print(row(0), row(1))

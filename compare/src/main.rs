@@ -1,0 +1,96 @@
+//! Sets the engine beside the second program: the same calls on the same files, compared.
+
+mod bench;
+mod call;
+mod calls;
+mod engine;
+mod examples;
+mod hex;
+mod second;
+mod sheets;
+
+use call::Call;
+use compare::price_sheet::price_sheet;
+use std::io::{self, Read, Write};
+use std::path::Path;
+use std::process::ExitCode;
+use std::str::FromStr;
+use std::{env, fs};
+
+const USAGE: &str = "\
+compare calls SEED COUNT             the engine's calls on generated files
+compare case SEED CASE               the file of one case of such a run, as text
+compare show FILE                    what both programs say of a file given as such a text
+compare show FILE inputs_of N PARTY
+compare show FILE plain VALUES OUTPUTS   (values in hexadecimal, - for none; number of outputs)
+compare examples                     the specification's examples on both programs
+compare sheet                        the price sheet of standard input, by this program
+compare sheets SEED COUNT PROGRAM    a price-sheet program on generated texts
+compare text SEED CASE               the text of one case of such a run
+compare bench-read                   how long reading takes";
+
+fn main() -> ExitCode {
+    let arguments: Vec<String> = env::args().skip(1).collect();
+    let arguments: Vec<&str> = arguments.iter().map(String::as_str).collect();
+    run(&arguments).unwrap_or_else(|trouble| {
+        eprintln!("{trouble}");
+        ExitCode::from(2)
+    })
+}
+
+fn run(arguments: &[&str]) -> Result<ExitCode, String> {
+    match arguments {
+        ["calls", seed, count] => Ok(calls::run(number(seed)?, number(count)?)),
+        ["case", seed, case] => print(calls::case(number(seed)?, number(case)?).as_bytes()),
+        ["show", file, call @ ..] => show(file, call),
+        ["examples"] => Ok(examples::run()),
+        ["sheet"] => sheet(),
+        ["sheets", seed, count, program] => {
+            let program = Path::new(program);
+            sheets::run(number(seed)?, number(count)?, program)
+                .map_err(|trouble| format!("{}: {trouble}", program.display()))
+        }
+        ["text", seed, case] => print(&sheets::text(number(seed)?, number(case)?)),
+        ["bench-read"] => Ok(bench::bench_read()),
+        _ => Err(USAGE.into()),
+    }
+}
+
+fn number<N: FromStr>(digits: &str) -> Result<N, String> {
+    digits
+        .parse()
+        .map_err(|_| format!("not a number in range: {digits}"))
+}
+
+fn print(text: &[u8]) -> Result<ExitCode, String> {
+    io::stdout()
+        .write_all(text)
+        .map_err(|trouble| trouble.to_string())?;
+    Ok(ExitCode::SUCCESS)
+}
+
+fn show(file: &str, call: &[&str]) -> Result<ExitCode, String> {
+    let text = fs::read_to_string(file).map_err(|trouble| format!("{file}: {trouble}"))?;
+    let call = match call {
+        [] => None,
+        ["read"] => Some(Call::Read),
+        ["inputs_of", n, party] => Some(Call::InputsOf {
+            n: number(n)?,
+            party: number(party)?,
+        }),
+        ["plain", values, outputs] => Some(Call::Plain {
+            values: hex::bytes_of(values)?,
+            outputs: number(outputs)?,
+        }),
+        _ => return Err(USAGE.into()),
+    };
+    Ok(calls::show(&hex::file_of(&text)?, call))
+}
+
+fn sheet() -> Result<ExitCode, String> {
+    let mut text = Vec::new();
+    io::stdin()
+        .read_to_end(&mut text)
+        .map_err(|trouble| trouble.to_string())?;
+    print(price_sheet(&text).as_bytes())
+}

@@ -1,0 +1,81 @@
+//! Checks on what a call is given beside the circuit: parties, lengths and values.
+
+use crate::circuit::{Circuit, Refusal, read};
+
+/// How many inputs a party owns in a circuit for n parties.
+pub fn inputs_of(file: &[u8], n: u32, party: u32) -> Result<u32, Refusal> {
+    let circuit = read(file)?;
+    check_parties(n)?;
+    check_party(n, party)?;
+    check_owners(&circuit, n)?;
+    Ok(circuit.inputs_of(party))
+}
+
+/// 11: there are two to eight parties.
+pub fn check_parties(n: u32) -> Result<(), Refusal> {
+    refuse_unless((2..=8).contains(&n), 11, 0)
+}
+
+/// 12: the party asked for is one of them.
+pub fn check_party(n: u32, party: u32) -> Result<(), Refusal> {
+    refuse_unless(party < n, 12, party as usize)
+}
+
+/// 13: every input's owner is one of them.
+pub fn check_owners(circuit: &Circuit, n: u32) -> Result<(), Refusal> {
+    let stranger = circuit.owners().position(|owner| u32::from(owner) >= n);
+    refuse_place(stranger, 13)
+}
+
+/// 14: each lent length is exact.
+pub fn check_lengths(lengths: &[(usize, usize)]) -> Result<(), Refusal> {
+    let exact = lengths.iter().all(|(lent, due)| lent == due);
+    refuse_unless(exact, 14, 0)
+}
+
+/// 15: each byte is below its modulus.
+pub fn check_below(bytes: &[u8], moduli: impl ExactSizeIterator<Item = u8>) -> Result<(), Refusal> {
+    let high = bytes.iter().zip(moduli).position(|(byte, p)| *byte >= p);
+    refuse_place(high, 15)
+}
+
+fn refuse_unless(holds: bool, number: u32, place: usize) -> Result<(), Refusal> {
+    refuse_place((!holds).then_some(place), number)
+}
+
+fn refuse_place(place: Option<usize>, number: u32) -> Result<(), Refusal> {
+    match place {
+        Some(place) => Err(Refusal { number, place }),
+        None => Ok(()),
+    }
+}
+
+#[cfg(test)]
+mod tests {
+    use super::*;
+    use crate::word::*;
+
+    fn answer(words: &[u32], n: u32, party: u32) -> Result<u32, (u32, usize)> {
+        inputs_of(&file(words), n, party).map_err(|refusal| (refusal.number, refusal.place))
+    }
+
+    #[test]
+    fn inputs_are_counted_by_owner() {
+        let words = [HEAD, input(1, 2), input(0, 3), input(1, 5), output(0), END];
+        assert_eq!(answer(&words, 2, 0), Ok(1));
+        assert_eq!(answer(&words, 2, 1), Ok(2));
+        assert_eq!(answer(&words, 8, 7), Ok(0));
+    }
+
+    #[test]
+    fn parties_are_judged_in_order() {
+        let words = [HEAD, input(0, 2), input(7, 3), input(5, 3), output(0), END];
+        assert_eq!(answer(&words, 1, 9), Err((11, 0)));
+        assert_eq!(answer(&words, 9, 9), Err((11, 0)));
+        assert_eq!(answer(&words, 258, 0), Err((11, 0)));
+        assert_eq!(answer(&words, 5, 5), Err((12, 5)));
+        assert_eq!(answer(&words, 5, 256), Err((12, 256)));
+        assert_eq!(answer(&words, 5, 4), Err((13, 1)));
+        assert_eq!(answer(&words[..5], 1, 9), Err((10, 5)));
+    }
+}

@@ -1,0 +1,2 @@
+-- Laws of the calls that count.
+pub mod Counting

@@ -1,0 +1,3 @@
+-- What the calls answer and write, but for those that have a crate of their own.
+pub mod Summary
+pub mod InputsOf

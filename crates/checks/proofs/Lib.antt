@@ -1,0 +1,3 @@
+-- Laws of checks: when they pass, and which answers meet them.
+pub mod Passed
+pub mod Answers

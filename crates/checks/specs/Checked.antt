@@ -1,0 +1,64 @@
+-- Document 01, "Where each check stands": what checks come to, and what an answer must then be. "What this paper leaves free is named with
+-- what holds of it": a refusal names one place, or any place of which a test holds.
+-- Assumes nothing.
+use mathlib.Core.Path.{_≡_}
+use mathlib.Core.Bool.{Bool, true, false, _&&_}
+use Prim.Native.Nat.{ℕ}
+use lib.Dec.{leb, ltb}
+use Rattle.lists.specs.First.{first}
+use Rattle.checks.specs.declared.Refusal.{Refusal}
+use Rattle.checks.specs.declared.Answer.{Answer}
+use Rattle.checks.specs.declared.Answer.the-variants.{Accepted, Refused}
+use Rattle.checks.specs.Answer.{numberOf}
+
+pub data Place : Type 0 where
+  at : ℕ → Place
+  free : (ℕ → Bool) → Place
+
+pub data Checked : Type 0 where
+  passed : Checked
+  refused : Refusal → Place → Checked
+
+-- what was answered elsewhere
+unfoldable pub answered : Answer → Checked
+answered Accepted = passed
+answered (Refused reason place) = refused reason (at place)
+
+-- a check is made where those before it passed
+unfoldable pub andThen : Checked → Checked → Checked
+andThen passed next = next
+andThen (refused reason place) next = refused reason place
+
+-- one test, refused at a place
+unfoldable pub unless : Bool → Refusal → ℕ → Checked
+unless true reason place = passed
+unless false reason place = refused reason (at place)
+
+-- a test of each number below n, refused at the lowest that is bad
+unfoldable pub noneBad : ℕ → (ℕ → Bool) → Refusal → Checked
+noneBad n bad reason = unless (leb n (first n bad)) reason (first n bad)
+
+-- the same, refused at some number that is bad
+unfoldable pub refusedSome : Bool → (ℕ → Bool) → Refusal → Checked
+refusedSome true bad reason = passed
+refusedSome false bad reason = refused reason (free bad)
+
+unfoldable pub noneBadSomewhere : ℕ → (ℕ → Bool) → Refusal → Checked
+noneBadSomewhere n bad reason = refusedSome (leb n (first n bad)) (λ i. ltb i n && bad i) reason
+
+-- what an answer must be
+pub data Meets : Checked → Answer → Type 0 where
+  accepts : Meets passed Accepted
+  names : {reason : Refusal} {place : ℕ} → Meets (refused reason (at place)) (Refused reason place)
+  namesSome : {reason : Refusal} {test : ℕ → Bool} {place : ℕ} → test place ≡ true → Meets (refused reason (free test)) (Refused reason place)
+
+-- the same of an answer's number and place, 0 and 0 where the call is accepted
+pub data Reports : Checked → ℕ → ℕ → Type 0 where
+  accepts : Reports passed 0 0
+  names : {reason : Refusal} {place : ℕ} → Reports (refused reason (at place)) (numberOf reason) place
+  namesSome : {reason : Refusal} {test : ℕ → Bool} {place : ℕ} → test place ≡ true → Reports (refused reason (free test)) (numberOf reason) place
+
+-- what a lent buffer holds after the call: what is written where the call is accepted, what it held where it is refused
+unfoldable pub afterwards {ℓ} : {A : Type ℓ} → Checked → A → A → A
+afterwards passed new old = new
+afterwards (refused reason place) new old = old

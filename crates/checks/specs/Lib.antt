@@ -1,0 +1,4 @@
+-- What the answers of all calls mean.
+pub mod Answer
+pub mod Checked
+pub mod Combined

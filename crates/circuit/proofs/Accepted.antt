@@ -1,0 +1,104 @@
+-- The theorem: an accepted file gives a circuit of which all of `AcceptedCircuit` is true. By induction on the words that are left:
+-- each word keeps the state (State.antt), and the end word accepts it.
+-- Assumes nothing.
+use mathlib.Core.Path.{_≡_, refl}
+use mathlib.Core.Bool.{Bool, true, false}
+use mathlib.Core.List.{List, [], _∷_, _++_}
+use Prim.Native.Nat.{ℕ, zero, suc, _+_, _-_, _≤_, _<_}
+use native.Mathlib.Omega.{arith}
+use lib.Dec.{ltb}
+use lib.ListN.{length}
+use borrow.Author.Tests.{ltb-true}
+use Rattle.residue.proofs.Table.{and-left}
+use Rattle.checks.specs.declared.Refusal.{Refusal}
+use Rattle.checks.specs.declared.Answer.the-variants.{Accepted, Refused}
+use Rattle.words.specs.declared.gate.Owned.{Owned}
+use Rattle.words.specs.declared.gate.Pair.{Pair}
+use Rattle.words.specs.declared.gate.Scaling.{Scaling}
+use Rattle.words.specs.declared.gate.Projection.{Projection}
+use Rattle.words.specs.declared.gate.Choice.{Choice}
+use Rattle.words.specs.declared.gate.Gate.the-variants.{Input, Add, Scale, Multiply, Project, Select}
+use Rattle.words.specs.declared.gate.Wire.{Wire}
+use Rattle.words.specs.declared.gate.Due.{Due}
+use Rattle.words.specs.declared.gate.Due.the-variants.{Inputs}
+use Rattle.words.specs.declared.gate.Step.{Step}
+use Rattle.circuit.specs.File.{Read, wordsIn, ended, after, readFrom, headed, readFile}
+use Rattle.circuit.specs.Accepted.{OwnedFits, PairFits, ScalingFits, ProjectionFits, ChoiceFits, GateFits, AcceptedCircuit}
+use Rattle.circuit.proofs.State.{Sound, State, Next, next, nothing}
+
+-- what acceptance is to give
+abbrev Good : List ℕ → Read → Type 0
+Good file read = read .answer ≡ Accepted → AcceptedCircuit file (read .wires) (read .outputs)
+
+never : {A : Type 0} {reason : Refusal} {place : ℕ} → Refused reason place ≡ Accepted → A
+never e = let z : _≡_ {A = ℕ} 0 1 = cc in absurd (omega arith)
+
+finish :
+    (b : Bool) (file : List ℕ) (at : ℕ) (wires : List Wire) (given : List ℕ)
+    → Sound file at wires given
+    → 0 < length given
+    → Good file (ended b at wires given)
+unfolding ended
+finish true file at wires given s l e =
+    record {
+      wiresLimit = s .wiresLimit;
+      outputsSome = l;
+      outputsLimit = s .outputsLimit;
+      outputsMade = s .outputsMade;
+      inputsFirst = s .inputsFirst;
+      fits = s .fits;
+    }
+finish false file at wires given s l e = never e
+
+module _ (file : List ℕ) (at : ℕ) (wires : List Wire) (given : List ℕ) (then : Due → List Wire → List ℕ → Read)
+    (rest : (due : Due) (wires : List Wire) (given : List ℕ) → State file (suc at) due wires given → Good file (then due wires given)) where
+  step : {s : Step} → Next file at wires given s → Good file (after then file at wires given s)
+  unfolding after
+  step Next.stops e = never e
+  step (Next.makes st) e = rest _ _ _ st e
+  step (Next.goes st) e = rest _ _ _ st e
+  step (Next.gives st) e = rest _ _ _ st e
+  step (Next.ends s some) e = finish _ file at wires given s some e
+
+from :
+    (file : List ℕ) (left at : ℕ) (due : Due) (wires : List Wire) (given : List ℕ)
+    → at + left ≤ wordsIn file
+    → State file at due wires given
+    → Good file (readFrom file left at due wires given)
+unfolding readFrom
+from file zero at due wires given l st e = never e
+from file (suc left) at due wires given l st e =
+    step file at wires given (readFrom file left (suc at))
+    (λ due′ wires′ given′ st′. from file left (suc at) due′ wires′ given′ (omega arith) st′)
+    (next file at (omega arith) due wires given st)
+    e
+
+begun : (b : Bool) (file : List ℕ) → (b ≡ true → 0 < wordsIn file) → Good file (headed b file)
+unfolding headed
+begun true file h e = from file (wordsIn file - 1) 1 Inputs [] [] (omega (arith, h refl)) (nothing file) e
+begun false file h e = never e
+
+-- an accepted file's circuit is as document 01 says
+pub accepted : (file : List ℕ) → (readFile file) .answer ≡ Accepted → AcceptedCircuit file ((readFile file) .wires) ((readFile file) .outputs)
+unfolding readFile
+accepted file = begun _ file (λ e. ltb-true 0 (wordsIn file) (and-left (ltb 0 (wordsIn file)) _ e))
+
+-- what a gate's fitting says, by its kind
+module _ {file : List ℕ} {wires : List Wire} {w : ℕ} where
+  pub input-fits : {gate : Owned} → GateFits file wires w (Input gate) → OwnedFits gate
+  input-fits (GateFits.input f) = f
+
+  pub add-fits : {gate : Pair} → GateFits file wires w (Add gate) → PairFits wires w gate
+  add-fits (GateFits.add f) = f
+
+  pub scale-fits : {gate : Scaling} → GateFits file wires w (Scale gate) → ScalingFits wires w gate
+  scale-fits (GateFits.scale f) = f
+
+  pub multiply-fits : {gate : Pair} → GateFits file wires w (Multiply gate) → PairFits wires w gate
+  multiply-fits (GateFits.multiply f) = f
+
+  pub project-fits : {gate : Projection} → GateFits file wires w (Project gate) → ProjectionFits file wires w gate
+  project-fits (GateFits.project f) = f
+
+  pub select-fits : {gate : Choice} → GateFits file wires w (Select gate) → ChoiceFits wires w gate
+  select-fits (GateFits.select f) = f

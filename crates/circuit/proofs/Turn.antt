@@ -1,0 +1,255 @@
+-- One turn of the reader's loop. The invariant: the arrays hold the wires, moduli and outputs so far at their fronts, what is true
+-- of those is true, and the rest of the computation from here comes to what the whole comes to. One law for each thing that a word
+-- can do.
+-- Assumes nothing.
+use mathlib.Core.Path.{_≡_, refl, _∙_, sym, ap, subst}
+use mathlib.Core.Bool.{Bool, true, false, cond, _&&_}
+use mathlib.Core.List.{List, [], _∷_, _++_, map-append}
+use Prim.Native.Nat.{ℕ, zero, suc, _+_, _-_, _*_, _≤_, _<_}
+use native.Mathlib.Numerals.{add-one}
+use native.Mathlib.Omega.{arith}
+use lib.Dec.{leb, ltb, eqb}
+use lib.ListN.{length, take, set, length-set}
+use lib.Seq.{length-take-le, take-suc-set}
+use borrow.Author.Tests.{le-leb, lt-leb, le-ltb, lt-ltb, ne-eqb, eq-eqb}
+use Rattle.checks.specs.declared.Refusal.{Refusal}
+use Rattle.checks.specs.declared.Refusal.the-variants.{NoHead, WrongEnd}
+use Rattle.words.specs.Bits.{wordAt}
+use Rattle.words.specs.Reading.{readWord}
+use Rattle.words.specs.declared.gate.Wire.{Wire}
+use Rattle.words.specs.declared.gate.Due.{Due}
+use Rattle.words.specs.declared.gate.Due.the-variants.{Inputs, Outputs}
+use Rattle.words.specs.declared.gate.Step.{Step}
+use Rattle.words.specs.declared.gate.Step.the-variants.{Refused, Makes, Goes, Gives, Ends}
+use Rattle.circuit.specs.Wires.{moduliOf, isInput, inputsIn}
+use Rattle.circuit.specs.File.{Read, refused, accepted, wordsIn, ended, after, readFrom, headed, readFile}
+use Rattle.circuit.proofs.More.{inputs-le, inputs-more, length-more}
+use Rattle.circuit.proofs.State.{Sound, State, Next, next, nothing, Within, within}
+
+-- what the words after the head come to
+abbrev pub whole : List ℕ → Read
+whole file = readFrom file (wordsIn file - 1) 1 Inputs [] []
+
+pub record Loop (file : List ℕ) (wires : List Wire) (moduli outputs : List ℕ) (made inputs given : ℕ) (due : Due) (at : ℕ) : Type 0 where
+  pub wiresRoom : length wires ≡ 1024
+  pub moduliRoom : length moduli ≡ 1024
+  pub outputsRoom : length outputs ≡ 256
+  pub madeWithin : made ≤ 1024
+  pub givenWithin : given ≤ 256
+  pub inside : at ≤ wordsIn file
+  pub state : State file at due (take made wires) (take given outputs)
+  pub same : take made moduli ≡ moduliOf (take made wires)
+  pub count : inputs ≡ inputsIn (take made wires)
+  pub rest : readFrom file (wordsIn file - at) at due (take made wires) (take given outputs) ≡ whole file
+
+-- what a word at an index does
+pub record Turn (file : List ℕ) (at : ℕ) (wires : List Wire) (given : List ℕ) (step : Step) : Type 0 where
+  pub inside : at < wordsIn file
+  pub rest : after (readFrom file (wordsIn file - suc at) (suc at)) file at wires given step ≡ whole file
+  pub next : Next file at wires given step
+
+unrolled :
+    (file : List ℕ) (left others at : ℕ) (due : Due) (wires : List Wire) (given : List ℕ)
+    → left ≡ suc others
+    → readFrom file left at due wires given
+    ≡ after (readFrom file others (suc at)) file at wires given (readWord (moduliOf wires) (length given) at due (wordAt file at))
+unfolding readFrom
+unrolled file left others at due wires given e = rw e refl
+
+over :
+    (file : List ℕ) (left at : ℕ) (due : Due) (wires : List Wire) (given : List ℕ)
+    → left ≡ 0
+    → refused WrongEnd at ≡ readFrom file left at due wires given
+unfolding readFrom
+over file left at due wires given e = rw e refl
+
+makes-state :
+    {file : List ℕ} {at : ℕ} {wires : List Wire} {given : List ℕ} {x : Wire} {due : Due}
+    → Next file at wires given (Makes x due)
+    → State file (suc at) due (wires ++ (x ∷ [])) given
+makes-state (Next.makes st) = st
+
+goes-state :
+    {file : List ℕ} {at : ℕ} {wires : List Wire} {given : List ℕ} {due : Due}
+    → Next file at wires given (Goes due)
+    → State file (suc at) due wires given
+goes-state (Next.goes st) = st
+
+gives-state :
+    {file : List ℕ} {at : ℕ} {wires : List Wire} {given : List ℕ} {b : ℕ}
+    → Next file at wires given (Gives b)
+    → State file (suc at) Outputs wires (given ++ (b ∷ []))
+gives-state (Next.gives st) = st
+
+module _ {file : List ℕ} {wires : List Wire} {moduli outputs : List ℕ} {made inputs given : ℕ} {due : Due} {at : ℕ}
+    (l : Loop file wires moduli outputs made inputs given due at) where
+  wires-so-far : length (take made wires) ≡ made
+  wires-so-far = length-take-le made wires (omega (arith, l .wiresRoom, l .madeWithin))
+
+  outputs-so-far : length (take given outputs) ≡ given
+  outputs-so-far = length-take-le given outputs (omega (arith, l .outputsRoom, l .givenWithin))
+
+  -- the index fits a table's place, and the inputs can be counted
+  pub near : at < 1000000
+  near = within (l .state) .near
+
+  pub few : inputs ≤ 1024
+  few = omega (arith, l .count, inputs-le (take made wires), wires-so-far, l .madeWithin)
+
+  pub turn :
+      at < wordsIn file
+      → (w : ℕ)
+      → w ≡ wordAt file at
+      → (step : Step)
+      → step ≡ readWord (take made moduli) given at due w
+      → Turn file at (take made wires) (take given outputs) step
+  turn h w e step f =
+      let g : readWord (moduliOf (take made wires)) (length (take given outputs)) at due (wordAt file at) ≡ step = cc (l .same, outputs-so-far, e, f) in
+      record {
+        inside = h;
+        rest =
+            ap (after (readFrom file (wordsIn file - suc at) (suc at)) file at (take made wires) (take given outputs)) (sym g)
+            ∙ sym (unrolled file (wordsIn file - at) (wordsIn file - suc at) at due (take made wires) (take given outputs) (omega arith))
+            ∙ l .rest;
+        next = subst (Next file at (take made wires) (take given outputs)) g (next file at h due (take made wires) (take given outputs) (l .state));
+      }
+
+  pub stopped : {reason : Refusal} → Turn file at (take made wires) (take given outputs) (Refused reason) → refused reason at ≡ whole file
+  unfolding after
+  stopped t = t .rest
+
+  pub wire-room : {x : Wire} {then : Due} → Turn file at (take made wires) (take given outputs) (Makes x then) → made < 1024
+  wire-room {x} t = omega (arith, within (makes-state (t .next)) .wiresLimit, length-more (take made wires) x, wires-so-far)
+
+  pub output-room : {b : ℕ} → Turn file at (take made wires) (take given outputs) (Gives b) → given < 256
+  output-room {b} t = omega (arith, within (gives-state (t .next)) .outputsLimit, length-more (take given outputs) b, outputs-so-far)
+
+  pub made-one :
+      {x : Wire} {then : Due}
+      → Turn file at (take made wires) (take given outputs) (Makes x then)
+      → Loop file (set wires made x) (set moduli made (x .modulus)) outputs (made + 1) (inputs + cond (isInput (x .gate)) 1 0) given then (at + 1)
+  unfolding after
+  made-one {x} {then} t =
+      let room : made < 1024 = wire-room t in
+      let front : take (made + 1) (set wires made x) ≡ take made wires ++ (x ∷ []) =
+      ap (λ (n : ℕ). take n (set wires made x)) (add-one made) ∙ take-suc-set wires made x (omega (arith, l .wiresRoom)) in
+      let front′ : take (made + 1) (set moduli made (x .modulus)) ≡ take made moduli ++ (x .modulus ∷ []) =
+      ap (λ (n : ℕ). take n (set moduli made (x .modulus))) (add-one made)
+      ∙ take-suc-set moduli made (x .modulus) (omega (arith, l .moduliRoom)) in
+      record {
+        wiresRoom = length-set wires made x ∙ l .wiresRoom;
+        moduliRoom = length-set moduli made (x .modulus) ∙ l .moduliRoom;
+        outputsRoom = l .outputsRoom;
+        madeWithin = omega arith;
+        givenWithin = l .givenWithin;
+        inside = omega (arith, t .inside);
+        state = rw (front, add-one at) (makes-state (t .next));
+        same =
+            front′ ∙ ap (λ (ms : List ℕ). ms ++ (x .modulus ∷ [])) (l .same)
+            ∙ sym (map-append (λ (wire : Wire). wire .modulus) (take made wires) (x ∷ []))
+            ∙ ap moduliOf (sym front);
+        count = counted (isInput (x .gate)) (l .count) ∙ sym (inputs-more (take made wires) x) ∙ ap inputsIn (sym front);
+        rest = rw (front, add-one at) (t .rest);
+      }
+    where
+      counted : (b : Bool) {n : ℕ} → inputs ≡ n → inputs + cond b 1 0 ≡ cond b (suc n) n
+      counted true e = omega arith
+      counted false e = omega arith
+
+  pub gone :
+      {then : Due}
+      → Turn file at (take made wires) (take given outputs) (Goes then)
+      → Loop file wires moduli outputs made inputs given then (at + 1)
+  unfolding after
+  gone t =
+      record {
+        wiresRoom = l .wiresRoom;
+        moduliRoom = l .moduliRoom;
+        outputsRoom = l .outputsRoom;
+        madeWithin = l .madeWithin;
+        givenWithin = l .givenWithin;
+        inside = omega (arith, t .inside);
+        state = rw (add-one at) (goes-state (t .next));
+        same = l .same;
+        count = l .count;
+        rest = rw (add-one at) (t .rest);
+      }
+
+  pub given-one :
+      {b : ℕ}
+      → Turn file at (take made wires) (take given outputs) (Gives b)
+      → Loop file wires moduli (set outputs given b) made inputs (given + 1) Outputs (at + 1)
+  unfolding after
+  given-one {b} t =
+      let room : given < 256 = output-room t in
+      let front : take (given + 1) (set outputs given b) ≡ take given outputs ++ (b ∷ []) =
+      ap (λ (n : ℕ). take n (set outputs given b)) (add-one given) ∙ take-suc-set outputs given b (omega (arith, l .outputsRoom)) in
+      record {
+        wiresRoom = l .wiresRoom;
+        moduliRoom = l .moduliRoom;
+        outputsRoom = length-set outputs given b ∙ l .outputsRoom;
+        madeWithin = l .madeWithin;
+        givenWithin = omega arith;
+        inside = omega (arith, t .inside);
+        state = rw (front, add-one at) (gives-state (t .next));
+        same = l .same;
+        count = l .count;
+        rest = rw (front, add-one at) (t .rest);
+      }
+
+  -- the end word, with no byte after it and with some
+  pub ended-well :
+      Turn file at (take made wires) (take given outputs) Ends
+      → length file ≤ 4 * (at + 1)
+      → accepted (take made wires) (take given outputs) ≡ whole file
+  unfolding after ended
+  ended-well t h = (rw (le-leb (length file) (4 * suc at) (omega arith)) at (t .rest))
+
+  pub ended-early : Turn file at (take made wires) (take given outputs) Ends → 4 * (at + 1) < length file → refused WrongEnd (at + 1) ≡ whole file
+  unfolding after ended
+  ended-early t h = ap (refused WrongEnd) (add-one at) ∙ (rw (lt-leb (length file) (4 * suc at) (omega arith)) at (t .rest))
+
+  -- the words ran out
+  pub ran-out : wordsIn file ≤ at → refused WrongEnd at ≡ whole file
+  ran-out h = over file (wordsIn file - at) at due (take made wires) (take given outputs) (omega arith) ∙ l .rest
+
+and-false : (b : Bool) → (b && false) ≡ false
+and-false true = refl
+and-false false = refl
+
+-- before the first turn
+pub start :
+    (file : List ℕ) (wires : List Wire) (moduli outputs : List ℕ)
+    → length wires ≡ 1024
+    → length moduli ≡ 1024
+    → length outputs ≡ 256
+    → 0 < wordsIn file
+    → Loop file wires moduli outputs 0 0 0 Inputs 1
+unfolding inputsIn
+start file wires moduli outputs w m o h =
+    record {
+      wiresRoom = w;
+      moduliRoom = m;
+      outputsRoom = o;
+      madeWithin = omega arith;
+      givenWithin = omega arith;
+      inside = h;
+      state = nothing file;
+      same = refl;
+      count = refl;
+      rest = refl;
+    }
+
+-- the first word
+module _ (file : List ℕ) where
+  pub no-word : wordsIn file ≡ 0 → refused NoHead 0 ≡ readFile file
+  unfolding readFile headed
+  no-word e = rw (le-ltb 0 (wordsIn file) (omega arith)) refl
+
+  pub no-head : (wordAt file 0 ≡ 0x1000_0000 → ⊥) → refused NoHead 0 ≡ readFile file
+  unfolding readFile headed
+  no-head ne = rw (ne-eqb (wordAt file 0) 0x1000_0000 ne, and-false (ltb 0 (wordsIn file))) refl
+
+  pub head : 0 < wordsIn file → wordAt file 0 ≡ 0x1000_0000 → whole file ≡ readFile file
+  unfolding readFile headed
+  head h e = rw (lt-ltb 0 (wordsIn file) h, eq-eqb (wordAt file 0) 0x1000_0000 e) refl

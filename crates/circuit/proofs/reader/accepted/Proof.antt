@@ -1,0 +1,23 @@
+-- `circuit::reader::accepted` meets its contract.
+-- Assumes nothing.
+use mathlib.Core.Path.{refl, sym}
+use native.Mathlib.Omega.{arith}
+use lib.Seq.{length-take-le}
+use Rattle.circuit.proofs.reader.accepted.Statement.{statement}
+use Rattle.circuit.proofs.reader.accepted.Tie as tie
+
+returns : tie.Need-returns
+returns c =
+    record {
+      answer = refl;
+      wires = refl;
+      made = sym (length-take-le _ _ (omega (arith, c .pre .wiresRoom, c .pre .wiresMade)));
+      inputs = c .pre .inputsCounted;
+      outputs = refl;
+      given = sym (length-take-le _ _ (omega (arith, c .pre .outputsRoom, c .pre .outputsGiven)));
+      roomForWires = c .pre .wiresRoom;
+      roomForOutputs = c .pre .outputsRoom;
+    }
+
+pub accepted-spec : {M : Type 1} → statement M
+accepted-spec = tie.close (tie.spec returns)

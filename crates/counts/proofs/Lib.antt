@@ -1,0 +1,5 @@
+-- The laws of the counts.
+pub mod Wires
+pub mod Counting
+pub mod Marked
+pub mod Examples

@@ -1,0 +1,76 @@
+-- Document 01, "The gates" and "What a seat contributes": how many rows and records a wire has, and how many a circuit; how many inputs
+-- a party owns.
+-- Assumes nothing.
+use mathlib.Core.Path.{_≡_}
+use mathlib.Core.Bool.{Bool, true, false}
+use mathlib.Core.List.{List}
+use Prim.Native.Nat.{ℕ, _+_, _*_, _≤_}
+use lib.Dec.{eqb}
+use lib.ListN.{length}
+use Rattle.lists.specs.Blocks.{sumTo}
+use Rattle.words.specs.declared.gate.Gate.{Gate}
+use Rattle.words.specs.declared.gate.Gate.the-variants.{Input, Add, Scale, Multiply, Project, Select}
+use Rattle.words.specs.declared.gate.Wire.{Wire}
+use Rattle.circuit.specs.Wires.{wireAt, modulusAt}
+use Rattle.circuit.specs.declared.Circuit.{Circuit}
+use Rattle.counts.specs.declared.recipe.Recipe.{Recipe}
+use Rattle.counts.specs.declared.recipe.Recipe.the-variants.{Drawn, Free, Table, Product, Choice}
+use Rattle.counts.specs.Recipe.{recipe}
+
+-- the rows of a wire of modulus p: none where it is drawn or free, one for each value of the wire that a table is over, 2p for a
+-- product, 2p + 2 for a choice
+abbrev pub rowsBy : Recipe → (ℕ → ℕ) → ℕ → ℕ
+rowsBy Drawn modulusOf p = 0
+rowsBy Free modulusOf p = 0
+rowsBy (Table a) modulusOf p = modulusOf a
+rowsBy (Product g) modulusOf p = 2 * p
+rowsBy (Choice g) modulusOf p = 2 * p + 2
+
+abbrev pub rowsOf : List Wire → ℕ → ℕ
+rowsOf wires w = rowsBy (recipe (wireAt wires w)) (modulusAt wires) (modulusAt wires w)
+
+-- all rows of a circuit
+abbrev pub rowsIn : List Wire → ℕ
+rowsIn wires = sumTo (length wires) (rowsOf wires)
+
+-- the keys that a wire's record has, and as many mask shares: zero key and share; for a product those of its first part too; for a
+-- choice those of two first parts. So I + P + 2M + 3S in all
+abbrev pub recordsBy : Recipe → ℕ
+recordsBy Drawn = 1
+recordsBy Free = 0
+recordsBy (Table a) = 1
+recordsBy (Product g) = 2
+recordsBy (Choice g) = 3
+
+abbrev pub recordsOf : List Wire → ℕ → ℕ
+recordsOf wires w = recordsBy (recipe (wireAt wires w))
+
+abbrev pub recordsIn : List Wire → ℕ
+recordsIn wires = sumTo (length wires) (recordsOf wires)
+
+-- 1 where a test holds, so that a sum counts
+abbrev pub mark : Bool → ℕ
+mark true = 1
+mark false = 0
+
+-- the inputs that a party owns
+abbrev pub ownedBy : ℕ → Gate → Bool
+ownedBy party (Input gate) = eqb (gate .owner) party
+ownedBy party (Add gate) = false
+ownedBy party (Scale gate) = false
+ownedBy party (Multiply gate) = false
+ownedBy party (Project gate) = false
+ownedBy party (Select gate) = false
+
+abbrev pub inputsOf : ℕ → List Wire → ℕ
+inputsOf party wires = sumTo (length wires) (λ w. mark (ownedBy party (wireAt wires w .gate)))
+
+-- a circuit's wires stand at the front of its array of 1,024
+pub record Room (circuit : Circuit) : Type 0 where
+  pub made : circuit .made ≤ 1024
+  pub wires : length (circuit .wires) ≡ 1024
+
+-- a number of the code is a count, and no larger than a limit
+pub record Counts (limit count r : ℕ) : Type 0 where
+  pub is : r ≡ count
+  pub most : r ≤ limit

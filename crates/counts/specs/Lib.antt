@@ -1,0 +1,4 @@
+-- What a circuit counts.
+pub mod Recipe
+pub mod Counts
+pub mod Moduli

@@ -1,0 +1,119 @@
+// Rows and records of a wire and of a circuit, and the inputs of a party.
+ghost use mathlib.Core.Path.{_≡_};
+ghost use Prim.Native.Nat.{_≤_, _<_};
+ghost use lib.ListN.{take, getD};
+ghost use Rattle.counts.specs.Recipe.{recipe};
+ghost use Rattle.counts.specs.Counts.{rowsBy, rowsIn, recordsBy, recordsIn, mark, ownedBy, inputsOf, Room, Counts};
+use super::modulus::moduli;
+use super::number::same;
+use super::number::widened;
+use super::recipe::Recipe;
+use super::recipe::recipe_of;
+use circuit::Circuit;
+use words::Gate;
+use words::Wire;
+
+// The modulus of a wire, and 0 past the last wire.
+fn modulus_of(moduli: &[u8], a: u16) -> u32
+    ensures { λ r. ⌜ Counts 255 (getD (now (moduli .entry)) a 0) r ⌝ }
+{
+    let at = a as usize;
+    if at < moduli.len() {
+        widened(moduli[at])
+    } else {
+        0
+    }
+}
+
+// The rows of a wire, given the moduli of all wires.
+pub fn row_count(wire: Wire, moduli: &[u8]) -> u32
+    ensures { λ r. ⌜ Counts 512 (rowsBy (recipe wire) (λ a. getD (now (moduli .entry)) a 0) (wire .modulus)) r ⌝ }
+{
+    let how = recipe_of(wire);
+    let p = widened(wire.modulus);
+    match how {
+        Recipe::Drawn => 0,
+        Recipe::Free => 0,
+        Recipe::Table(a) => modulus_of(moduli, a),
+        Recipe::Product(_) => 2 * p,
+        Recipe::Choice(_) => 2 * p + 2,
+    }
+}
+
+// The rows of a circuit.
+pub fn rows(circuit: Circuit) -> u32
+    requires { ⌜ Room circuit ⌝ }
+    ensures { λ r. ⌜ Counts 524288 (rowsIn (take (circuit .made) (circuit .wires))) r ⌝ }
+{
+    let table = moduli(circuit);
+    let made = circuit.made;
+    let mut total = 0;
+    let mut w = 0;
+    while w < made {
+        let wire = circuit.wires[w];
+        total += row_count(wire, &table);
+        w += 1;
+    }
+    total
+}
+
+// The keys in a wire's record.
+pub fn record_count(wire: Wire) -> u32
+    ensures { λ r. ⌜ Counts 3 (recordsBy (recipe wire)) r ⌝ }
+{
+    let how = recipe_of(wire);
+    match how {
+        Recipe::Drawn => 1,
+        Recipe::Free => 0,
+        Recipe::Table(_) => 1,
+        Recipe::Product(_) => 2,
+        Recipe::Choice(_) => 3,
+    }
+}
+
+// The keys in all records of a party's contribution.
+pub fn records(circuit: Circuit) -> u32
+    requires { ⌜ Room circuit ⌝ }
+    ensures { λ r. ⌜ Counts 3072 (recordsIn (take (circuit .made) (circuit .wires))) r ⌝ }
+{
+    let made = circuit.made;
+    let mut total = 0;
+    let mut w = 0;
+    while w < made {
+        let wire = circuit.wires[w];
+        total += record_count(wire);
+        w += 1;
+    }
+    total
+}
+
+// 1 where a gate is an input that the party owns, else 0.
+fn owned(gate: Gate, party: u32) -> u32
+    ensures { λ r. ⌜ Counts 1 (mark (ownedBy party gate)) r ⌝ }
+{
+    match gate {
+        Gate::Input(input) => same(widened(input.owner), party),
+        Gate::Add(_) => 0,
+        Gate::Scale(_) => 0,
+        Gate::Multiply(_) => 0,
+        Gate::Project(_) => 0,
+        Gate::Select(_) => 0,
+    }
+}
+
+// How many inputs a party owns.
+pub fn inputs_of(circuit: Circuit, party: u32) -> u32
+    requires { ⌜ Room circuit ⌝ }
+    ensures { λ r. ⌜ Counts 1024 (inputsOf party (take (circuit .made) (circuit .wires))) r ⌝ }
+{
+    let made = circuit.made;
+    let mut total = 0;
+    let mut w = 0;
+    while w < made {
+        let wire = circuit.wires[w];
+        let gate = wire.gate;
+        total += owned(gate, party);
+        w += 1;
+    }
+    total
+}

@@ -1,0 +1,2 @@
+-- Laws of the C face.
+pub mod Faces

@@ -1,0 +1,2 @@
+-- A garbled row with its real pads, computed.
+pub mod Row

@@ -1,0 +1,5 @@
+pub mod Folded
+pub mod Taken
+pub mod Reduced
+pub mod Sizes
+pub mod Moving

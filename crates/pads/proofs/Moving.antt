@@ -1,0 +1,156 @@
+-- Pads put on a buffer or taken off it: one sender after another, and one receiver after another.
+-- Assumes nothing.
+use mathlib.Core.Path.{_≡_, refl, sym, ap, subst, _∙_}
+use mathlib.Core.Bool.{Bool, true, false}
+use mathlib.Core.List.{List, [], _∷_, _++_}
+use Prim.Native.Nat.{ℕ, zero, suc, _+_, _-_, _*_, _≤_, _<_}
+use native.Mathlib.Nat.{le-refl}
+use native.Mathlib.Numerals.{add-one}
+use native.Mathlib.Omega.{arith}
+use lib.ListN.{length, getD, take, drop, replicate, length-replicate}
+use Rattle.lists.specs.Blocks.{blocks, part, nth}
+use Rattle.lists.proofs.Blocks.{blocks-nth, length-blocks-same}
+use Rattle.lists.proofs.Parts.{part-range, length-part}
+use Rattle.lists.proofs.Steps.{Level, level-place, level-whole, steps-long, steps-call}
+use Rattle.lists.proofs.Sums.{times-fits}
+use Rattle.lists.proofs.Written.{lent}
+use Rattle.lists.proofs.Wrote.{wrote-behind}
+use Rattle.residue.specs.Vector.{zip, addV, subV, AllBelow}
+use Rattle.residue.proofs.Laws.{addV-assoc}
+use Rattle.residue.proofs.Parts.{addV-append, subV-append, below-take, below-drop}
+use Rattle.residue.proofs.Vectors.{addV-length, subV-length, addV-below, subV-below}
+use Rattle.residue.proofs.VectorRing.{vring}
+use Rattle.residue.proofs.VectorRing.VExpr.{vec, _⊞_, _⊟_}
+use Rattle.pads.specs.Moved.{moved, Asked}
+use Rattle.pads.specs.Pad.{Under, Pad, padInput, shakePad, padSum, padRow}
+use Rattle.pads.proofs.Sizes.{shakePad-length, padSum-length}
+
+moved-length : (minus : Bool) (q : ℕ) (xs ys : List ℕ) → length xs ≡ length ys → length (moved minus q xs ys) ≡ length xs
+unfolding moved
+moved-length false q xs ys e = addV-length q xs ys e
+moved-length true q xs ys e = subV-length q xs ys e
+
+moved-below : (minus : Bool) {q : ℕ} → 0 < q → (xs ys : List ℕ) → AllBelow q (moved minus q xs ys)
+unfolding moved
+moved-below false h xs ys = addV-below h xs ys
+moved-below true h xs ys = subV-below h xs ys
+
+zeros : (n i : ℕ) → _≡_ {A = ℕ} (getD (replicate n 0) i 0) 0
+zeros zero i = refl
+zeros (suc n) zero = refl
+zeros (suc n) (suc i) = zeros n i
+
+-- nothing put on or taken off
+moved-zeros : (minus : Bool) {q : ℕ} → 0 < q → (xs : List ℕ) → AllBelow q xs → moved minus q xs (replicate (length xs) 0) ≡ xs
+unfolding moved
+moved-zeros false h xs below =
+    vring h (length xs) (vec xs ⊞ vec (replicate (length xs) 0)) (vec xs) (refl, length-replicate {A = ℕ} (length xs) 0) refl tt below (λ i. omega (arith, zeros (length xs) i))
+moved-zeros true h xs below =
+    vring h (length xs) (vec xs ⊟ vec (replicate (length xs) 0)) (vec xs) (refl, length-replicate {A = ℕ} (length xs) 0) refl tt below (λ i. omega (arith, zeros (length xs) i))
+
+-- twice is once with the sum
+moved-twice : (minus : Bool) {q : ℕ} → 0 < q → (xs ys zs : List ℕ) → length xs ≡ length ys → length xs ≡ length zs
+    → moved minus q (moved minus q xs ys) zs ≡ moved minus q xs (addV q ys zs)
+unfolding moved
+moved-twice false h xs ys zs s t = addV-assoc h xs ys s zs t
+moved-twice true h xs ys zs s t =
+    vring h (length xs) (vec xs ⊟ vec ys ⊟ vec zs) (vec xs ⊟ (vec ys ⊞ vec zs)) (omega arith) (omega arith) tt tt (λ i. omega arith)
+
+moved-append : (minus : Bool) (q : ℕ) (xs ys xs′ ys′ : List ℕ) → length xs ≡ length ys → moved minus q (xs ++ xs′) (ys ++ ys′) ≡ moved minus q xs ys ++ moved minus q xs′ ys′
+unfolding moved
+moved-append false q xs ys xs′ ys′ e = addV-append q xs ys xs′ ys′ e
+moved-append true q xs ys xs′ ys′ e = subV-append q xs ys xs′ ys′ e
+
+moved-none : (minus : Bool) (q : ℕ) → moved minus q [] [] ≡ []
+unfolding moved addV subV zip
+moved-none false q = refl
+moved-none true q = refl
+
+-- block by block is all at once
+moved-blocks : (minus : Bool) (q K : ℕ) (f g : ℕ → List ℕ) (n : ℕ) → ((i : ℕ) → i < n → length (f i) ≡ K) → ((i : ℕ) → i < n → length (g i) ≡ K)
+    → blocks n (λ i. moved minus q (f i) (g i)) ≡ moved minus q (blocks n f) (blocks n g)
+unfolding blocks
+moved-blocks minus q K f g zero s t = sym (moved-none minus q)
+moved-blocks minus q K f g (suc n) s t =
+    let s′ : (i : ℕ) → i < n → length (f i) ≡ K = λ i h. s i (omega arith) in
+    let t′ : (i : ℕ) → i < n → length (g i) ≡ K = λ i h. t i (omega arith) in
+    ap (λ (l : List ℕ). l ++ moved minus q (f n) (g n)) (moved-blocks minus q K f g n s′ t′)
+    ∙ sym (moved-append minus q (blocks n f) (blocks n g) (f n) (g n) (length-blocks-same n K f s′ ∙ sym (length-blocks-same n K g t′)))
+
+-- ---- one sender after another
+
+module _ (minus : Bool) (q : ℕ) (under : Under) (keys : List ℕ) (receiver : ℕ) (out₀ : List ℕ) where
+  abbrev pads : ℕ → List ℕ
+  pads j = padSum shakePad (length out₀) q under keys receiver j
+
+  sized : (j : ℕ) → length out₀ ≡ length (pads j)
+  sized j = sym (padSum-length shakePad (length out₀) q (shakePad-length q (length out₀)) under keys receiver j)
+
+  pub senders-none : Asked q (length out₀) out₀ → out₀ ≡ moved minus q out₀ (pads 0)
+  unfolding padSum
+  senders-none a = sym (moved-zeros minus (omega arith) out₀ (a .below))
+
+  pads-next : (j : ℕ) → pads (j + 1) ≡ addV q (pads j) (shakePad q (length out₀) (padInput under receiver (nth keys (length out₀) j)))
+  unfolding padSum
+  pads-next j = rw add-one refl
+
+  module _ (j : ℕ) {out : List ℕ} (e : out ≡ moved minus q out₀ (pads j)) where
+    pub senders-length : length out ≡ length out₀
+    senders-length = ap length e ∙ moved-length minus q out₀ (pads j) (sized j)
+
+    pub senders-asked : Asked q (length out₀) out₀ → Asked q (length out) out
+    senders-asked a = record { modulus = a .modulus; short = omega (arith, senders-length); below = rw e (moved-below minus (omega arith) out₀ (pads j)) }
+
+    pub senders-more : {key out′ : List ℕ} → 1 < q → key ≡ nth keys (length out₀) j → out′ ≡ moved minus q out (shakePad q (length out) (padInput under receiver key))
+        → out′ ≡ moved minus q out₀ (pads (j + 1))
+    senders-more {key} {out′} h k t =
+        let pad : List ℕ = shakePad q (length out₀) (padInput under receiver (nth keys (length out₀) j)) in
+        t
+        ∙ ap (λ (m : ℕ). moved minus q out (shakePad q m (padInput under receiver key))) senders-length
+        ∙ ap (λ (l : List ℕ). moved minus q out (shakePad q (length out₀) (padInput under receiver l))) k
+        ∙ ap (λ (l : List ℕ). moved minus q l pad) e
+        ∙ moved-twice minus (omega arith) out₀ (pads j) pad (sized j) (sym (shakePad-length q (length out₀) _))
+        ∙ ap (λ (l : List ℕ). moved minus q out₀ l) (sym (pads-next j))
+
+-- ---- one receiver after another
+
+module _ (minus : Bool) (q : ℕ) (under : Under) (keys : List ℕ) (n K : ℕ) (out₀ : List ℕ) where
+  abbrev entry : ℕ → List ℕ
+  entry i = moved minus q (nth out₀ K i) (padSum shakePad K q under keys i n)
+
+  -- the loop's invariant: the entries of the first i receivers are done
+  abbrev pub Done : ℕ → ℕ → List ℕ → Type 0
+  Done i at out = Level out₀ 0 i n K entry at out
+
+  module _ {i at : ℕ} {out : List ℕ} (r : Done i at out) (h : i < n) where
+    -- what is lent for the next receiver is still as it was
+    pub receiver-part : {to : ℕ} → to ≡ at + K → take (to - at) (drop at out) ≡ nth out₀ K i
+    receiver-part {to} e =
+        part-range out at to K e ∙ wrote-behind (r .wrote) at K (le-refl at) ∙ ap (λ (a : ℕ). part out₀ a K) (omega (arith, level-place r))
+
+    pub receiver-asked : {to : ℕ} → to ≡ at + K → Asked q K out₀ → Asked q (length (take (to - at) (drop at out))) (take (to - at) (drop at out))
+    unfolding part
+    receiver-asked {to} e a =
+        record {
+          modulus = a .modulus;
+          short = omega (arith, steps-long r h e);
+          below = subst (AllBelow q) (sym (receiver-part e)) (below-take q K (below-drop q (i * K) (a .below)));
+        }
+
+    pub receivers-more : {to : ℕ} {ys : List ℕ} → to ≡ at + K → length ys ≡ length (take (to - at) (drop at out))
+        → ys ≡ moved minus q (take (to - at) (drop at out)) (padSum shakePad (length (take (to - at) (drop at out))) q under keys i n)
+        → Done (i + 1) to (lent at to out ys)
+    receivers-more {to} {ys} e k t =
+        steps-call r h e k
+        (t
+        ∙ ap (λ (m : ℕ). moved minus q (take (to - at) (drop at out)) (padSum shakePad m q under keys i n)) (steps-long r h e)
+        ∙ ap (λ (l : List ℕ). moved minus q l (padSum shakePad K q under keys i n)) (receiver-part e))
+
+  pub receivers-all : {i at : ℕ} {out : List ℕ} → Done i at out → n ≤ i → length out₀ ≡ n * K → out ≡ moved minus q out₀ (padRow shakePad K q under keys n)
+  unfolding padRow
+  receivers-all {i} {at} {out} r h l =
+      level-whole r h l
+      ∙ moved-blocks minus q K (λ i. nth out₀ K i) (λ i. padSum shakePad K q under keys i n) n
+      (λ i k. length-part out₀ (i * K) K (omega (arith, times-fits i n K k)))
+      (λ i k. padSum-length shakePad K q (shakePad-length q K) under keys i n)
+      ∙ ap (λ (x : List ℕ). moved minus q x (blocks n (λ i. padSum shakePad K q under keys i n))) (blocks-nth n K out₀ l)

@@ -1,0 +1,3 @@
+pub mod Pad
+pub mod Factored
+pub mod Moved

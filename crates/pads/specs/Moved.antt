@@ -1,0 +1,34 @@
+-- Pads put on or taken off: what the functions ask, and how a contract names a row's place.
+-- Assumes nothing.
+use mathlib.Core.Path.{_≡_}
+use mathlib.Core.Bool.{Bool, true, false}
+use mathlib.Core.List.{List, map}
+use Prim.Native.Nat.{ℕ, _*_, _%_, _≤_, _<_}
+use lib.ListN.{length}
+use Rattle.residue.specs.Vector.{addV, subV, AllBelow}
+use Rattle.pads.specs.Pad.{Under}
+
+-- the place of a row, from its numbers
+abbrev pub placed : ℕ → ℕ → ℕ → Under
+placed modulus wire component = record { modulus = modulus; wire = wire; component = component }
+
+-- each number modulo q
+unfoldable pub reduced : ℕ → List ℕ → List ℕ
+reduced q xs = map (λ x. x % q) xs
+
+-- ys put on xs, or taken off it, modulo q
+unfoldable pub moved : Bool → ℕ → List ℕ → List ℕ → List ℕ
+moved false q xs ys = addV q xs ys
+moved true q xs ys = subV q xs ys
+
+-- what is asked of the receiving modulus q, the key length K and the buffer that pads are put on or taken off
+pub record Asked (q K : ℕ) (out : List ℕ) : Type 0 where
+  pub modulus : 1 < q
+  pub short : K ≤ 128
+  pub below : AllBelow q out
+
+-- what is asked of a row's sizes: n keys and n entries of K bytes; a receiver's number is a byte
+pub record Row (n K : ℕ) (keys out : List ℕ) : Type 0 where
+  pub parties : n ≤ 256
+  pub senders : length keys ≡ n * K
+  pub receivers : length out ≡ n * K

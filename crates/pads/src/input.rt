@@ -1,0 +1,67 @@
+// What the sponge takes for a pad: six fields, one after another, into one sponge that is lent for each; and the numbers that it gives.
+ghost use mathlib.Core.Path.{_≡_};
+ghost use Prim.Native.Nat.{_*_};
+ghost use lib.ListN.{length};
+ghost use Rattle.shake.specs.Numbers.{numbers, bytesOf};
+ghost use Rattle.shake.specs.Shake.{shake256};
+ghost use Rattle.shake.specs.Stream.{withField, empty};
+ghost use Rattle.pads.specs.Pad.{padInput};
+ghost use Rattle.pads.specs.Moved.{placed};
+use shake::Sponge;
+
+// One sponge, lent for each of six fields in turn.
+pub fn six_fields(
+    tag: &[u8],
+    modulus: &[u8],
+    wire: &[u8],
+    component: &[u8],
+    receiver: &[u8],
+    key: &[u8],
+) -> Sponge
+    ensures { λ r. ⌜ r ≡ withField (withField (withField (withField (withField (withField empty (now (tag .entry))) (now (modulus .entry))) (now (wire .entry))) (now (component .entry))) (now (receiver .entry))) (now (key .entry)) ⌝ }
+{
+    let mut sponge = shake::start();
+    shake::absorb(&mut sponge, tag);
+    shake::absorb(&mut sponge, modulus);
+    shake::absorb(&mut sponge, wire);
+    shake::absorb(&mut sponge, component);
+    shake::absorb(&mut sponge, receiver);
+    shake::absorb(&mut sponge, key);
+    sponge
+}
+
+// A wire's number in 4 bytes, the least significant first.
+fn wire_bytes(wire: u32) -> [u8; 4]
+    ensures { λ r. ⌜ r ≡ bytesOf 4 wire ⌝ }
+{
+    let second = wire / 256;
+    let third = second / 256;
+    let fourth = third / 256;
+    [
+        (wire % 256) as u8,
+        (second % 256) as u8,
+        (third % 256) as u8,
+        (fourth % 256) as u8,
+    ]
+}
+
+// The sponge that has taken in a pad's input.
+fn pad_sponge(modulus: u8, wire: u32, component: u8, receiver: u8, key: &[u8]) -> Sponge
+    ensures { λ r. ⌜ r ≡ withField empty (padInput (placed modulus wire component) receiver (now (key .entry))) ⌝ }
+{
+    let moduli = [modulus];
+    let wires = wire_bytes(wire);
+    let components = [component];
+    let receivers = [receiver];
+    six_fields(b"ROWPAD", &moduli, &wires, &components, &receivers, key)
+}
+
+// The 8-byte numbers of a pad, before they are reduced: as many as the buffer has.
+pub fn pad_numbers(modulus: u8, wire: u32, component: u8, receiver: u8, key: &[u8], out: &mut [u64])
+    ensures { λ _. ⌜ now (out .exit) ≡ numbers (shake256 (padInput (placed modulus wire component) receiver (now (key .entry))) (8 * length (now (out .entry)))) ⌝ }
+{
+    shake::squeeze_numbers(
+        shake::finished(pad_sponge(modulus, wire, component, receiver, key)),
+        out,
+    );
+}

@@ -1,0 +1,6 @@
+-- The laws of plain evaluation.
+pub mod Residues
+pub mod Arms
+pub mod Arrays
+pub mod Ending
+pub mod Examples

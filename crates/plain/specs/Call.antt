@@ -1,0 +1,29 @@
+-- The call for plain evaluation, from all inputs' values, one byte per output (no n, K or party).
+-- Assumes nothing.
+use mathlib.Core.List.{List, [], _∷_}
+use Prim.Native.Nat.{ℕ}
+use lib.ListN.{length}
+use Rattle.checks.specs.Checked.{Checked, andThen, afterwards}
+use Rattle.words.specs.declared.gate.Wire.{Wire}
+use Rattle.circuit.specs.Wires.{modulusAt, inputsIn}
+use Rattle.circuit.specs.File.{readFile}
+use Rattle.session.specs.Session.{fileChecked, lengthsChecked, valuesChecked}
+use Rattle.plain.specs.Plain.{plainOutputs}
+
+-- the checks after reading, on a buffer of so many bytes: a value for each input and a byte for each output; each value below its modulus
+abbrev pub fedChecked : List Wire → List ℕ → List ℕ → ℕ → Checked
+fedChecked wires outputs values bytes =
+    andThen (lengthsChecked (length values ∷ bytes ∷ []) (inputsIn wires ∷ length outputs ∷ [])) (valuesChecked values (modulusAt wires))
+
+module _ (file : List ℕ) (values results : List ℕ) where
+  abbrev wires : List Wire
+  wires = readFile file .wires
+
+  abbrev outputs : List ℕ
+  outputs = readFile file .outputs
+
+  unfoldable pub plainChecked : Checked
+  plainChecked = andThen (fileChecked file) (fedChecked wires outputs values (length results))
+
+  unfoldable pub plainAfter : List ℕ
+  plainAfter = afterwards plainChecked (plainOutputs file wires outputs values) results

@@ -1,0 +1,109 @@
+-- The claim at work: the round of specs/Example.antt meets every condition, so under SHAKE256 both parties decode 1 and 3. No pad is computed
+-- here; that the conditions can be met is.
+-- Assumes nothing.
+use mathlib.Core.Path.{_≡_, refl, _∙_}
+use mathlib.Core.List.{[], _∷_}
+use Prim.Native.Nat.{ℕ, zero, suc, _+_, _*_, _≤_, _<_}
+use native.Mathlib.Omega.{arith}
+use lib.ListN.{length, getD, length-replicate}
+use Rattle.lists.specs.Blocks.{blocks, part, sumTo}
+use Rattle.lists.specs.Grown.{extended, grown}
+use Rattle.lists.specs.First.{firstFrom, first}
+use Rattle.shake.specs.Numbers.{bytesOf}
+use Rattle.residue.specs.Prime.{remaindersBelow, isPrime}
+use Rattle.residue.specs.Residue.{add, mul}
+use Rattle.checks.specs.Checked.{unless, noneBad, refusedSome, noneBadSomewhere}
+use Rattle.checks.specs.Checked.Checked.{passed}
+use Rattle.words.specs.Reading.{check, afterEntry, readWord}
+use Rattle.circuit.specs.Wires.{modulusAt, inputsIn}
+use Rattle.circuit.specs.File.{accepted, ended, after, readFrom, headed, readFile}
+use Rattle.counts.specs.Counts.{rowsIn}
+use Rattle.counts.specs.Moduli.{someBelow}
+use Rattle.scheme.specs.Contribution.{offsetAt, contributionSize, contributionModuli}
+use Rattle.pads.specs.Pad.{shakePad}
+use Rattle.plain.specs.Plain.{plainBy, plainTo, plainValues, plainOutputs}
+use Rattle.round.specs.Bytes.{allZero, bytesChecked, contributionsChecked, zeroOffset, offsetsChecked}
+use Rattle.round.specs.Garble.{meterLimit}
+use Rattle.round.specs.Round.{ownerAt, figures}
+use Rattle.round.specs.Claim.{LengthsRight, Conditions, Promise}
+use Rattle.round.specs.Example.{fileOf, file, wires, outputs, contributions, values, lent}
+use Rattle.round.proofs.RealPad.{shake-claim}
+
+reads : readFile file ≡ accepted wires outputs
+unfolding file fileOf bytesOf wires outputs readFile headed readFrom after ended readWord check afterEntry isPrime remaindersBelow
+reads = refl
+
+three : (P : ℕ → Type 0) → P 0 → P 1 → P 2 → (w : ℕ) → w < 3 → P w
+three P a b c zero h = a
+three P a b c (suc zero) h = b
+three P a b c (suc (suc zero)) h = c
+three P a b c (suc (suc (suc w))) h = absurd (omega arith)
+
+owners : (w : ℕ) → w < inputsIn wires → ownerAt wires w < 2
+unfolding wires inputsIn
+owners = three (λ w. ownerAt wires w < 2) (omega arith) (omega arith) (omega arith)
+
+below : (w : ℕ) → w < inputsIn wires → getD values w 0 < modulusAt wires w
+unfolding wires inputsIn values
+below = three (λ w. getD values w 0 < modulusAt wires w) (omega arith) (omega arith) (omega arith)
+
+size : length contributions ≡ 2 * contributionSize 1 wires
+unfolding contributions contributionSize wires sumTo someBelow
+size = refl
+
+bytes : contributionsChecked 2 1 wires contributions ≡ passed
+unfolding contributionsChecked bytesChecked noneBadSomewhere refusedSome first firstFrom blocks contributions contributionModuli wires someBelow
+bytes = refl
+
+offsets : offsetsChecked 2 1 wires contributions ≡ passed
+unfolding offsetsChecked zeroOffset noneBad unless first firstFrom part contributions contributionSize offsetAt allZero wires sumTo someBelow
+offsets = refl
+
+lengths : LengthsRight 2 1 wires outputs lent
+unfolding lent
+lengths =
+    record {
+      rows = length-replicate _ 0;
+      inputMasks = length-replicate _ 0;
+      outputMasks = length-replicate _ 0;
+      externals = λ party _. length-replicate _ 0;
+      inputKeys = λ party _. length-replicate _ 0;
+      wireKeys = λ party _. length-replicate _ 0;
+      wireExternals = λ party _. length-replicate _ 0;
+      results = λ party _. length-replicate _ 0;
+      plain = length-replicate _ 0;
+    }
+
+values-size : length values ≡ inputsIn wires
+unfolding values wires inputsIn
+values-size = refl
+
+space : 0 + rowsIn wires ≤ meterLimit
+unfolding wires sumTo
+space = omega arith
+
+conditions : Conditions file 2 1 contributions values 0 lent
+conditions =
+    record {
+      accepted = rw reads;
+      parties = omega arith;
+      owners = rw reads owners;
+      keyLength = omega arith;
+      contributionsLength = rw reads size;
+      contributionsBytes = rw reads bytes;
+      offsets = rw reads offsets;
+      valuesLength = rw reads values-size;
+      valuesBelow = rw reads below;
+      lengths = rw reads lengths;
+      space = rw reads space;
+    }
+
+promise : Promise shakePad file 2 1 contributions values 0 lent
+promise = shake-claim file 2 1 contributions values 0 lent conditions
+
+plain : plainOutputs file wires outputs values ≡ 1 ∷ 3 ∷ []
+unfolding plainOutputs plainValues plainTo plainBy grown extended add mul blocks file fileOf bytesOf wires outputs values
+plain = refl
+
+pub both-decode : (party : ℕ) → party < 2 → figures shakePad file 2 1 contributions values 0 lent party ≡ 1 ∷ 3 ∷ []
+both-decode party h = promise .decoded party h ∙ rw reads plain

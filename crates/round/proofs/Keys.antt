@@ -1,0 +1,132 @@
+-- At each party the call for its input keys accepts; all parties' keys of an input, one after another, are k + e·D of what all drew, and their
+-- bytes are below the input's modulus.
+-- Assumes nothing.
+use mathlib.Core.Path.{_≡_, sym, ap, ap₂, _∙_}
+use mathlib.Core.List.{List}
+use Prim.Native.Nat.{ℕ, _+_, _*_, _<_}
+use native.Mathlib.Omega.{arith}
+use lib.ListN.{length, getD}
+use Rattle.lists.specs.Blocks.{blocks, part, nth}
+use Rattle.lists.proofs.Sums.{times-fits}
+use Rattle.lists.proofs.Parts.{part-of-part}
+use Rattle.lists.proofs.Blocks.{length-blocks-same, blocks-ext, part-blocks-same, blocks-nth}
+use Rattle.residue.specs.Vector.{keyV}
+use Rattle.residue.proofs.Vectors.{keyV-length, keyV-below}
+use Rattle.checks.specs.Checked.Checked.{passed}
+use Rattle.checks.proofs.Passed.{afterwards-passed}
+use Rattle.words.specs.declared.gate.Wire.{Wire}
+use Rattle.circuit.specs.Wires.{modulusAt, inputsIn}
+use Rattle.circuit.specs.File.{readFile}
+use Rattle.scheme.specs.Draw.{Draw, drawn}
+use Rattle.scheme.specs.Zero.{zeroKey}
+use Rattle.pads.specs.Pad.{Pad}
+use Rattle.round.specs.Bytes.{keysChecked}
+use Rattle.round.proofs.Bounds.{keys-passed}
+use Rattle.round.proofs.InputKeysPass.{inputKeys-passed}
+use Rattle.round.specs.InputKeys.{inputKey, inputKeysAfter}
+use Rattle.round.specs.Round.{Lent, contributionOf, externals, inputKeys, ownKeys, keys}
+use Rattle.scheme.proofs.Search.{key-part, part-size}
+use Rattle.scheme.proofs.Bounds.{positive, zeroKey-size}
+use Rattle.round.proofs.Start.{Start}
+use Rattle.round.proofs.Shared.{session-fits, owners-fit}
+use Rattle.round.proofs.Inputs.{input-made, input-recorded, input-zeroKey}
+use Rattle.round.proofs.Own.{own-contribution, own-alone, own-offsets, own-part}
+use Rattle.round.proofs.External.{externals-size, external-fits}
+
+module _ {pad : Pad} {file : List ℕ} {n K : ℕ} {contributions values : List ℕ} {meter : ℕ} {lent : Lent}
+    (start : Start pad file n K contributions values meter lent) where
+  abbrev wires : List Wire
+  wires = readFile file .wires
+
+  abbrev draw : Draw
+  draw = drawn n K wires contributions
+
+  abbrev inputs : List ℕ
+  inputs = externals pad file n K contributions values meter lent
+
+  abbrev own : ℕ → Draw
+  own party = drawn 1 K wires (contributionOf pad file n K contributions values meter lent party)
+
+  -- all parties' keys of an input
+  abbrev key : ℕ → List ℕ
+  key w = keyV (modulusAt wires w) (zeroKey wires draw w) (getD inputs w 0) (draw .offset (modulusAt wires w))
+
+  key-size : (w : ℕ) → w < inputsIn wires → length (key w) ≡ n * K
+  key-size w h =
+      let made = input-made (start .accepted) w h in
+      let size = zeroKey-size (start .accepted) (start .drew .well) w made in
+      keyV-length (modulusAt wires w) (zeroKey wires draw w) (getD inputs w 0) (draw .offset (modulusAt wires w))
+      (size ∙ sym (start .drew .well .offsetSize w made))
+      ∙ size
+
+  -- ---- a party's keys
+
+  pub has-keys : (party : ℕ) → party < n → inputKeys pad file n K contributions values meter lent party ≡ passed
+  unfolding inputKeys
+  has-keys party h =
+      inputKeys-passed
+      (record {
+        read = start .conditions .accepted;
+        session = session-fits start;
+        takesPart = h;
+        owners = owners-fit start;
+        contributionLength = own-contribution start party h;
+        externalsLength = externals-size start;
+        keysLength = start .conditions .lengths .inputKeys party h;
+        external = λ w l. external-fits start w (omega (arith, externals-size start));
+        contributed = own-alone start party h;
+        offsets = own-offsets start party h;
+      })
+
+  -- a party's key is its part of all parties' keys
+  pub inputKey-is : (party w : ℕ) → party < n → w < inputsIn wires → inputKey wires (own party) inputs w ≡ nth (key w) K party
+  unfolding inputKey
+  inputKey-is party w h l =
+      let made = input-made (start .accepted) w l in
+      ap₂ (λ (k D : List ℕ). keyV (modulusAt wires w) k (getD inputs w 0) D)
+      (own-part start party h .key w made (input-recorded (start .accepted) w l) ∙ ap (λ (k : List ℕ). nth k K party) (sym (input-zeroKey (start .accepted) w l draw)))
+      (own-part start party h .offset w made)
+      ∙ sym (key-part (modulusAt wires w) K party (zeroKey wires draw w) (getD inputs w 0) (draw .offset (modulusAt wires w)))
+
+  own-keys : (party : ℕ) → party < n
+      → ownKeys pad file n K contributions values meter lent party ≡ blocks (inputsIn wires) (λ w. nth (key w) K party)
+  unfolding ownKeys inputKeysAfter inputKeys
+  own-keys party h =
+      afterwards-passed (has-keys party h) _ _
+      ∙ blocks-ext (inputsIn wires) _ (λ w. nth (key w) K party) (λ w l. inputKey-is party w h l)
+
+  own-key : (party w : ℕ) → party < n → w < inputsIn wires
+      → nth (ownKeys pad file n K contributions values meter lent party) K w ≡ nth (key w) K party
+  own-key party w h l =
+      ap (λ (xs : List ℕ). nth xs K w) (own-keys party h)
+      ∙ part-blocks-same (inputsIn wires) K (λ v. nth (key v) K party) (λ v m. part-size n K party (key v) h (key-size v m)) w l
+
+  -- ---- all parties' keys
+
+  keys-are : keys pad file n K contributions values meter lent ≡ blocks (inputsIn wires) key
+  unfolding keys
+  keys-are =
+      blocks-ext (inputsIn wires) _ key
+      (λ w l. blocks-ext n _ (λ party. nth (key w) K party) (λ party h. own-key party w h l) ∙ blocks-nth n K (key w) (key-size w l))
+
+  pub keys-size : length (keys pad file n K contributions values meter lent) ≡ inputsIn wires * (n * K)
+  keys-size = ap length keys-are ∙ length-blocks-same (inputsIn wires) (n * K) key key-size
+
+  pub keys-at : (w : ℕ) → w < inputsIn wires → nth (keys pad file n K contributions values meter lent) (n * K) w ≡ key w
+  keys-at w h = ap (λ (xs : List ℕ). nth xs (n * K) w) keys-are ∙ part-blocks-same (inputsIn wires) (n * K) key key-size w h
+
+  pub keys-pass : keysChecked n K wires (keys pad file n K contributions values meter lent) ≡ passed
+  keys-pass =
+      rw keys-are
+      (keys-passed n K wires key key-size (λ w h. keyV-below (positive (start .accepted) w (input-made (start .accepted) w h)) _ _ _))
+
+  -- a party's own key among all of them
+  pub key-among : (party w : ℕ) → party < n → w < inputsIn wires
+      → nth (keys pad file n K contributions values meter lent) K (w * n + party) ≡ inputKey wires (own party) inputs w
+  key-among party w h l =
+      let all = keys pad file n K contributions values meter lent in
+      let place : (w * n + party) * K ≡ w * (n * K) + party * K = omega arith in
+      ap (λ (at : ℕ). part all at K) place
+      ∙ sym (part-of-part all (w * (n * K)) (n * K) (party * K) K (times-fits party n K h))
+      ∙ ap (λ (xs : List ℕ). nth xs K party) (keys-at w l)
+      ∙ sym (inputKey-is party w h l)

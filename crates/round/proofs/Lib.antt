@@ -1,0 +1,27 @@
+-- The claim: every call of a round accepts, and every party decodes the plain circuit's outputs.
+pub mod Claim
+pub mod Begun
+pub mod Bounds
+pub mod Contributions
+pub mod Decoded
+pub mod DecodingPasses
+pub mod Example
+pub mod External
+pub mod ExternalsPass
+pub mod FromContributions
+pub mod Garbled
+pub mod GarblingPasses
+pub mod InputKeysPass
+pub mod Inputs
+pub mod Keys
+pub mod Masks
+pub mod OpeningPasses
+pub mod Opens
+pub mod Own
+pub mod OwnInputs
+pub mod Parties
+pub mod RealPad
+pub mod RowBytes
+pub mod Shared
+pub mod Start
+pub mod Wires

@@ -1,0 +1,68 @@
+-- The checks of evaluation that are made before any gate pass where this holds.
+-- Assumes nothing.
+use mathlib.Core.Path.{_≡_, ap, _∙_}
+use mathlib.Core.Bool.{not}
+use mathlib.Core.List.{List}
+use Prim.Native.Nat.{ℕ, _+_, _*_, _<_}
+use lib.ListN.{length, getD}
+use Rattle.lists.specs.Blocks.{nth}
+use Rattle.checks.specs.declared.Refusal.the-variants.{WrongInputKey}
+use Rattle.checks.specs.declared.Answer.the-variants.{Accepted}
+use Rattle.checks.specs.Checked.Checked.{passed}
+use Rattle.checks.proofs.Passed.{andThen-passed, noneBad-passed}
+use Rattle.words.specs.declared.gate.Wire.{Wire}
+use Rattle.circuit.specs.Wires.{modulusAt, inputsIn}
+use Rattle.circuit.specs.File.{readFile}
+use Rattle.counts.specs.Counts.{rowsIn}
+use Rattle.scheme.specs.Contribution.{contributionSize}
+use Rattle.scheme.specs.Draw.{drawn}
+use Rattle.pads.specs.Pad.{Pad}
+use Rattle.scheme.proofs.Contributed.{Contributed}
+use Rattle.search.specs.Search.{same}
+use Rattle.search.proofs.Same.{same-refl}
+use Rattle.round.specs.Bytes.{offsetsChecked, keysChecked, rowsChecked}
+use Rattle.round.specs.InputKeys.{inputKey}
+use Rattle.round.specs.Open.{inputKeyWrong, beforeOpening}
+use Rattle.session.proofs.Sessions.{SessionFits, OwnersFit, session-passed, party-passed, owners-passed, file-passed, lengths-passed}
+use Rattle.round.proofs.Bounds.{values-passed}
+use Rattle.round.proofs.Contributions.{contributions-passed}
+
+pub record OpeningFits (file : List ℕ) (n K party : ℕ) (contribution externals keys rows wkeys wexternals : List ℕ) : Type 0 where
+  pub read : readFile file .answer ≡ Accepted
+  pub session : SessionFits n K
+  pub takesPart : party < n
+  pub owners : OwnersFit n (readFile file .wires)
+  pub contributionLength : length contribution ≡ contributionSize K (readFile file .wires)
+  pub externalsLength : length externals ≡ inputsIn (readFile file .wires)
+  pub keysLength : length keys ≡ inputsIn (readFile file .wires) * (n * K)
+  pub rowsLength : length rows ≡ rowsIn (readFile file .wires) * (n * K)
+  pub wkeysLength : length wkeys ≡ length (readFile file .wires) * (n * K)
+  pub wexternalsLength : length wexternals ≡ length (readFile file .wires)
+  pub external : (w : ℕ) → w < length externals → getD externals w 0 < modulusAt (readFile file .wires) w
+  pub contributed : Contributed 1 K (readFile file .wires) contribution
+  pub offsets : offsetsChecked 1 K (readFile file .wires) contribution ≡ passed
+  pub keysBelow : keysChecked n K (readFile file .wires) keys ≡ passed
+  pub rowsBelow : rowsChecked n K (readFile file .wires) rows ≡ passed
+  pub ownKey : (w : ℕ) → w < inputsIn (readFile file .wires)
+      → nth keys K (w * n + party) ≡ inputKey (readFile file .wires) (drawn 1 K (readFile file .wires) contribution) externals w
+
+pub opening-passed : (pad : Pad) {file : List ℕ} {n K party : ℕ} {contribution externals keys rows wkeys wexternals : List ℕ}
+    → OpeningFits file n K party contribution externals keys rows wkeys wexternals
+    → beforeOpening pad file n K party contribution externals keys rows wkeys wexternals ≡ passed
+unfolding beforeOpening inputKeyWrong
+opening-passed pad {file} {n} {K} {party} {contribution} {externals} {keys} {rows} {wkeys} {wexternals} r =
+    let wires : List Wire = readFile file .wires in
+    andThen-passed (file-passed file (r .read))
+    (andThen-passed (session-passed (r .session))
+    (andThen-passed (party-passed (r .takesPart))
+    (andThen-passed (owners-passed (r .owners))
+    (andThen-passed
+    (lengths-passed (rw (r .contributionLength, r .externalsLength, r .keysLength, r .rowsLength, r .wkeysLength, r .wexternalsLength)))
+    (andThen-passed (values-passed externals (modulusAt wires) (r .external))
+    (andThen-passed (contributions-passed 1 K wires contribution (r .contributed))
+    (andThen-passed (r .offsets)
+    (andThen-passed (r .keysBelow)
+    (andThen-passed (r .rowsBelow)
+    (noneBad-passed (inputsIn wires) (inputKeyWrong pad file n K party contribution externals keys rows wkeys wexternals) WrongInputKey
+    (λ w h. ap not (ap (λ (l : List ℕ). same l (inputKey wires (drawn 1 K wires contribution) externals w)) (r .ownKey w h)
+    ∙ same-refl (inputKey wires (drawn 1 K wires contribution) externals w)))))))))))))

@@ -1,0 +1,43 @@
+-- The call for decoding: e − m modulo the wire's prime for each output, from external values of all wires and output masks (no n, K or party).
+-- Assumes nothing.
+use mathlib.Core.Bool.{Bool, _&&_, _||_}
+use lib.Dec.{ltb}
+use mathlib.Core.List.{List, [], _∷_}
+use Prim.Native.Nat.{ℕ, max}
+use lib.ListN.{length, getD}
+use Rattle.lists.specs.Blocks.{tab}
+use Rattle.residue.specs.Residue.{sub}
+use Rattle.checks.specs.declared.Refusal.the-variants.{ValueTooLarge}
+use Rattle.checks.specs.Checked.{Checked, andThen, noneBad, afterwards}
+use Rattle.words.specs.declared.gate.Wire.{Wire}
+use Rattle.circuit.specs.Wires.{modulusAt}
+use Rattle.circuit.specs.File.{readFile}
+use Rattle.session.specs.Session.{fileChecked, lengthsChecked, tooLarge}
+
+module _ (file : List ℕ) (externals masks results : List ℕ) where
+  abbrev wires : List Wire
+  wires = readFile file .wires
+
+  abbrev outputs : List ℕ
+  outputs = readFile file .outputs
+
+  abbrev outputModulus : ℕ → ℕ
+  outputModulus i = modulusAt wires (getD outputs i 0)
+
+  -- 15 over two buffers: the lowest index over both, each counted from its own start
+  abbrev valueBad : ℕ → Bool
+  valueBad i =
+      (ltb i (length wires) && tooLarge externals (modulusAt wires) i)
+      || (ltb i (length outputs) && tooLarge masks outputModulus i)
+
+  unfoldable pub decodeChecked : Checked
+  decodeChecked =
+      andThen (fileChecked file)
+      (andThen
+      (lengthsChecked (length externals ∷ length masks ∷ length results ∷ []) (length wires ∷ length outputs ∷ length outputs ∷ []))
+      (noneBad (max (length wires) (length outputs)) valueBad ValueTooLarge))
+
+  unfoldable pub decodeAfter : List ℕ
+  decodeAfter =
+      afterwards decodeChecked
+      (tab (length outputs) (λ i. sub (outputModulus i) (getD externals (getD outputs i 0) 0) (getD masks i 0))) results

@@ -1,0 +1,45 @@
+-- The call for the external values of a party's own inputs, from their values and masks, a byte each per own input (n and party given, no K).
+-- Assumes nothing.
+use mathlib.Core.Bool.{Bool, true, false, _||_, cond}
+use mathlib.Core.List.{List, [], _∷_, _++_}
+use Prim.Native.Nat.{ℕ, zero, suc}
+use lib.ListN.{length, getD}
+use Rattle.lists.specs.Blocks.{blocks, tab}
+use Rattle.residue.specs.Residue.{add}
+use Rattle.checks.specs.declared.Refusal.the-variants.{ValueTooLarge}
+use Rattle.checks.specs.Checked.{Checked, andThen, noneBad, afterwards}
+use Rattle.words.specs.declared.gate.Wire.{Wire}
+use Rattle.circuit.specs.Wires.{wireAt, modulusAt}
+use Rattle.circuit.specs.File.{readFile}
+use Rattle.counts.specs.Counts.{ownedBy}
+use Rattle.session.specs.Session.{fileChecked, partiesChecked, partyChecked, ownersChecked, lengthsChecked, tooLarge}
+
+-- the wires of a party's own inputs, ascending
+unfoldable pub ownInputs : ℕ → List Wire → List ℕ
+ownInputs party wires = blocks (length wires) (λ w. cond (ownedBy party (wireAt wires w .gate)) (w ∷ []) [])
+
+module _ (file : List ℕ) (n party : ℕ) (values masks externals : List ℕ) where
+  abbrev wires : List Wire
+  wires = readFile file .wires
+
+  abbrev own : List ℕ
+  own = ownInputs party wires
+
+  abbrev ownModulus : ℕ → ℕ
+  ownModulus i = modulusAt wires (getD own i 0)
+
+  -- 15 over two buffers: the lowest index over both
+  unfoldable pub externalsChecked : Checked
+  externalsChecked =
+      andThen (fileChecked file)
+      (andThen (partiesChecked n)
+      (andThen (partyChecked n party)
+      (andThen (ownersChecked n wires)
+      (andThen
+      (lengthsChecked (length values ∷ length masks ∷ length externals ∷ []) (length own ∷ length own ∷ length own ∷ []))
+      (noneBad (length own) (λ i. tooLarge values ownModulus i || tooLarge masks ownModulus i) ValueTooLarge)))))
+
+  -- e = (v + m) mod p
+  unfoldable pub externalsAfter : List ℕ
+  externalsAfter =
+      afterwards externalsChecked (tab (length own) (λ i. add (ownModulus i) (getD values i 0) (getD masks i 0))) externals

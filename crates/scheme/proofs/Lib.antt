@@ -1,0 +1,16 @@
+-- Laws of the scheme: layout of contributions, what they draw, and that evaluation undoes garbling.
+pub mod Rows
+pub mod Search
+pub mod Drawn
+pub mod Bounds
+pub mod ByteModuli
+pub mod Contributed
+pub mod EachBelow
+pub mod Messages
+pub mod Opened
+pub mod Padded
+pub mod Places
+pub mod Rightly
+pub mod Steps
+pub mod Used
+pub mod Examples

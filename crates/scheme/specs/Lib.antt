@@ -1,0 +1,9 @@
+-- The garbling scheme as document 01 writes it, in its order: what parties contribute, zero keys and masks, messages, rows; evaluation.
+pub mod Contribution
+pub mod Draw
+pub mod Zero
+pub mod Message
+pub mod Rows
+pub mod Opening
+pub mod Drawn
+pub mod Given

@@ -1,0 +1,118 @@
+-- Document 01, "The gates" and "Opening": what party s opens, wire after wire: all parties' keys and the external value.
+-- Assumes nothing.
+use mathlib.Core.Bool.{Bool, true, false}
+use mathlib.Core.List.{List, [], _∷_, _++_, map}
+use Prim.Native.Nat.{ℕ, zero, suc, _+_, _*_}
+use lib.Dec.{eqb, ltb}
+use lib.ListN.{length, getD}
+use Rattle.lists.specs.Blocks.{sumTo, blocks, nth}
+use Rattle.lists.specs.Grown.{grown}
+use Rattle.residue.specs.Residue.{add, sub}
+use Rattle.residue.specs.Vector.{addV, subV, mulV}
+use Rattle.words.specs.declared.gate.Gate.{Gate}
+use Rattle.words.specs.declared.gate.Wire.{Wire}
+use Rattle.circuit.specs.Wires.{wireAt, modulusAt}
+use Rattle.counts.specs.declared.recipe.Recipe.{Recipe}
+use Rattle.counts.specs.declared.recipe.Recipe.the-variants.{Drawn, Free, Table, Product, Choice}
+use Rattle.counts.specs.Recipe.{recipe}
+use Rattle.counts.specs.Counts.{rowsOf}
+use Rattle.scheme.specs.Draw.{Draw}
+use Rattle.scheme.specs.Zero.{freely, freelyV}
+use Rattle.pads.specs.Pad.{Pad, Under, padRow}
+use Rattle.scheme.specs.Rows.{under}
+use Rattle.search.specs.Search.{multiplier}
+
+-- a wire that is opened: all parties' keys, the external value, and whether every search so far on this wire found a multiplier
+pub record Opened : Type 0 where
+  pub keys : List ℕ
+  pub external : ℕ
+  pub fits : Bool
+
+-- what a look-up past the opened wires gives: nothing is said of it
+abbrev pub nothing : Opened
+nothing = record { keys = []; external = 0; fits = false }
+
+-- n parties, key length K, party s, what s itself drew, the external values of the inputs, all input keys (input, then party), and rows
+module _ (pad : Pad) (n K s : ℕ) (wires : List Wire) (own : Draw) (inputs keys rows : List ℕ) where
+  -- row r without the pads of the senders' keys that it is opened under
+  unfoldable pub unpadded : ℕ → Under → List ℕ → ℕ → List ℕ
+  unpadded q place under r = subV q (nth rows (n * K) r) (padRow pad K q place under n)
+
+  -- the first row of wire w
+  unfoldable pub rowAt : ℕ → ℕ
+  rowAt w = sumTo w (rowsOf wires)
+
+  -- s's own key, for which the multiplier is searched
+  unfoldable pub ownKey : List ℕ → List ℕ
+  ownKey all = nth all K s
+
+  unfoldable pub found : ℕ → List ℕ → ℕ
+  found w all =
+      multiplier (modulusAt wires w) (own .key w 0) (own .offset (modulusAt wires w)) (ownKey all)
+
+  -- a wire whose external value is searched for
+  unfoldable pub searched : ℕ → List ℕ → Opened
+  searched w all = record { keys = all; external = found w all; fits = ltb (found w all) (modulusAt wires w) }
+
+  -- an input's keys and external value are given
+  unfoldable pub openInput : ℕ → Opened
+  openInput w = record { keys = nth keys (n * K) w; external = getD inputs w 0; fits = true }
+
+  unfoldable pub openFree : ℕ → Gate → (ℕ → Opened) → Opened
+  openFree p gate look =
+      record { keys = freelyV p gate (λ a. look a .keys); external = freely p gate (λ a. look a .external); fits = true }
+
+  -- project: the row of a's external value, under a's keys
+  unfoldable pub openTable : ℕ → ℕ → Opened → Opened
+  openTable w p a = searched w (unpadded (modulusAt wires w) (under p w 0) (a .keys) (rowAt w + a .external))
+
+  -- multiply: component 0 under a's keys; component 1 under b's keys, to which the opener adds β times a's key; the sum
+  unfoldable pub openProduct : ℕ → Opened → Opened → Opened
+  openProduct w a b =
+      let p : ℕ = modulusAt wires w in
+      searched w
+      (addV p (addV p (unpadded p (under p w 0) (a .keys) (rowAt w + a .external))
+      (unpadded p (under p w 1) (b .keys) (rowAt w + p + b .external)))
+      (mulV p (b .external) (a .keys)))
+
+  -- the chooser, under the bit's key; for 1 the opener adds d's key
+  unfoldable pub chosen : Bool → ℕ → List ℕ → List ℕ → List ℕ
+  chosen true p part d = part
+  chosen false p part d = addV p part d
+
+  -- after the chooser, only the corrector named by the bit's external value is opened, under d's keys
+  unfoldable pub corrector : ℕ → ℕ → ℕ → ℕ
+  corrector p bit α = 2 + bit * p + α
+
+  unfoldable pub openChoice : ℕ → Opened → Opened → Opened → Opened
+  openChoice w bit a b =
+      let p : ℕ = modulusAt wires w in
+      let d : List ℕ = subV p (b .keys) (a .keys) in
+      let α : ℕ = sub p (b .external) (a .external) in
+      let h : Opened =
+      searched w
+      (addV p (chosen (eqb (bit .external) 0) p (unpadded p (under 2 w 0) (bit .keys) (rowAt w + bit .external)) d)
+      (unpadded p (under p w (1 + bit .external)) d (rowAt w + corrector p (bit .external) α))) in
+      record { keys = addV p (h .keys) (a .keys); external = add p (h .external) (a .external); fits = h .fits }
+
+  -- wire w, from the wires opened below it
+  unfoldable pub openBy : ℕ → Recipe → (ℕ → Opened) → Opened
+  openBy w Drawn look = openInput w
+  openBy w Free look = openFree (modulusAt wires w) (wireAt wires w .gate) look
+  openBy w (Table a) look = openTable w (modulusAt wires a) (look a)
+  openBy w (Product g) look = openProduct w (look (g .a)) (look (g .b))
+  openBy w (Choice g) look = openChoice w (look (g .bit)) (look (g .a)) (look (g .b))
+
+  -- the first wires, so many; and all
+  unfoldable pub openedTo : ℕ → List Opened
+  openedTo = grown (λ w below. openBy w (recipe (wireAt wires w)) (λ a. getD below a nothing))
+
+  unfoldable pub opened : List Opened
+  opened = openedTo (length wires)
+
+  -- what is written: n·K key bytes and one external byte per wire
+  unfoldable pub wireKeys : List ℕ
+  wireKeys = blocks (length wires) (λ w. getD opened w nothing .keys)
+
+  unfoldable pub wireExternals : List ℕ
+  wireExternals = map (λ wire. wire .external) opened

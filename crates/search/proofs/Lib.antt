@@ -1,0 +1,3 @@
+pub mod Same
+pub mod Tried
+pub mod Named

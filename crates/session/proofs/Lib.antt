@@ -1,0 +1,4 @@
+-- Laws of the session's checks: when they pass, and which answers of the code meet them.
+pub mod Sessions
+pub mod Circuits
+pub mod Searches

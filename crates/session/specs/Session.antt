@@ -1,0 +1,62 @@
+-- Document 01, "Where each check stands": the checks that several calls share. "Every call reads the circuit first"; then the session's
+-- checks, 11 to 15, on what the call is given.
+-- Assumes nothing.
+use mathlib.Core.Bool.{Bool, true, false, _&&_, _||_}
+use mathlib.Core.List.{List, [], _∷_}
+use Prim.Native.Nat.{ℕ}
+use lib.Dec.{eqb, leb, ltb}
+use lib.ListN.{length, getD}
+use Rattle.checks.specs.declared.Refusal.{Refusal}
+use Rattle.checks.specs.declared.Refusal.the-variants.{SessionRange, NoSuchParty, OwnerAbsent, WrongLength, ValueTooLarge}
+use Rattle.checks.specs.Checked.{Checked, unless, noneBad, answered}
+use Rattle.words.specs.declared.gate.Gate.{Gate}
+use Rattle.words.specs.declared.gate.Gate.the-variants.{Input, Add, Scale, Multiply, Project, Select}
+use Rattle.words.specs.declared.gate.Wire.{Wire}
+use Rattle.circuit.specs.Wires.{wireAt}
+use Rattle.circuit.specs.File.{readFile}
+
+-- 1 to 10: the reader's answer
+unfoldable pub fileChecked : List ℕ → Checked
+fileChecked file = answered (readFile file .answer)
+
+-- 11: two to eight parties
+unfoldable pub partiesChecked : ℕ → Checked
+partiesChecked n = unless (leb 2 n && leb n 8) SessionRange 0
+
+-- 11: parties and key length, 1 to 128
+unfoldable pub sessionChecked : ℕ → ℕ → Checked
+sessionChecked n K = unless ((leb 2 n && leb n 8) && (leb 1 K && leb K 128)) SessionRange 0
+
+-- 12: the party asked for
+unfoldable pub partyChecked : ℕ → ℕ → Checked
+partyChecked n party = unless (ltb party n) NoSuchParty party
+
+-- 13: every input's owner takes part
+abbrev pub ownerAbsent : ℕ → Gate → Bool
+ownerAbsent n (Input gate) = leb n (gate .owner)
+ownerAbsent n (Add gate) = false
+ownerAbsent n (Scale gate) = false
+ownerAbsent n (Multiply gate) = false
+ownerAbsent n (Project gate) = false
+ownerAbsent n (Select gate) = false
+
+unfoldable pub ownersChecked : ℕ → List Wire → Checked
+ownersChecked n wires = noneBad (length wires) (λ w. ownerAbsent n (wireAt wires w .gate)) OwnerAbsent
+
+-- 14: each lent length is exact; the pairs are the lengths lent and wanted
+unfoldable pub sameNumbers : List ℕ → List ℕ → Bool
+sameNumbers [] [] = true
+sameNumbers [] (y ∷ ys) = false
+sameNumbers (x ∷ xs) [] = false
+sameNumbers (x ∷ xs) (y ∷ ys) = eqb x y && sameNumbers xs ys
+
+unfoldable pub lengthsChecked : List ℕ → List ℕ → Checked
+lengthsChecked lent wanted = unless (sameNumbers lent wanted) WrongLength 0
+
+-- an entry of a list is not below its modulus
+abbrev pub tooLarge : List ℕ → (ℕ → ℕ) → ℕ → Bool
+tooLarge xs modulus i = leb (modulus i) (getD xs i 0)
+
+-- 15: each value, external value or mask is below its modulus
+unfoldable pub valuesChecked : List ℕ → (ℕ → ℕ) → Checked
+valuesChecked xs modulus = noneBad (length xs) (tooLarge xs modulus) ValueTooLarge

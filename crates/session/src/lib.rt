@@ -1,0 +1,10 @@
+// The checks that several calls share, 11 to 15: parties, the party asked for, owners of inputs, values. Rests on `circuit` for the
+// reader, on `counts` for what a circuit's arrays hold, on `checks` for answers and `lists` for searches.
+mod owners;
+mod parties;
+mod values;
+
+pub use owners::owners_checked;
+pub use parties::parties_checked;
+pub use parties::party_checked;
+pub use values::values_checked;
