@@ -16,7 +16,7 @@ const LASTING: Duration = Duration::from_millis(4);
 
 pub fn bench_read() -> ExitCode {
     let large = line("read-large", &word::file(&large()));
-    let usual = line("read-usual", &word::file(&usual()));
+    let usual = line("read-usual", &usual(300));
     if large && usual {
         ExitCode::SUCCESS
     } else {
@@ -37,14 +37,14 @@ fn large() -> Vec<u32> {
     words
 }
 
-/// A file of a usual size: 300 wires of all kinds, about 4,000 rows.
-fn usual() -> Vec<u32> {
+/// A file of a usual sort: wires of all kinds, 24 or more; with 300 wires it has about 4,000 rows.
+pub fn usual(wires: usize) -> Vec<u8> {
     let mut rng = Rng::new(1);
     let moduli = [2, 7, 23, 47];
     let mut words = vec![HEAD];
     // Wire w has modulus number w mod 4 throughout, so partners are at hand.
     words.extend((0..20).map(|wire| word::input(wire % 3, moduli[wire as usize % 4])));
-    for wire in 20..300 {
+    for wire in 20..wires {
         let modulus = moduli[wire % 4];
         let mut same = || (4 * rng.below(wire / 4) + wire % 4) as u32;
         let (a, b) = (same(), same());
@@ -61,9 +61,9 @@ fn usual() -> Vec<u32> {
             }
         }
     }
-    words.extend((280..300).map(word::output));
+    words.extend((wires - 20..wires).map(|wire| word::output(wire as u32)));
     words.push(END);
-    words
+    word::file(&words)
 }
 
 /// Times both programs on a file and prints how they compare; false if they answer differently.

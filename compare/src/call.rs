@@ -52,6 +52,8 @@ pub struct Lent {
     bytes: Vec<u8>,
     start: usize,
     length: usize,
+    /// Whether C is lent a null pointer, as it may be where the length is 0.
+    null: bool,
 }
 
 impl Lent {
@@ -60,7 +62,7 @@ impl Lent {
     }
 
     /// A buffer with this content.
-    fn of(content: &[u8]) -> Self {
+    pub fn of(content: &[u8]) -> Self {
         Lent::guarded(content, [BLANK_BYTE; GUARD])
     }
 
@@ -75,7 +77,14 @@ impl Lent {
             bytes,
             start,
             length: content.len(),
+            null: false,
         }
+    }
+
+    /// The same buffer, lent as a null pointer if that is asked for and it is empty.
+    pub fn null_if_empty(mut self, asked: bool) -> Self {
+        self.null = asked && self.length == 0;
+        self
     }
 
     /// A buffer to be written.
@@ -90,6 +99,9 @@ impl Lent {
     /// The content as C is lent it. The pointer may reach the guards too, since a stray write
     /// is what they are there to show.
     pub fn pointer(&mut self) -> (*mut u8, usize) {
+        if self.null {
+            return (std::ptr::null_mut(), 0);
+        }
         let start = self.bytes.as_mut_ptr().wrapping_add(self.start);
         (start, self.length)
     }
@@ -116,10 +128,17 @@ impl Loan {
             Call::InputsOf { .. } => (Vec::new(), 1),
             Call::Plain { values, outputs } => (vec![Lent::of(values), Lent::blank(*outputs)], 0),
         };
+        Loan::of(file, buffers, &vec![BLANK_NUMBER; numbers])
+    }
+
+    /// A loan of these buffers and numbers.
+    pub fn of(file: &[u8], buffers: Vec<Lent>, numbers: &[u32]) -> Self {
+        let mut numbers = numbers.to_vec();
+        numbers.push(BLANK_NUMBER);
         Loan {
             file: Lent::file(file),
             buffers,
-            numbers: vec![BLANK_NUMBER; numbers + 1],
+            numbers,
         }
     }
 }

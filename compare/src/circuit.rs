@@ -65,7 +65,7 @@ impl Wire<'_> {
     }
 
     /// How many pairs of a key and a mask share a party's record for this wire has.
-    fn records(&self) -> u32 {
+    pub fn records(&self) -> u32 {
         match self.gate {
             Gate::Input { .. } | Gate::Project { .. } => 1,
             Gate::Multiply { .. } => 2,
@@ -114,21 +114,33 @@ impl Circuit<'_> {
             .count() as u32
     }
 
-    pub fn counts(&self) -> Counts {
-        let mut rows = 0;
-        let mut records = 0;
+    pub fn modulus(&self, wire: u16) -> u8 {
+        self.wires[usize::from(wire)].modulus
+    }
+
+    /// The moduli of the outputs, in the order of the file.
+    pub fn output_moduli(&self) -> impl ExactSizeIterator<Item = u8> {
+        self.outputs.iter().map(|wire| self.modulus(*wire))
+    }
+
+    /// The moduli that some wire has, ascending.
+    pub fn moduli(&self) -> Vec<u8> {
         let mut used = [false; 256];
         for wire in &self.wires {
-            rows += wire.rows();
-            records += wire.records();
             used[usize::from(wire.modulus)] = true;
         }
+        (0..=255).filter(|p| used[usize::from(*p)]).collect()
+    }
+
+    pub fn counts(&self) -> Counts {
+        let rows = self.wires.iter().map(Wire::rows).sum();
+        let records = self.wires.iter().map(Wire::records).sum();
         Counts {
             wires: self.wires.len() as u32,
             inputs: self.inputs as u32,
             outputs: self.outputs.len() as u32,
             rows,
-            moduli: used.iter().filter(|used| **used).count() as u32,
+            moduli: self.moduli().len() as u32,
             records,
         }
     }

@@ -4,9 +4,21 @@
 //! side by side.
 
 pub mod circuit;
+pub mod contribution;
+pub mod decode;
+pub mod garble;
 pub mod generate;
+pub mod inputs;
+pub mod keccak;
+pub mod open;
+pub mod pad;
 pub mod plain;
 pub mod price_sheet;
+#[cfg(test)]
+mod refusal_tests;
 pub mod rng;
+#[cfg(test)]
+mod round_tests;
 pub mod session;
+pub mod shake;
 pub mod word;

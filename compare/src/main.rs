@@ -6,6 +6,7 @@ mod calls;
 mod engine;
 mod examples;
 mod hex;
+mod round;
 mod second;
 mod sheets;
 
@@ -23,11 +24,14 @@ compare case SEED CASE               the file of one case of such a run, as text
 compare show FILE                    what both programs say of a file given as such a text
 compare show FILE inputs_of N PARTY
 compare show FILE plain VALUES OUTPUTS   (values in hexadecimal, - for none; number of outputs)
+compare rounds SEED COUNT            whole rounds of calls, and such calls with faults
+compare round SEED CASE              the calls of one case of such a run, printed
 compare examples                     the specification's examples on both programs
 compare sheet                        the price sheet of standard input, by this program
 compare sheets SEED COUNT PROGRAM    a price-sheet program on generated texts
 compare text SEED CASE               the text of one case of such a run
-compare bench-read                   how long reading takes";
+compare bench-read                   how long reading takes
+compare usual WIRES                  the file of a circuit of a usual sort, 24 to 1,024 wires";
 
 fn main() -> ExitCode {
     let arguments: Vec<String> = env::args().skip(1).collect();
@@ -43,6 +47,8 @@ fn run(arguments: &[&str]) -> Result<ExitCode, String> {
         ["calls", seed, count] => Ok(calls::run(number(seed)?, number(count)?)),
         ["case", seed, case] => print(calls::case(number(seed)?, number(case)?).as_bytes()),
         ["show", file, call @ ..] => show(file, call),
+        ["rounds", seed, count] => Ok(round::run(number(seed)?, number(count)?)),
+        ["round", seed, case] => Ok(round::one(number(seed)?, number(case)?)),
         ["examples"] => Ok(examples::run()),
         ["sheet"] => sheet(),
         ["sheets", seed, count, program] => {
@@ -52,6 +58,7 @@ fn run(arguments: &[&str]) -> Result<ExitCode, String> {
         }
         ["text", seed, case] => print(&sheets::text(number(seed)?, number(case)?)),
         ["bench-read"] => Ok(bench::bench_read()),
+        ["usual", wires] => usual(number(wires)?),
         _ => Err(USAGE.into()),
     }
 }
@@ -67,6 +74,13 @@ fn print(text: &[u8]) -> Result<ExitCode, String> {
         .write_all(text)
         .map_err(|trouble| trouble.to_string())?;
     Ok(ExitCode::SUCCESS)
+}
+
+fn usual(wires: usize) -> Result<ExitCode, String> {
+    if !(24..=1024).contains(&wires) {
+        return Err(USAGE.into());
+    }
+    print(&bench::usual(wires))
 }
 
 fn show(file: &str, call: &[&str]) -> Result<ExitCode, String> {

@@ -1,6 +1,7 @@
 //! Checks on what a call is given beside the circuit: parties, lengths and values.
 
 use crate::circuit::{Circuit, Refusal, read};
+use crate::contribution::{Contribution, byte_moduli};
 
 /// How many inputs a party owns in a circuit for n parties.
 pub fn inputs_of(file: &[u8], n: u32, party: u32) -> Result<u32, Refusal> {
@@ -14,6 +15,11 @@ pub fn inputs_of(file: &[u8], n: u32, party: u32) -> Result<u32, Refusal> {
 /// 11: there are two to eight parties.
 pub fn check_parties(n: u32) -> Result<(), Refusal> {
     refuse_unless((2..=8).contains(&n), 11, 0)
+}
+
+/// 11: keys have 1 to 128 bytes.
+pub fn check_key_length(k: u32) -> Result<(), Refusal> {
+    refuse_unless((1..=128).contains(&k), 11, 0)
 }
 
 /// 12: the party asked for is one of them.
@@ -39,11 +45,63 @@ pub fn check_below(bytes: &[u8], moduli: impl ExactSizeIterator<Item = u8>) -> R
     refuse_place(high, 15)
 }
 
+/// 15 over two buffers, each with its moduli: the lowest index over both.
+pub fn check_both_below(one: (&[u8], &[u8]), other: (&[u8], &[u8])) -> Result<(), Refusal> {
+    let high = |(bytes, moduli): (&[u8], &[u8])| {
+        let mut pairs = bytes.iter().zip(moduli);
+        pairs.position(|(byte, p)| byte >= p)
+    };
+    let lowest = [high(one), high(other)].into_iter().flatten().min();
+    refuse_place(lowest, 15)
+}
+
+/// 16: each byte of one or several contributions is below its modulus.
+pub fn check_contributions(circuit: &Circuit, k: usize, bytes: &[u8]) -> Result<(), Refusal> {
+    let moduli = byte_moduli(circuit, k);
+    let mut pairs = bytes.iter().zip(moduli.iter().cycle());
+    refuse_place(pairs.position(|(byte, p)| byte >= p), 16)
+}
+
+/// 17: no offset is zero; the place is the lowest modulus over all parties.
+pub fn check_offsets(parties: &[Contribution]) -> Result<(), Refusal> {
+    let lowest = parties.iter().filter_map(Contribution::zero_offset).min();
+    refuse_place(lowest.map(usize::from), 17)
+}
+
+/// 18: each key byte is below its input's modulus. `size` is that of all parties' keys together.
+pub fn check_keys(circuit: &Circuit, size: usize, keys: &[u8]) -> Result<(), Refusal> {
+    let moduli: Vec<u8> = circuit.input_moduli().collect();
+    let bad = (0..keys.len()).find(|at| keys[*at] >= moduli[*at / size]);
+    refuse_place(bad, 18)
+}
+
+/// 18: each row byte is below the modulus of the wire that the row is for.
+pub fn check_rows(circuit: &Circuit, size: usize, rows: &[u8]) -> Result<(), Refusal> {
+    let moduli = row_moduli(circuit);
+    let bad = (0..rows.len()).find(|at| rows[*at] >= moduli[*at / size]);
+    refuse_place(bad, 18)
+}
+
+/// The modulus of each row's bytes.
+pub fn row_moduli(circuit: &Circuit) -> Vec<u8> {
+    let of = |wire: &crate::circuit::Wire| vec![wire.modulus; wire.rows() as usize];
+    circuit.wires.iter().flat_map(of).collect()
+}
+
+/// 21: the meter stays within its limit; what it then holds.
+pub fn check_meter(meter: u32, rows: u32) -> Result<u32, Refusal> {
+    meter.checked_add(rows).ok_or(Refusal {
+        number: 21,
+        place: 0,
+    })
+}
+
 fn refuse_unless(holds: bool, number: u32, place: usize) -> Result<(), Refusal> {
     refuse_place((!holds).then_some(place), number)
 }
 
-fn refuse_place(place: Option<usize>, number: u32) -> Result<(), Refusal> {
+/// Refuses by this number where a place is named.
+pub fn refuse_place(place: Option<usize>, number: u32) -> Result<(), Refusal> {
     match place {
         Some(place) => Err(Refusal { number, place }),
         None => Ok(()),

@@ -2,6 +2,8 @@
 
 pub mod circuits;
 pub mod damage;
+mod round_sweep;
+pub mod settings;
 pub mod sweep;
 pub mod texts;
 

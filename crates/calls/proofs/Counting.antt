@@ -1,10 +1,8 @@
 -- What a reading holds, counted, is what the file's definition says; and the chain of checks of a party's inputs.
 -- Assumes nothing.
-use mathlib.Core.Path.{_≡_, sym, ap, subst, _∙_}
+use mathlib.Core.Path.{_≡_, ap, subst, _∙_}
 use mathlib.Core.List.{List}
-use Prim.Native.Nat.{ℕ, _≤_}
-use native.Mathlib.Omega.{arith}
-use lib.ListN.{length}
+use Prim.Native.Nat.{ℕ}
 use Rattle.checks.specs.declared.Answer.{Answer}
 use Rattle.checks.specs.Combined.{followed}
 use Rattle.checks.specs.Checked.{Meets}
@@ -12,23 +10,12 @@ use Rattle.checks.proofs.Answers.{meets-answered, meets-andThen}
 use Rattle.words.specs.declared.gate.Wire.{Wire}
 use Rattle.circuit.specs.declared.Reading.{Reading}
 use Rattle.circuit.specs.File.{Read, readFile, Holds}
-use Rattle.counts.specs.Counts.{Room, Counts}
-use Rattle.counts.proofs.Wires.{room}
+use Rattle.counts.specs.Counts.{Counts}
 use Rattle.session.specs.Held.{wiresIn}
 use Rattle.session.specs.Session.{fileChecked, partiesChecked, partyChecked, ownersChecked}
-use Rattle.session.proofs.Circuits.{held-of, inputs-made}
 use Rattle.calls.specs.InputsOf.{inputsOfChecked}
 
 module _ {reading : Reading} {read : Read} (h : Holds reading read) where
-  pub made-small : reading .circuit .made ≤ 1024
-  made-small = room h .made
-
-  pub inputs-small : reading .circuit .inputs ≤ 1024
-  inputs-small = omega (arith, inputs-made (held-of h), made-small)
-
-  pub given-small : reading .circuit .given ≤ 1024
-  given-small = omega (arith, held-of h .given)
-
   -- a count of the reading's wires is that of the file's
   pub counted : {limit r : ℕ} (count : List Wire → ℕ) → Counts limit (count (wiresIn (reading .circuit))) r → r ≡ count (read .wires)
   counted count k = k .is ∙ ap count (h .wires)

@@ -1,3 +1,3 @@
--- What the calls answer and write, but for those that have a crate of their own.
+-- What the calls that read a circuit answer and write.
 pub mod Summary
 pub mod InputsOf

@@ -4,7 +4,7 @@ use mathlib.Core.Path.{_≡_, refl, sym, ap, ap₂, _∙_}
 use mathlib.Core.Bool.{Bool, true, false, _||_}
 use mathlib.Core.List.{List, [], _∷_, _++_}
 use Prim.Native.Nat.{ℕ, zero, suc, _+_, _≤_, _<_}
-use native.Mathlib.Nat.{mul-one}
+use native.Mathlib.Nat.{mul-one, le-refl}
 use native.Mathlib.Numerals.{add-one}
 use native.Mathlib.Omega.{arith}
 use native.Mathlib.Decide.{ℕ-discrete}
@@ -30,6 +30,17 @@ marked n f i = tab n (λ p. mark (someBelow i (λ w. eqb (f w) p)))
 pub marked-none : (n : ℕ) (f : ℕ → ℕ) → replicate n 0 ≡ marked n f 0
 unfolding someBelow
 marked-none n f = replicate-tab n 0
+
+some-ext : (i : ℕ) (f g : ℕ → Bool) → ((w : ℕ) → w < i → f w ≡ g w) → someBelow i f ≡ someBelow i g
+unfolding someBelow
+some-ext zero f g e = refl
+some-ext (suc i) f g e = ap₂ _||_ (some-ext i f g (λ w h. e w (omega arith))) (e i (le-refl (suc i)))
+
+-- the values below i alone matter
+pub marked-ext : (n : ℕ) (f g : ℕ → ℕ) (i : ℕ) → ((w : ℕ) → w < i → f w ≡ g w) → marked n f i ≡ marked n g i
+marked-ext n f g i e =
+    tab-ext n (λ p. mark (someBelow i (λ w. eqb (f w) p))) (λ p. mark (someBelow i (λ w. eqb (g w) p)))
+    (λ p _. ap mark (some-ext i (λ w. eqb (f w) p) (λ w. eqb (g w) p) (λ w h. ap (λ (x : ℕ). eqb x p) (e w h))))
 
 same-mark : (b : Bool) → 1 ≡ mark (b || true)
 same-mark true = refl
@@ -70,20 +81,23 @@ mark-again : (b : Bool) → mark (eqb (mark b) 1) ≡ mark b
 mark-again true = refl
 mark-again false = refl
 
-pub marks-summed : (n : ℕ) (test : ℕ → Bool) {marks : List ℕ} {i total : ℕ} → marks ≡ tab n (λ p. mark (test p)) → Summed 1 (λ p. mark (eqb (getD marks p 0) 1)) n i total → n ≤ i
-    → Counts n (sumTo n (λ p. mark (test p))) total
-marks-summed n test {marks} {i} {total} e r h =
+pub all-summed : {f : ℕ → ℕ} {n i total : ℕ} → Summed 1 f n i total → n ≤ i → Counts n (sumTo n f) total
+all-summed {f} {n} {i} {total} r h =
     let k : i ≡ n = omega arith in
+    record { is = r .is ∙ ap (λ (m : ℕ). sumTo m f) k; most = omega (arith, mul-one i) }
+
+pub marks-summed : (n : ℕ) (test : ℕ → Bool) {marks : List ℕ} {total : ℕ} → marks ≡ tab n (λ p. mark (test p)) → Counts n (sumTo n (λ p. mark (eqb (getD marks p 0) 1))) total
+    → Counts n (sumTo n (λ p. mark (test p))) total
+marks-summed n test {marks} {total} e r =
     record {
       is =
           r .is
-          ∙ ap (λ (m : ℕ). sumTo m (λ p. mark (eqb (getD marks p 0) 1))) k
           ∙ sumTo-ext n (λ p. mark (eqb (getD marks p 0) 1)) (λ p. mark (test p))
           (λ p l.
           ap (λ (l : List ℕ). mark (eqb (getD l p 0) 1)) e
           ∙ ap (λ (x : ℕ). mark (eqb x 1)) (getD-tab n (λ p. mark (test p)) p 0 l)
           ∙ mark-again (test p));
-      most = omega (arith, mul-one i);
+      most = r .most;
     }
 
 -- the loop that marks the moduli of a circuit's wires

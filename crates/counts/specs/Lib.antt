@@ -2,3 +2,4 @@
 pub mod Recipe
 pub mod Counts
 pub mod Moduli
+pub mod Tally

@@ -4,11 +4,11 @@ use mathlib.Core.Bool.{Bool, false, _||_}
 use mathlib.Core.List.{List}
 use Prim.Native.Nat.{ℕ, zero, suc}
 use lib.Dec.{eqb}
-use lib.ListN.{length}
+use lib.ListN.{length, getD}
 use Rattle.lists.specs.Blocks.{sumTo}
 use Rattle.words.specs.declared.gate.Wire.{Wire}
 use Rattle.circuit.specs.Wires.{modulusAt}
-use Rattle.counts.specs.Counts.{mark}
+use Rattle.counts.specs.Counts.{mark, Counts}
 
 -- a test holds of some number below n
 unfoldable pub someBelow : ℕ → (ℕ → Bool) → Bool
@@ -26,3 +26,7 @@ usedBelow wires p = sumTo p (λ q. mark (used wires q))
 -- a modulus is a byte
 abbrev pub moduliUsed : List Wire → ℕ
 moduliUsed wires = usedBelow wires 256
+
+-- how many of 256 marks are set
+abbrev pub SetMarks : List ℕ → ℕ → Type 0
+SetMarks marks r = Counts 256 (sumTo 256 (λ p. mark (eqb (getD marks p 0) 1))) r

@@ -88,7 +88,7 @@ pub fn records(circuit: Circuit) -> u32
 }
 
 // 1 where a gate is an input that the party owns, else 0.
-fn owned(gate: Gate, party: u32) -> u32
+pub fn owned(gate: Gate, party: u32) -> u32
     ensures { λ r. ⌜ Counts 1 (mark (ownedBy party gate)) r ⌝ }
 {
     match gate {

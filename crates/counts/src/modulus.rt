@@ -6,13 +6,13 @@ ghost use lib.ListN.{take, replicate};
 ghost use Rattle.lists.specs.Blocks.{tab};
 ghost use Rattle.circuit.specs.Wires.{moduliOf};
 ghost use Rattle.counts.specs.Counts.{mark, Room, Counts};
-ghost use Rattle.counts.specs.Moduli.{used, moduliUsed};
+ghost use Rattle.counts.specs.Moduli.{used, moduliUsed, SetMarks};
 use super::number::place;
 use super::number::same;
 use super::number::widened;
 use circuit::Circuit;
 
-fn no_moduli() -> [u8; 1024]
+pub fn no_moduli() -> [u8; 1024]
     ensures { λ r. ⌜ r ≡ replicate 1024 0 ⌝ }
 {
     [0u8; 1024]
@@ -34,7 +34,7 @@ pub fn moduli(circuit: Circuit) -> [u8; 1024]
     moduli
 }
 
-fn no_marks() -> [u8; 256]
+pub fn no_marks() -> [u8; 256]
     ensures { λ r. ⌜ r ≡ replicate 256 0 ⌝ }
 {
     [0u8; 256]
@@ -57,12 +57,10 @@ pub fn marks(circuit: Circuit) -> [u8; 256]
     marks
 }
 
-// How many moduli the wires have.
-pub fn moduli_used(circuit: Circuit) -> u32
-    requires { ⌜ Room circuit ⌝ }
-    ensures { λ r. ⌜ Counts 256 (moduliUsed (take (circuit .made) (circuit .wires))) r ⌝ }
+// How many marks are set.
+pub fn marks_set(marks: [u8; 256]) -> u32
+    ensures { λ r. ⌜ SetMarks marks r ⌝ }
 {
-    let marks = marks(circuit);
     let mut total = 0;
     let mut p = 0;
     while p < 256 {
@@ -70,4 +68,13 @@ pub fn moduli_used(circuit: Circuit) -> u32
         p += 1;
     }
     total
+}
+
+// How many moduli the wires have.
+pub fn moduli_used(circuit: Circuit) -> u32
+    requires { ⌜ Room circuit ⌝ }
+    ensures { λ r. ⌜ Counts 256 (moduliUsed (take (circuit .made) (circuit .wires))) r ⌝ }
+{
+    let marks = marks(circuit);
+    marks_set(marks)
 }

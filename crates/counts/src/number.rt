@@ -10,6 +10,7 @@ pub fn widened(p: u8) -> u32
     p as u32
 }
 
+// The place of a modulus in a table of all bytes.
 pub fn place(modulus: u8) -> usize
     ensures { λ r. ⌜ (r ≡ modulus) × (r ≤ 255) ⌝ }
 {

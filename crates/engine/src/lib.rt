@@ -1,11 +1,18 @@
 // The C face: each function here is one of include/lupiknam.h. Refused or not, its contract gives the number and place that it
-// answers and every number and byte lent to it. Thin, since a static library proves it again: the calls themselves stand in `calls`
-// and `plain`.
+// answers and every number and byte lent to it. Thin, since a static library proves it again: the calls themselves stand in `calls`,
+// `plain`, `exchange` and `ring`.
 mod answer;
 mod evaluate;
+mod garbled;
+mod party;
 mod read;
 
 pub use answer::Reported;
 pub use evaluate::lupiknam_plain;
+pub use garbled::lupiknam_garble;
+pub use garbled::lupiknam_open;
+pub use party::lupiknam_decode;
+pub use party::lupiknam_externals;
+pub use party::lupiknam_input_keys;
 pub use read::lupiknam_inputs_of;
 pub use read::lupiknam_read;

@@ -1,4 +1,5 @@
 pub mod Cancel
+pub mod Differences
 pub mod Identities
 pub mod InPlace
 pub mod Laws

@@ -73,3 +73,12 @@ pub fn key_of(p: u8, zero: &[u8], e: u8, offset: &[u8], out: &mut [u8])
         i += 1;
     }
 }
+
+// out := a - b: p - 1 times a vector is what takes it off
+pub fn difference(p: u8, a: &[u8], b: &[u8], out: &mut [u8])
+    requires { ⌜ 0 < p ⌝ }
+    requires { ⌜ (length (now a) ≡ length (now b)) × (length (now out) ≡ length (now a)) ⌝ }
+    ensures { λ _. ⌜ now (out .exit) ≡ subV p (now (a .entry)) (now (b .entry)) ⌝ }
+{
+    key_of(p, a, p - 1, b, out);
+}

@@ -7,6 +7,7 @@ mod residues;
 
 pub use keys::add_multiple;
 pub use keys::add_to;
+pub use keys::difference;
 pub use keys::key_of;
 pub use keys::scale;
 pub use keys::sub_from;

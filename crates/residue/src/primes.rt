@@ -66,19 +66,23 @@ pub fn prime_table() -> [u8; 54]
     PRIMES
 }
 
-// The place of the first prime that is not below `x`, or 54 where there is none: as many primes are below `x`.
+// The place of the first prime that is not below `x`, or 54 where there is none: as many primes are below `x`. Found by halving: the
+// entries before `low` are below `x`, and those from `high` on are not.
 pub fn primes_below(x: u8) -> usize
     ensures { λ r. ⌜ r ≡ primesBelow x ⌝ }
 {
     let table = prime_table();
-    let mut i = 0;
-    while i < 54 {
-        if x <= table[i] {
-            return i;
+    let mut low = 0;
+    let mut high = 54;
+    while low < high {
+        let middle = (low + high) / 2;
+        if table[middle] < x {
+            low = middle + 1;
+        } else {
+            high = middle;
         }
-        i += 1;
     }
-    i
+    low
 }
 
 // Whether `p` is a modulus, so a prime: a byte's primes are all in the table.

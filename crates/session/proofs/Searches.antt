@@ -22,7 +22,7 @@ use Rattle.circuit.specs.declared.Circuit.{Circuit}
 use Rattle.circuit.specs.Wires.{wireAt, modulusAt}
 use Rattle.counts.specs.Counts.{Room}
 use Rattle.counts.proofs.Wires.{wire-at, modulus-at}
-use Rattle.session.specs.Session.{partiesChecked, partyChecked, ownerAbsent, ownersChecked, sameNumbers, lengthsChecked, tooLarge, valuesChecked}
+use Rattle.session.specs.Session.{partiesChecked, sessionChecked, partyChecked, ownerAbsent, ownersChecked, sameNumbers, lengthsChecked, tooLarge, valuesChecked}
 use Rattle.session.specs.Held.{wiresIn}
 use Rattle.session.proofs.Sessions.{lengths-passed}
 
@@ -39,6 +39,29 @@ many-parties {n} h = unless-named SessionRange 0 (rw (le-leb 2 n (omega arith), 
 pub parties-met : {n : ℕ} → 2 ≤ n → n ≤ 8 → Meets (partiesChecked n) Accepted
 unfolding partiesChecked
 parties-met {n} h k = unless-met SessionRange 0 (rw (le-leb 2 n h, le-leb n 8 k))
+
+-- key length too: 1 to 128
+no-and : (a : Bool) {b : Bool} → b ≡ false → (a && b) ≡ false
+no-and true e = e
+no-and false e = refl
+
+yes-and : (a : Bool) {b : Bool} → b ≡ true → (a && b) ≡ a
+yes-and true e = e
+yes-and false e = refl
+
+pub short-keys : (n : ℕ) {K : ℕ} → K < 1 → Meets (sessionChecked n K) (Refused SessionRange 0)
+unfolding sessionChecked
+short-keys n {K} h = unless-named SessionRange 0 (no-and (leb 2 n && leb n 8) (rw (lt-leb 1 K h)))
+
+pub long-keys : (n : ℕ) {K : ℕ} → 128 < K → Meets (sessionChecked n K) (Refused SessionRange 0)
+unfolding sessionChecked
+long-keys n {K} h =
+    unless-named SessionRange 0 (no-and (leb 2 n && leb n 8) (rw (le-leb 1 K (omega arith), lt-leb K 128 h)))
+
+pub session-met : (n : ℕ) {K : ℕ} {answer : Answer} → 1 ≤ K → K ≤ 128 → Meets (partiesChecked n) answer → Meets (sessionChecked n K) answer
+unfolding sessionChecked partiesChecked
+session-met n {K} h k m =
+    rw (yes-and (leb 2 n && leb n 8) {b = leb 1 K && leb K 128} (rw (le-leb 1 K h, le-leb K 128 k))) m
 
 -- ---- 12
 

@@ -7,4 +7,5 @@ mod values;
 pub use owners::owners_checked;
 pub use parties::parties_checked;
 pub use parties::party_checked;
+pub use parties::session_checked;
 pub use values::values_checked;

@@ -1,7 +1,7 @@
-// How many parties there are, and which of them is asked for.
+// How many parties there are, how long their keys, and which of them is asked for.
 ghost use mathlib.Core.Path.{_≡_};
 ghost use Rattle.checks.specs.Checked.{Meets};
-ghost use Rattle.session.specs.Session.{partiesChecked, partyChecked};
+ghost use Rattle.session.specs.Session.{partiesChecked, sessionChecked, partyChecked};
 use checks::Answer;
 use checks::Refusal;
 
@@ -15,6 +15,19 @@ pub fn parties_checked(n: u32) -> Answer
         return Answer::Refused(Refusal::SessionRange, 0);
     }
     Answer::Accepted
+}
+
+// Parties and key length. Both have one refusal at one place, so either may be looked at first.
+pub fn session_checked(n: u32, k: u32) -> Answer
+    ensures { λ r. ⌜ Meets (sessionChecked n k) r ⌝ }
+{
+    if k < 1 {
+        return Answer::Refused(Refusal::SessionRange, 0);
+    }
+    if 128 < k {
+        return Answer::Refused(Refusal::SessionRange, 0);
+    }
+    parties_checked(n)
 }
 
 fn place_of(party: u32) -> usize

@@ -1,16 +1,17 @@
 -- Laws of a word's step: what is due after an entry, the moduli of the wires made so far, and what a nest of checks comes to.
 -- Assumes nothing.
-use mathlib.Core.Path.{_≡_, refl, sym, ap, _∙_, subst}
+use mathlib.Core.Path.{_≡_, refl, sym, ap, ap₂, _∙_, subst}
 use mathlib.Core.Logic.{_⊎_, inl, inr, ⊎-elim}
-use mathlib.Core.Bool.{Bool, true, false}
+use mathlib.Core.Bool.{Bool, true, false, true≢false, not, _&&_}
 use mathlib.Core.List.{List}
-use Prim.Native.Nat.{ℕ, zero, suc, _-_, _≤_, _<_}
+use Prim.Native.Nat.{ℕ, zero, suc, _+_, _-_, _≤_, _<_}
 use native.Mathlib.Nat.{eq-or-lt-of-le}
 use native.Mathlib.Omega.{arith}
-use lib.Dec.{eqb}
+use lib.Dec.{eqb, leb, ltb}
 use lib.ListN.{length, take, getD, length-take, List·getD-eq-default}
 use lib.Seq.{length-take-le, getD-take}
-use borrow.Author.Tests.{eqb-true}
+use borrow.Author.Tests.{eqb-true, eq-eqb, ne-eqb, leb-true, le-leb, ltb-true, lt-ltb, le-ltb}
+use Rattle.residue.specs.Prime.{isPrime}
 use Rattle.residue.proofs.Table.{and-left, and-right}
 use Rattle.checks.specs.declared.Refusal.{Refusal}
 use Rattle.checks.specs.declared.Refusal.the-variants.{UnknownWord}
@@ -18,7 +19,7 @@ use Rattle.words.specs.declared.gate.Due.{Due}
 use Rattle.words.specs.declared.gate.Due.the-variants.{Gates, Entries}
 use Rattle.words.specs.declared.gate.Step.{Step}
 use Rattle.words.specs.declared.gate.Step.the-variants.{Refused, Goes}
-use Rattle.words.specs.Bits.{kind, clear}
+use Rattle.words.specs.Bits.{bits, kind, clear, image}
 use Rattle.words.specs.Reading.{check, afterEntry, byKind, readWord}
 use Rattle.words.specs.Entries.{goodEntry}
 
@@ -77,3 +78,99 @@ module _ (moduli : List ℕ) (given at : ℕ) (due : Due) (w : ℕ) where
   good-entry left modulus g e =
       sym (of-kind 7 (eqb-true (kind w) 7 (and-left _ _ g)))
       ∙ rw (e, and-left (clear w 27 8) _ (and-right (eqb (kind w) 7) _ g), and-right (clear w 27 8) _ (and-right (eqb (kind w) 7) _ g))
+
+-- a nest of checks, told check by check: one that holds, and the first that does not
+pub passed : {ok : Bool} (reason : Refusal) {next r : Step} → ok ≡ true → r ≡ next → r ≡ check ok reason next
+unfolding check
+passed {ok = true} reason e f = f
+passed {ok = false} reason e f = absurd (true≢false (sym e))
+
+pub failed : {ok : Bool} {reason : Refusal} (next : Step) → ok ≡ false → Refused reason ≡ check ok reason next
+unfolding check
+failed {ok = true} next e = absurd (true≢false e)
+failed {ok = false} next e = refl
+
+-- a test that was turned round
+pub not-failed : (b : Bool) → not b ≡ true → b ≡ false
+not-failed true e = absurd (true≢false (sym e))
+not-failed false e = refl
+
+pub not-passed : (b : Bool) → not b ≡ false → b ≡ true
+not-passed true e = refl
+not-passed false e = absurd (true≢false e)
+
+-- what two wires are told, in the definition's words
+module _ {made n a b a′ b′ : ℕ} (e : n ≡ made) (f : a ≡ a′) (g : b ≡ b′) where
+  pub two-made : {r : Bool} → r ≡ (ltb a made && ltb b made) → (ltb a′ n && ltb b′ n) ≡ r
+  two-made h = sym (h ∙ ap₂ _&&_ (ap₂ ltb f (sym e)) (ap₂ ltb g (sym e)))
+
+module _ (xs : List ℕ) {a b a′ b′ p q : ℕ} (f : a ≡ a′) (g : b ≡ b′) (h : p ≡ getD xs a 0) (i : q ≡ getD xs b 0) where
+  left-one : getD xs a′ 0 ≡ p
+  left-one = ap (λ (k : ℕ). getD xs k 0) (sym f) ∙ sym h
+
+  right-one : getD xs b′ 0 ≡ q
+  right-one = ap (λ (k : ℕ). getD xs k 0) (sym g) ∙ sym i
+
+  pub two-alike : p ≡ q → eqb (getD xs a′ 0) (getD xs b′ 0) ≡ true
+  two-alike e = eq-eqb _ _ (left-one ∙ e ∙ sym right-one)
+
+  pub two-differ : (p ≡ q → ⊥) → eqb (getD xs a′ 0) (getD xs b′ 0) ≡ false
+  two-differ n = ne-eqb _ _ (λ e. n (sym left-one ∙ e ∙ right-one))
+
+module _ {made n : ℕ} (e : n ≡ made) where
+  pub room-left : made < 1024 → ltb n 1024 ≡ true
+  room-left h = lt-ltb n 1024 (omega arith)
+
+  pub no-room : 1024 ≤ made → ltb n 1024 ≡ false
+  no-room h = le-ltb n 1024 (omega arith)
+
+pub one-made : {made n a a′ : ℕ} {r : Bool} → n ≡ made → a ≡ a′ → r ≡ ltb a made → ltb a′ n ≡ r
+one-made e f h = sym (h ∙ ap₂ ltb f (sym e))
+
+pub two-tests : {ra rb r : Bool} {x y : Bool} → ra ≡ x → rb ≡ y → r ≡ (ra && rb) → (x && y) ≡ r
+two-tests e f h = sym (h ∙ ap₂ _&&_ e f)
+
+pub in-bounds : {k m k′ m′ : ℕ} {r : Bool} → k ≡ k′ → m ≡ m′ → r ≡ (ltb 0 k && ltb k m) → (ltb 0 k′ && ltb k′ m′) ≡ r
+in-bounds e f h = sym (h ∙ ap₂ _&&_ (ap (ltb 0) e) (ap₂ ltb e f))
+
+pub prime-told : {p p′ : ℕ} {r : Bool} → p ≡ p′ → r ≡ isPrime p → isPrime p′ ≡ r
+prime-told e h = sym (h ∙ ap isPrime e)
+
+module _ (xs : List ℕ) {a a′ m : ℕ} (f : a ≡ a′) (h : m ≡ getD xs a 0) where
+  pub modulus-told : m ≡ getD xs a′ 0
+  modulus-told = h ∙ ap (λ (k : ℕ). getD xs k 0) f
+
+  pub is-two : m ≡ 2 → eqb (getD xs a′ 0) 2 ≡ true
+  is-two e = eq-eqb _ _ (sym modulus-told ∙ e)
+
+  pub not-two : (m ≡ 2 → ⊥) → eqb (getD xs a′ 0) 2 ≡ false
+  not-two n = ne-eqb _ _ (λ e. n (modulus-told ∙ e))
+
+module _ {k k′ : ℕ} (limit : ℕ) (e : k ≡ k′) where
+  pub below-limit : k < limit → ltb k′ limit ≡ true
+  below-limit h = lt-ltb k′ limit (omega arith)
+
+  pub past-limit : limit ≤ k → ltb k′ limit ≡ false
+  past-limit h = le-ltb k′ limit (omega arith)
+
+-- two tests that hold together are equal
+alike : {b d : Bool} → (b ≡ true → d ≡ true) → (d ≡ true → b ≡ true) → b ≡ d
+alike {b = true} {d = true} f g = refl
+alike {b = true} {d = false} f g = sym (f refl)
+alike {b = false} {d = true} f g = g refl
+alike {b = false} {d = false} f g = refl
+
+-- the good entries below a modulus are the numbers from 0x7000_0000 on
+module _ (modulus w : ℕ) (byte : modulus < 256) (word : w < 4294967296) where
+  inside : 0x7000_0000 ≤ w → w < 0x7000_0000 + modulus → goodEntry modulus w ≡ true
+  inside h l = rw (eq-eqb (kind w) 7 (omega arith), eq-eqb (bits w 27 8) 0 (omega arith), lt-ltb (image w) modulus (omega arith)) refl
+
+  pub in-range : (leb 0x7000_0000 w && ltb w (0x7000_0000 + modulus)) ≡ goodEntry modulus w
+  in-range =
+      alike
+      (λ e. inside (leb-true 0x7000_0000 w (and-left _ _ e)) (ltb-true w (0x7000_0000 + modulus) (and-right (leb 0x7000_0000 w) _ e)))
+      (λ e.
+      let k : kind w ≡ 7 = eqb-true (kind w) 7 (and-left _ _ e) in
+      let z : bits w 27 8 ≡ 0 = eqb-true (bits w 27 8) 0 (and-left (clear w 27 8) _ (and-right (eqb (kind w) 7) _ e)) in
+      let i : image w < modulus = ltb-true (image w) modulus (and-right (clear w 27 8) _ (and-right (eqb (kind w) 7) _ e)) in
+      rw (le-leb 0x7000_0000 w (omega (arith, k, z, word)), lt-ltb w (0x7000_0000 + modulus) (omega (arith, k, z, i, word))) refl)

@@ -11,8 +11,12 @@ use Rattle.words.specs.Bits.{kind, clear, image, wordAt}
 abbrev pub goodEntry : ℕ → ℕ → Bool
 goodEntry modulus w = eqb (kind w) 7 && (clear w 27 8 && ltb (image w) modulus)
 
+-- the `count` words of a file from an index on are all good entries
+abbrev pub GoodTo : List ℕ → ℕ → ℕ → ℕ → Type 0
+GoodTo file from count modulus = (i : ℕ) → i < count → goodEntry modulus (wordAt file (from + i)) ≡ true
+
 -- of the `count` words of a file from an index on, the first r are good entries, and the next one, if there is one, is not
 pub record GoodEntries (file : List ℕ) (from count modulus r : ℕ) : Type 0 where
   pub most : r ≤ count
-  pub good : (i : ℕ) → i < r → goodEntry modulus (wordAt file (from + i)) ≡ true
+  pub good : GoodTo file from r modulus
   pub stops : r < count → goodEntry modulus (wordAt file (from + r)) ≡ false

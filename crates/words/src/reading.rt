@@ -1,5 +1,6 @@
 // What one word does where it stands. The checks of a word are nested in the order of their numbers, as in the definition.
 ghost use mathlib.Core.Path.{_≡_};
+ghost use mathlib.Core.Bool.{_&&_};
 ghost use Prim.Native.Nat.{_+_, _≤_, _<_, _^_};
 ghost use lib.Dec.{ltb};
 ghost use lib.ListN.{getD, length, take};
@@ -46,6 +47,12 @@ fn is_made(made: usize, wire: u16) -> bool
     number < made
 }
 
+fn both_made(made: usize, a: u16, b: u16) -> bool
+    ensures { λ r. ⌜ r ≡ (ltb a made && ltb b made) ⌝ }
+{
+    both(is_made(made, a), is_made(made, b))
+}
+
 // The modulus of a wire that is made, else 0.
 fn modulus_of(moduli: &[u8], made: usize, wire: u16) -> u8
     requires { ⌜ made ≤ length (now moduli) ⌝ }
@@ -68,121 +75,101 @@ fn head_word(w: u32) -> Step
 fn input_word(w: u32, due: Due, made: usize) -> Step
     ensures { λ r. ⌜ r ≡ inputWord w due made ⌝ }
 {
-    let owner = byte_from(w, 16);
+    if !both(clear(w, 27, 24), clear(w, 15, 8)) {
+        return Step::Refused(Refusal::UnknownWord);
+    }
+    if !input_due(due) {
+        return Step::Refused(Refusal::NotDue);
+    }
     let modulus = byte_from(w, 0);
-    check(
-        both(clear(w, 27, 24), clear(w, 15, 8)),
-        Refusal::UnknownWord,
-        check(
-            input_due(due),
-            Refusal::NotDue,
-            check(
-                residue::is_modulus(modulus),
-                Refusal::NotPrime,
-                check(
-                    owner < 8,
-                    Refusal::OutOfRange,
-                    check(
-                        made < 1024,
-                        Refusal::TooMany,
-                        makes(Gate::Input(Owned { owner }), modulus, Due::Inputs),
-                    ),
-                ),
-            ),
-        ),
-    )
+    if !residue::is_modulus(modulus) {
+        return Step::Refused(Refusal::NotPrime);
+    }
+    let owner = byte_from(w, 16);
+    if 8 <= owner {
+        return Step::Refused(Refusal::OutOfRange);
+    }
+    if 1024 <= made {
+        return Step::Refused(Refusal::TooMany);
+    }
+    makes(Gate::Input(Owned { owner }), modulus, Due::Inputs)
 }
 
 fn scale_word(moduli: &[u8], made: usize, w: u32, due: Due) -> Step
     requires { ⌜ made ≤ length (now moduli) ⌝ }
     ensures { λ r. ⌜ r ≡ scaleWord (take made (now (moduli .entry))) w due ⌝ }
 {
-    let constant = byte_from(w, 10);
+    if !clear(w, 27, 18) {
+        return Step::Refused(Refusal::UnknownWord);
+    }
+    if !gate_due(due) {
+        return Step::Refused(Refusal::NotDue);
+    }
     let a = wire_from(w, 0);
+    if !is_made(made, a) {
+        return Step::Refused(Refusal::NotMade);
+    }
+    let constant = byte_from(w, 10);
     let modulus = modulus_of(moduli, made, a);
-    check(
-        clear(w, 27, 18),
-        Refusal::UnknownWord,
-        check(
-            gate_due(due),
-            Refusal::NotDue,
-            check(
-                is_made(made, a),
-                Refusal::NotMade,
-                check(
-                    both(0 < constant, constant < modulus),
-                    Refusal::OutOfRange,
-                    check(
-                        made < 1024,
-                        Refusal::TooMany,
-                        makes(Gate::Scale(Scaling { constant, a }), modulus, Due::Gates),
-                    ),
-                ),
-            ),
-        ),
-    )
+    if !both(0 < constant, constant < modulus) {
+        return Step::Refused(Refusal::OutOfRange);
+    }
+    if 1024 <= made {
+        return Step::Refused(Refusal::TooMany);
+    }
+    makes(Gate::Scale(Scaling { constant, a }), modulus, Due::Gates)
 }
 
 fn pair_word(moduli: &[u8], made: usize, w: u32, due: Due, gate: Gate) -> Step
     requires { ⌜ made ≤ length (now moduli) ⌝ }
     ensures { λ r. ⌜ r ≡ pairWord (take made (now (moduli .entry))) w due gate ⌝ }
 {
+    if !clear(w, 27, 20) {
+        return Step::Refused(Refusal::UnknownWord);
+    }
+    if !gate_due(due) {
+        return Step::Refused(Refusal::NotDue);
+    }
     let a = wire_from(w, 10);
     let b = wire_from(w, 0);
+    if !both_made(made, a, b) {
+        return Step::Refused(Refusal::NotMade);
+    }
     let modulus = modulus_of(moduli, made, a);
-    check(
-        clear(w, 27, 20),
-        Refusal::UnknownWord,
-        check(
-            gate_due(due),
-            Refusal::NotDue,
-            check(
-                both(is_made(made, a), is_made(made, b)),
-                Refusal::NotMade,
-                check(
-                    modulus == modulus_of(moduli, made, b),
-                    Refusal::ModuliDiffer,
-                    check(
-                        made < 1024,
-                        Refusal::TooMany,
-                        makes(gate, modulus, Due::Gates),
-                    ),
-                ),
-            ),
-        ),
-    )
+    if modulus != modulus_of(moduli, made, b) {
+        return Step::Refused(Refusal::ModuliDiffer);
+    }
+    if 1024 <= made {
+        return Step::Refused(Refusal::TooMany);
+    }
+    makes(gate, modulus, Due::Gates)
 }
 
 fn project_word(moduli: &[u8], made: usize, w: u32, due: Due, at: u32) -> Step
     requires { ⌜ (made ≤ length (now moduli)) × (at + 1 < 2 ^ 32) ⌝ }
     ensures { λ r. ⌜ r ≡ projectWord (take made (now (moduli .entry))) w due at ⌝ }
 {
+    if !clear(w, 27, 18) {
+        return Step::Refused(Refusal::UnknownWord);
+    }
+    if !gate_due(due) {
+        return Step::Refused(Refusal::NotDue);
+    }
     let modulus = byte_from(w, 10);
+    if !residue::is_modulus(modulus) {
+        return Step::Refused(Refusal::NotPrime);
+    }
     let a = wire_from(w, 0);
+    if !is_made(made, a) {
+        return Step::Refused(Refusal::NotMade);
+    }
+    if 1024 <= made {
+        return Step::Refused(Refusal::TooMany);
+    }
     let table = at + 1;
     let values = modulus_of(moduli, made, a);
     let entries = Due::Entries(values, modulus);
-    check(
-        clear(w, 27, 18),
-        Refusal::UnknownWord,
-        check(
-            gate_due(due),
-            Refusal::NotDue,
-            check(
-                residue::is_modulus(modulus),
-                Refusal::NotPrime,
-                check(
-                    is_made(made, a),
-                    Refusal::NotMade,
-                    check(
-                        made < 1024,
-                        Refusal::TooMany,
-                        makes(Gate::Project(Projection { a, table }), modulus, entries),
-                    ),
-                ),
-            ),
-        ),
-    )
+    makes(Gate::Project(Projection { a, table }), modulus, entries)
 }
 
 fn entry_where(w: u32, due: Due) -> Step
@@ -214,28 +201,23 @@ fn select_word(moduli: &[u8], made: usize, w: u32, due: Due) -> Step
     requires { ⌜ made ≤ length (now moduli) ⌝ }
     ensures { λ r. ⌜ r ≡ selectWord (take made (now (moduli .entry))) w due ⌝ }
 {
+    if !clear(w, 27, 10) {
+        return Step::Refused(Refusal::UnknownWord);
+    }
+    if !gate_due(due) {
+        return Step::Refused(Refusal::NotDue);
+    }
     let bit = wire_from(w, 0);
-    check(
-        clear(w, 27, 10),
-        Refusal::UnknownWord,
-        check(
-            gate_due(due),
-            Refusal::NotDue,
-            check(
-                is_made(made, bit),
-                Refusal::NotMade,
-                check(
-                    modulus_of(moduli, made, bit) == 2,
-                    Refusal::ModuliDiffer,
-                    check(
-                        made < 1024,
-                        Refusal::TooMany,
-                        Step::Goes(Due::Branches(bit)),
-                    ),
-                ),
-            ),
-        ),
-    )
+    if !is_made(made, bit) {
+        return Step::Refused(Refusal::NotMade);
+    }
+    if modulus_of(moduli, made, bit) != 2 {
+        return Step::Refused(Refusal::ModuliDiffer);
+    }
+    if 1024 <= made {
+        return Step::Refused(Refusal::TooMany);
+    }
+    Step::Goes(Due::Branches(bit))
 }
 
 fn selection(moduli: &[u8], made: usize, w: u32, bit: u16) -> Step
@@ -244,16 +226,14 @@ fn selection(moduli: &[u8], made: usize, w: u32, bit: u16) -> Step
 {
     let a = wire_from(w, 10);
     let b = wire_from(w, 0);
+    if !both_made(made, a, b) {
+        return Step::Refused(Refusal::NotMade);
+    }
     let modulus = modulus_of(moduli, made, a);
-    check(
-        both(is_made(made, a), is_made(made, b)),
-        Refusal::NotMade,
-        check(
-            modulus == modulus_of(moduli, made, b),
-            Refusal::ModuliDiffer,
-            makes(Gate::Select(Choice { bit, a, b }), modulus, Due::Gates),
-        ),
-    )
+    if modulus != modulus_of(moduli, made, b) {
+        return Step::Refused(Refusal::ModuliDiffer);
+    }
+    makes(Gate::Select(Choice { bit, a, b }), modulus, Due::Gates)
 }
 
 fn branches_where(moduli: &[u8], made: usize, w: u32, due: Due) -> Step
@@ -284,20 +264,20 @@ fn output_word(moduli: &[u8], made: usize, w: u32, due: Due, given: usize) -> St
     requires { ⌜ made ≤ length (now moduli) ⌝ }
     ensures { λ r. ⌜ r ≡ outputWord (take made (now (moduli .entry))) w due given ⌝ }
 {
+    if !clear(w, 27, 10) {
+        return Step::Refused(Refusal::UnknownWord);
+    }
+    if !output_due(due) {
+        return Step::Refused(Refusal::NotDue);
+    }
     let a = wire_from(w, 0);
-    check(
-        clear(w, 27, 10),
-        Refusal::UnknownWord,
-        check(
-            output_due(due),
-            Refusal::NotDue,
-            check(
-                is_made(made, a),
-                Refusal::NotMade,
-                check(given < 256, Refusal::TooMany, Step::Gives(a)),
-            ),
-        ),
-    )
+    if !is_made(made, a) {
+        return Step::Refused(Refusal::NotMade);
+    }
+    if 256 <= given {
+        return Step::Refused(Refusal::TooMany);
+    }
+    Step::Gives(a)
 }
 
 fn end_word(w: u32, due: Due, given: usize) -> Step
@@ -341,6 +321,28 @@ pub fn read_word(moduli: &[u8], made: usize, given: usize, at: u32, due: Due, w:
         9 => branches_word(moduli, made, w, due),
         10 => output_word(moduli, made, w, due, given),
         11 => end_word(w, due, given),
+        _ => Step::Refused(Refusal::UnknownWord),
+    }
+}
+
+// The same for a second reader. A function that one loop calls is compiled into that loop. One that two loops call is called for each
+// word, with its answer in memory, and a usual file then takes half as long again.
+pub fn judge_word(moduli: &[u8], made: usize, given: usize, at: u32, due: Due, word: u32) -> Step
+    requires { ⌜ (made ≤ length (now moduli)) × (at + 1 < 2 ^ 32) ⌝ }
+    ensures { λ r. ⌜ r ≡ readWord (take made (now (moduli .entry))) given at due word ⌝ }
+{
+    match kind(word) {
+        1 => head_word(word),
+        2 => input_word(word, due, made),
+        3 => pair_word(moduli, made, word, due, Gate::Add(pair(word))),
+        4 => scale_word(moduli, made, word, due),
+        5 => pair_word(moduli, made, word, due, Gate::Multiply(pair(word))),
+        6 => project_word(moduli, made, word, due, at),
+        7 => entry_word(word, due),
+        8 => select_word(moduli, made, word, due),
+        9 => branches_word(moduli, made, word, due),
+        10 => output_word(moduli, made, word, due, given),
+        11 => end_word(word, due, given),
         _ => Step::Refused(Refusal::UnknownWord),
     }
 }

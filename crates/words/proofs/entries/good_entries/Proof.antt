@@ -3,6 +3,7 @@
 use mathlib.Core.Path.{_≡_}
 use mathlib.Core.Bool.{true}
 use Prim.Native.Nat.{ℕ, _+_, _-_, _≤_, _<_}
+use native.Mathlib.Nat.{le-refl}
 use native.Mathlib.Omega.{arith}
 use borrow.Author.Needs.{needs}
 use borrow.Author.Count.{below-more}
@@ -25,6 +26,8 @@ good-entries-spec =
     (tie.spec
     Inv-loop
     μ-loop
+    (λ c κs. search needs)
+    (λ c. record { most = le-refl _; good = c .before .all-good .ensures (c .if1 .taken); stops = λ h. absurd (omega (arith, h)) })
     (λ c. (omega arith, λ k h. absurd (omega (arith, h))))
     (λ c. omega arith)
     (λ c κs. omega arith)
@@ -33,19 +36,19 @@ good-entries-spec =
     (λ c. omega arith)
     (λ c.
     let at = c .before .before .before .before in
-    let s = at .before .before in (
+    let s = at .before .before .before .before in (
       omega arith,
       below-more
           (λ k. goodEntry (s .args .modulus) (wordAt (s .args .file .now) (s .args .from + k)) ≡ true)
           (at .loop .i)
           (at .loop .inv .1)
-          (tested (s .args .modulus) (c .before .before .word-at .ensures) (c .before .good-entry .ensures) (c .if1 .taken)),
+          (tested (s .args .modulus) (c .before .before .word-at .ensures) (c .before .good-entry .ensures) (c .if2 .taken)),
     ))
     (λ c.
     let at = c .before .before .before .before in
     record {
       most = omega arith;
       good = at .loop .inv .1;
-      stops = λ _. tested (at .before .before .args .modulus) (c .before .before .word-at .ensures) (c .before .good-entry .ensures) (c .if1 .left);
+      stops = λ _. tested (at .before .before .before .before .args .modulus) (c .before .before .word-at .ensures) (c .before .good-entry .ensures) (c .if2 .left);
     })
     (λ c. record { most = omega arith; good = c .before .loop .inv .1; stops = λ h. absurd (omega (arith, h)) }))

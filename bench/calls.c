@@ -1,0 +1,224 @@
+// Times garbling and one party's opening. Each line is `name ratio=R ns=T rows=N`: T is the time of one call, R that time divided by
+// the time of as many of the baseline's Keccak permutations as its pads need. The two are timed in turn, and medians of many runs are
+// taken, so that a busy machine slows both alike. N is the number of rows garbled or opened.
+//
+// Given circuit files of growing size, the one to time closely first.
+#include "keccak.h"
+#include "lupiknam.h"
+#include <stdio.h>
+#include <stdlib.h>
+#include <string.h>
+#include <time.h>
+
+enum { MOST_RUNS = 31, LEAST_RUNS = 5 };
+
+// a circuit, and a round on it
+static struct {
+    uint8_t *file;
+    size_t file_length;
+    uint32_t wires, inputs, outputs, rows, moduli, records;
+    uint32_t opened_rows;
+    uint32_t n, k;
+    size_t contribution, rows_length, keys_length, wire_keys_length;
+    uint8_t *contributions, *row_bytes, *keys, *wire_keys, *wire_externals;
+    uint8_t values[1024], externals[1024], input_masks[1024], output_masks[256], decoded[256], plain[256];
+} r;
+
+static uint64_t random_state = 1;
+
+static uint8_t random_bit(void) {
+    random_state = random_state * 6364136223846793005u + 1442695040888963407u;
+    return (uint8_t)(random_state >> 63);
+}
+
+static void must(lupiknam_answer answer, const char *call) {
+    if (answer.number != 0) {
+        printf("%s refused %u at %zu\n", call, (unsigned)answer.number, answer.place);
+        exit(1);
+    }
+}
+
+static double now(void) {
+    struct timespec t;
+    clock_gettime(CLOCK_MONOTONIC, &t);
+    return (double)t.tv_sec * 1e9 + (double)t.tv_nsec;
+}
+
+static int ascending(const void *a, const void *b) {
+    double x = *(const double *)a, y = *(const double *)b;
+    return (x > y) - (x < y);
+}
+
+static double median(double *times, int count) {
+    qsort(times, (size_t)count, sizeof *times, ascending);
+    return times[count / 2];
+}
+
+static uint32_t word(size_t at) {
+    const uint8_t *b = r.file + 4 * at;
+    return b[0] | (uint32_t)b[1] << 8 | (uint32_t)b[2] << 16 | (uint32_t)b[3] << 24;
+}
+
+static void *room(size_t bytes) {
+    void *at = malloc(bytes + 1);
+    if (!at)
+        exit(1);
+    return at;
+}
+
+static void read_file(const char *path) {
+    FILE *f = fopen(path, "rb");
+    if (!f) {
+        perror(path);
+        exit(1);
+    }
+    free(r.file);
+    r.file = room(1 << 21);
+    r.file_length = fread(r.file, 1, 1 << 21, f);
+    fclose(f);
+    must(lupiknam_read(r.file, r.file_length, &r.wires, &r.inputs, &r.outputs, &r.rows, &r.moduli, &r.records), "read");
+    r.opened_rows = 0;
+    for (size_t at = 0; 4 * at < r.file_length; at++) {
+        uint32_t kind = word(at) >> 28;
+        // one row of a projection, two of a product and of a select
+        r.opened_rows += kind == 6 ? 1 : kind == 5 || kind == 8 ? 2 : 0;
+    }
+}
+
+// bytes below every modulus, and offsets that are not zero
+static void draw_contributions(void) {
+    for (size_t at = 0; at < r.n * r.contribution; at++)
+        r.contributions[at] = random_bit();
+    for (uint32_t party = 0; party < r.n; party++)
+        for (uint32_t offset = 0; offset < r.moduli; offset++)
+            r.contributions[party * r.contribution + offset * r.k] = 1;
+    for (uint32_t input = 0; input < r.inputs; input++)
+        r.values[input] = random_bit();
+}
+
+static void make_room(uint32_t n, uint32_t k) {
+    r.n = n, r.k = k;
+    r.contribution = (size_t)k * r.moduli + (size_t)(k + 1) * r.records;
+    r.rows_length = (size_t)r.rows * n * k;
+    r.keys_length = (size_t)r.inputs * n * k;
+    r.wire_keys_length = (size_t)r.wires * n * k;
+    free(r.contributions), free(r.row_bytes), free(r.keys), free(r.wire_keys), free(r.wire_externals);
+    r.contributions = room(n * r.contribution);
+    r.row_bytes = room(r.rows_length);
+    r.keys = room(r.keys_length);
+    r.wire_keys = room(r.wire_keys_length);
+    r.wire_externals = room(r.wires);
+    draw_contributions();
+}
+
+static void garble(void) {
+    uint32_t meter = 0;
+    must(lupiknam_garble(r.file, r.file_length, r.n, r.k, r.contributions, r.n * r.contribution, r.row_bytes, r.rows_length,
+                         r.input_masks, r.inputs, r.output_masks, r.outputs, &meter),
+         "garble");
+}
+
+// the external values of one party's inputs, which are the words from 1 on
+static void externals(uint32_t party) {
+    uint8_t values[1024], masks[1024], written[1024];
+    size_t own = 0;
+    for (uint32_t input = 0; input < r.inputs; input++)
+        if ((word(1 + input) >> 16 & 0xFF) == party) {
+            values[own] = r.values[input];
+            masks[own++] = r.input_masks[input];
+        }
+    must(lupiknam_externals(r.file, r.file_length, r.n, party, values, own, masks, own, written, own), "externals");
+    own = 0;
+    for (uint32_t input = 0; input < r.inputs; input++)
+        if ((word(1 + input) >> 16 & 0xFF) == party)
+            r.externals[input] = written[own++];
+}
+
+// one party's keys, put in their places among all
+static void input_keys(uint32_t party) {
+    uint8_t *own = room((size_t)r.inputs * r.k);
+    must(lupiknam_input_keys(r.file, r.file_length, r.n, r.k, party, r.contributions + party * r.contribution, r.contribution, r.externals,
+                             r.inputs, own, (size_t)r.inputs * r.k),
+         "input_keys");
+    for (uint32_t input = 0; input < r.inputs; input++)
+        memcpy(r.keys + ((size_t)input * r.n + party) * r.k, own + (size_t)input * r.k, r.k);
+    free(own);
+}
+
+static void open_at_0(void) {
+    must(lupiknam_open(r.file, r.file_length, r.n, r.k, 0, r.contributions, r.contribution, r.externals, r.inputs, r.keys, r.keys_length,
+                       r.row_bytes, r.rows_length, r.wire_keys, r.wire_keys_length, r.wire_externals, r.wires),
+         "open");
+}
+
+// a round must come out right before its calls are timed
+static void play_round(void) {
+    garble();
+    for (uint32_t party = 0; party < r.n; party++)
+        externals(party);
+    for (uint32_t party = 0; party < r.n; party++)
+        input_keys(party);
+    open_at_0();
+    must(lupiknam_decode(r.file, r.file_length, r.wire_externals, r.wires, r.output_masks, r.outputs, r.decoded, r.outputs), "decode");
+    must(lupiknam_plain(r.file, r.file_length, r.values, r.inputs, r.plain, r.outputs), "plain");
+    if (memcmp(r.decoded, r.plain, r.outputs) != 0) {
+        puts("a round decodes other outputs than the plain circuit's");
+        exit(1);
+    }
+}
+
+// 13 + K bytes and the padding are taken in, 8K bytes given out, 136 at a time; the first block out needs no permutation of its own
+static size_t permutations(uint32_t rows) {
+    size_t pad = (13 + r.k) / 136 + 1 + (8 * r.k + 135) / 136 - 1;
+    return (size_t)rows * r.n * r.n * pad;
+}
+
+static double baseline(size_t count) {
+    static uint64_t state[25];
+    double start = now();
+    for (size_t i = 0; i < count; i++)
+        baseline_permutation(state);
+    return now() - start;
+}
+
+static void time_call(const char *name, void (*call)(void), uint32_t rows) {
+    double times[MOST_RUNS], ratios[MOST_RUNS], spent = 0;
+    size_t needed = permutations(rows);
+    int runs = 0;
+    while (runs < LEAST_RUNS || (runs < MOST_RUNS && spent < 1e9)) {
+        double start = now();
+        call();
+        times[runs] = now() - start;
+        ratios[runs] = times[runs] / baseline(needed);
+        spent += times[runs++];
+    }
+    printf("%s ratio=%.3f ns=%.0f rows=%u\n", name, median(ratios, runs), median(times, runs), (unsigned)rows);
+    fflush(stdout);
+}
+
+static void both(const char *what, uint32_t n, uint32_t k) {
+    char name[60];
+    make_room(n, k);
+    play_round();
+    snprintf(name, sizeof name, "garble%s-n%u-k%u", what, (unsigned)n, (unsigned)k);
+    time_call(name, garble, r.rows);
+    snprintf(name, sizeof name, "open%s-n%u-k%u", what, (unsigned)n, (unsigned)k);
+    time_call(name, open_at_0, r.opened_rows);
+}
+
+int main(int count, char **files) {
+    if (count < 2)
+        return 2;
+    read_file(files[1]);
+    for (size_t at = 0; at < 6; at++)
+        both("", (uint32_t[]){3, 5, 8}[at / 2], (uint32_t[]){16, 128}[at % 2]);
+    // growth with the number of parties; the inputs have three owners
+    for (uint32_t n = 3; n <= 8; n++)
+        both("-by-n", n, 16);
+    // growth with the rows
+    for (int at = 1; at < count; at++) {
+        read_file(files[at]);
+        both("-by-rows", 3, 16);
+    }
+    return 0;
+}

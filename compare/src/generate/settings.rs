@@ -1,0 +1,141 @@
+//! Settings of whole rounds: a circuit, the parties, their contributions and the inputs' values.
+
+use super::circuits::{accepted, at_limit};
+use super::round_sweep;
+use crate::circuit::{Circuit, read};
+use crate::contribution::byte_moduli;
+use crate::rng::Rng;
+use crate::word;
+
+/// All that a round starts from.
+#[derive(Clone, Debug)]
+pub struct Setting {
+    pub file: Vec<u8>,
+    pub n: u32,
+    pub k: u32,
+    /// All parties' contributions, one after another.
+    pub contributions: Vec<u8>,
+    pub values: Vec<u8>,
+}
+
+impl Setting {
+    /// Draws contributions and values for an accepted circuit.
+    pub fn new(file: Vec<u8>, n: u32, k: u32, rng: &mut Rng) -> Self {
+        let circuit = read(&file).expect("an accepted circuit");
+        let contributions = contributions(&circuit, n as usize, k as usize, rng);
+        let moduli: Vec<u8> = circuit.input_moduli().collect();
+        let values = below(&moduli, rng);
+        Setting {
+            contributions,
+            values,
+            n,
+            k,
+            file,
+        }
+    }
+
+    /// About how many permutations its garbling takes.
+    pub fn cost(&self) -> u64 {
+        let circuit = read(&self.file).expect("an accepted circuit");
+        cost(circuit.counts().rows, self.n, self.k)
+    }
+}
+
+/// A sender's pad takes a permutation for each 136 bytes squeezed, and one more where its input
+/// fills a block.
+pub fn cost(rows: u32, n: u32, k: u32) -> u64 {
+    let pad = k.div_ceil(17) + (13 + k) / 136;
+    u64::from(rows) * u64::from(n * n * pad)
+}
+
+/// The setting of one case of a run: first the sweep, then random ones.
+pub fn setting(case: u64, rng: &mut Rng) -> Setting {
+    match round_sweep::circuit(case, rng) {
+        Some((words, n, k)) => {
+            let file = word::file(&with_owners(words, n, rng));
+            Setting::new(file, n, k, rng)
+        }
+        None => random(rng),
+    }
+}
+
+/// A setting of any sort, whose garbling takes no more permutations than a limit that is mostly
+/// small.
+fn random(rng: &mut Rng) -> Setting {
+    let limit = match rng.below(400) {
+        0 => 600_000,
+        1..=9 => 60_000,
+        _ => 5_000,
+    };
+    let words = if rng.once_in(60) {
+        at_limit(rng)
+    } else {
+        accepted(rng)
+    };
+    let rows = read(&word::file(&words)).map_or(0, |circuit| circuit.counts().rows);
+    let (mut n, mut k) = (parties(rng), key_length(rng));
+    if cost(rows, n, k) > limit {
+        k = rng.between(1, 4) as u32;
+    }
+    if cost(rows, n, k) > limit {
+        n = 2;
+    }
+    let file = word::file(&with_owners(words, n, rng));
+    Setting::new(file, n, k, rng)
+}
+
+fn parties(rng: &mut Rng) -> u32 {
+    match rng.below(4) {
+        0 => rng.between(2, 8) as u32,
+        _ => rng.between(2, 4) as u32,
+    }
+}
+
+/// Mostly short; where a pad's input or output fills a block is likelier than elsewhere.
+fn key_length(rng: &mut Rng) -> u32 {
+    match rng.below(8) {
+        0 => rng.pick(&[16, 17, 18, 34, 35, 122, 123, 124, 127, 128]),
+        1 => rng.between(1, 128) as u32,
+        _ => rng.between(1, 5) as u32,
+    }
+}
+
+/// The circuit with its inputs' owners drawn anew among n parties.
+fn with_owners(mut words: Vec<u32>, n: u32, rng: &mut Rng) -> Vec<u32> {
+    for word in words.iter_mut().filter(|word| **word >> 28 == 2) {
+        *word = word::input(rng.below(n as usize) as u32, *word & 0xFF);
+    }
+    words
+}
+
+/// Contributions with no fault.
+pub fn contributions(circuit: &Circuit, n: usize, k: usize, rng: &mut Rng) -> Vec<u8> {
+    let moduli = byte_moduli(circuit, k);
+    let offsets = k * circuit.moduli().len();
+    let mut all = Vec::with_capacity(n * moduli.len());
+    for _ in 0..n {
+        let mut own = below(&moduli, rng);
+        for (offset, p) in own[..offsets].chunks_mut(k).zip(circuit.moduli()) {
+            // An offset with a single byte that is not zero is likelier than by chance.
+            if rng.once_in(4) {
+                offset.fill(0);
+            }
+            if offset.iter().all(|byte| *byte == 0) {
+                offset[rng.below(k)] = rng.between(1, usize::from(p) - 1) as u8;
+            }
+        }
+        all.extend(own);
+    }
+    all
+}
+
+/// A byte below each modulus; now and then all are the lowest or the highest.
+pub fn below(moduli: &[u8], rng: &mut Rng) -> Vec<u8> {
+    let manner = rng.below(20);
+    let mut byte = |p: &u8| match manner {
+        0 => 0,
+        1 => p - 1,
+        _ => rng.below(usize::from(*p)) as u8,
+    };
+    moduli.iter().map(&mut byte).collect()
+}

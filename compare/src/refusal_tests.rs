@@ -1,0 +1,159 @@
+//! The order of the refusals of garbling and opening.
+
+use crate::circuit::{Refusal, read};
+use crate::contribution::length;
+use crate::garble::{Written, garble};
+use crate::generate::settings::Setting;
+use crate::inputs::{externals, input_keys};
+use crate::open::{Given, open};
+use crate::word::{self, *};
+
+/// Two parties and keys of two bytes: a wire of modulus 2 and one of modulus 5, multiplied.
+fn setting() -> Setting {
+    let words = [
+        HEAD,
+        input(0, 2),
+        input(1, 5),
+        multiply(1, 1),
+        output(2),
+        END,
+    ];
+    let own = [
+        1, 0, 2, 1, // offsets
+        1, 0, 1, 3, 4, 2, 0, 1, 2, 3, 4, 1, // bit; wire 1; product
+    ];
+    Setting {
+        file: word::file(&words),
+        n: 2,
+        k: 2,
+        contributions: own.repeat(2),
+        values: vec![1, 3],
+    }
+}
+
+/// The bytes of a contribution, and where the offset of modulus 5 starts in it.
+const EACH: usize = 16;
+const OFFSET_5: usize = 2;
+
+/// Garbles with this meter; the rows, and the meter afterwards.
+fn garbled(setting: &Setting, before: u32) -> Result<(Vec<u8>, u32), (u32, usize)> {
+    let mut rows = vec![7; 10 * 4];
+    let mut masks = [7; 3];
+    let (input_masks, output_masks) = masks.split_at_mut(2);
+    let written = Written {
+        rows: &mut rows,
+        input_masks,
+        output_masks,
+    };
+    let mut meter = before;
+    let numbers = (setting.n, setting.k);
+    let contributions = &setting.contributions;
+    match garble(&setting.file, numbers, contributions, written, &mut meter) {
+        Ok(()) => Ok((rows, meter)),
+        Err(Refusal { number, place }) => {
+            assert_eq!((meter, masks), (before, [7; 3]));
+            assert_eq!(rows, [7; 40]);
+            Err((number, place))
+        }
+    }
+}
+
+#[test]
+fn the_meter_has_a_limit() {
+    assert_eq!(length(&read(&setting().file).unwrap(), 2), EACH);
+    let (_, meter) = garbled(&setting(), u32::MAX - 10).unwrap();
+    assert_eq!(meter, u32::MAX);
+    assert_eq!(garbled(&setting(), u32::MAX - 9), Err((21, 0)));
+}
+
+#[test]
+fn garbling_judges_bytes_then_offsets_then_the_meter() {
+    let mut setting = setting();
+    setting.contributions[OFFSET_5..][..2].fill(0);
+    assert_eq!(garbled(&setting, u32::MAX), Err((17, 5)));
+    // The lowest modulus, though of a later party.
+    setting.contributions[EACH..][..2].fill(0);
+    assert_eq!(garbled(&setting, u32::MAX), Err((17, 2)));
+    // A byte of the last party before any offset.
+    setting.contributions[EACH + 4] = 2;
+    assert_eq!(garbled(&setting, u32::MAX), Err((16, EACH + 4)));
+    setting.contributions.pop();
+    assert_eq!(garbled(&setting, u32::MAX), Err((14, 0)));
+    setting.n = 1;
+    assert_eq!(garbled(&setting, u32::MAX), Err((11, 0)));
+}
+
+/// What party 0 opens with, in a round with no fault.
+struct Opening {
+    setting: Setting,
+    externals: Vec<u8>,
+    keys: Vec<u8>,
+    rows: Vec<u8>,
+}
+
+fn opening() -> Opening {
+    let setting = setting();
+    let (rows, _) = garbled(&setting, 0).unwrap();
+    // Both parties have the same shares: masks 1 + 1 and 2 + 2.
+    let mut all = vec![0; 2];
+    for (party, mask) in [(0, 0), (1, 4)] {
+        let at = party as usize;
+        let (value, external) = (&setting.values[at..][..1], &mut all[at..][..1]);
+        externals(&setting.file, (2, party), value, &[mask], external).unwrap();
+    }
+    let mut own = vec![0; 4];
+    let contribution = &setting.contributions[..EACH];
+    input_keys(&setting.file, (2, 2, 0), contribution, &all, &mut own).unwrap();
+    // The other party's keys are the same, as its contribution is.
+    let keys = [&own[..2], &own[..2], &own[2..], &own[2..]].concat();
+    Opening {
+        setting,
+        externals: all,
+        keys,
+        rows,
+    }
+}
+
+/// Opens; the answer, and what the first byte of each written buffer then holds.
+fn opened(opening: &Opening) -> (Result<(), (u32, usize)>, [u8; 2]) {
+    let given = Given {
+        contribution: &opening.setting.contributions[..EACH],
+        externals: &opening.externals,
+        keys: &opening.keys,
+        rows: &opening.rows,
+    };
+    let (mut keys, mut externals) = (vec![9; 3 * 4], vec![9; 3]);
+    let file = &opening.setting.file;
+    let result = open(file, (2, 2, 0), &given, &mut keys, &mut externals);
+    let result = result.map_err(|refusal| (refusal.number, refusal.place));
+    (result, [keys[0], externals[0]])
+}
+
+#[test]
+fn opening_judges_bytes_then_own_keys_then_gates() {
+    let mut opening = opening();
+    assert_eq!(opened(&opening).0, Ok(()));
+    // Every row changed: no multiplier fits, and what is written is zero.
+    opening
+        .rows
+        .iter_mut()
+        .for_each(|byte| *byte = (*byte + 1) % 5);
+    assert_eq!(opened(&opening), (Err((20, 2)), [0, 0]));
+    // Another party's key is no fault by itself.
+    opening.keys[6] = (opening.keys[6] + 1) % 5;
+    assert_eq!(opened(&opening), (Err((20, 2)), [0, 0]));
+    opening.keys[4] = (opening.keys[4] + 1) % 5;
+    assert_eq!(opened(&opening), (Err((19, 1)), [9, 9]));
+    opening.rows[3] = 5;
+    assert_eq!(opened(&opening), (Err((18, 3)), [9, 9]));
+    opening.keys[7] = 5;
+    assert_eq!(opened(&opening), (Err((18, 7)), [9, 9]));
+    opening.setting.contributions[OFFSET_5..][..2].fill(0);
+    assert_eq!(opened(&opening), (Err((17, 5)), [9, 9]));
+    opening.setting.contributions[EACH - 1] = 5;
+    assert_eq!(opened(&opening), (Err((16, EACH - 1)), [9, 9]));
+    opening.externals[1] = 5;
+    assert_eq!(opened(&opening), (Err((15, 1)), [9, 9]));
+    opening.keys.pop();
+    assert_eq!(opened(&opening), (Err((14, 0)), [9, 9]));
+}

@@ -1,0 +1,152 @@
+//! A whole round: each call takes what the calls before it wrote.
+
+use super::step::{Name, Step};
+use crate::call::{ACCEPTED, After, Call};
+use crate::{engine, second};
+use compare::circuit::{Circuit, read};
+use compare::generate::settings::Setting;
+use compare::rng::Rng;
+
+/// A call of both programs: what this program answered, and what the engine did.
+#[derive(Clone)]
+pub struct Made {
+    pub ours: After,
+    pub engines: After,
+}
+
+/// The calls of a round, and whether every party decoded what plain evaluation gives.
+pub struct Round {
+    pub steps: Vec<Step>,
+    pub right: bool,
+}
+
+/// Plays a round; `make` makes a call of both programs.
+pub fn play(setting: &Setting, rng: &mut Rng, make: &mut dyn FnMut(&Step) -> Made) -> Round {
+    let circuit = read(&setting.file).expect("an accepted circuit");
+    let mut player = Player {
+        setting,
+        circuit: &circuit,
+        rng,
+        make,
+        steps: Vec::new(),
+        accepted: true,
+    };
+    let right = player.round();
+    Round {
+        steps: player.steps,
+        right,
+    }
+}
+
+struct Player<'p> {
+    setting: &'p Setting,
+    circuit: &'p Circuit<'p>,
+    rng: &'p mut Rng,
+    make: &'p mut dyn FnMut(&Step) -> Made,
+    steps: Vec<Step>,
+    accepted: bool,
+}
+
+impl Player<'_> {
+    /// Whether the engine accepted every call and every party decoded the plain outputs.
+    fn round(&mut self) -> bool {
+        let parties = 0..self.setting.n;
+        let garbled = self.written(Name::Garble, 0, vec![self.setting.contributions.clone()]);
+        let [rows, input_masks, output_masks] = &garbled[..] else {
+            unreachable!("garbling writes three buffers");
+        };
+        let externals = self.externals(input_masks);
+        let keys = self.input_keys(&externals);
+        let plain = self.plain();
+        let mut right = true;
+        for party in parties {
+            let own = self.contribution(party);
+            let given = vec![own, externals.clone(), keys.clone(), rows.clone()];
+            let opened = self.written(Name::Open, party, given);
+            let given = vec![opened[1].clone(), output_masks.clone()];
+            let decoded = self.written(Name::Decode, party, given);
+            right &= plain.as_ref() == Some(&decoded[0]);
+        }
+        right && self.accepted
+    }
+
+    /// Makes a call of both programs, and gives what the engine wrote.
+    fn written(&mut self, name: Name, party: u32, given: Vec<Vec<u8>>) -> Vec<Vec<u8>> {
+        let Setting { n, k, .. } = *self.setting;
+        let lengths = name.lengths(self.circuit, n as usize, k as usize, party);
+        let mut buffers = given;
+        // What is to be written holds anything before.
+        for length in &lengths[buffers.len()..] {
+            buffers.push(self.rng.bytes(*length));
+        }
+        let rows = self.circuit.counts().rows;
+        let step = Step {
+            name,
+            file: self.setting.file.clone(),
+            n,
+            k,
+            party,
+            meter: self.rng.pick(&[0, 1, 1 << 31, u32::MAX - rows]),
+            buffers,
+            nulls: self.rng.once_in(2),
+        };
+        let made = (self.make)(&step);
+        self.accepted &= made.engines.answer == ACCEPTED;
+        self.steps.push(step);
+        let written = made.engines.loan.buffers.iter().skip(name.read_only());
+        written.map(|buffer| buffer.content().to_vec()).collect()
+    }
+
+    fn contribution(&self, party: u32) -> Vec<u8> {
+        let all = &self.setting.contributions;
+        let each = all.len() / self.setting.n as usize;
+        all[party as usize * each..][..each].to_vec()
+    }
+
+    /// The external values of all inputs, from each party's own.
+    fn externals(&mut self, input_masks: &[u8]) -> Vec<u8> {
+        let owners: Vec<u8> = self.circuit.owners().collect();
+        let mut externals = vec![0; owners.len()];
+        for party in 0..self.setting.n {
+            let own: Vec<usize> = (0..owners.len())
+                .filter(|wire| u32::from(owners[*wire]) == party)
+                .collect();
+            let of = |all: &[u8]| own.iter().map(|wire| all[*wire]).collect();
+            let given = vec![of(&self.setting.values), of(input_masks)];
+            let written = self.written(Name::Externals, party, given);
+            for (wire, external) in own.iter().zip(&written[0]) {
+                externals[*wire] = *external;
+            }
+        }
+        externals
+    }
+
+    /// All parties' input keys, by input and then by party.
+    fn input_keys(&mut self, externals: &[u8]) -> Vec<u8> {
+        let mut by_party = Vec::new();
+        for party in 0..self.setting.n {
+            let given = vec![self.contribution(party), externals.to_vec()];
+            by_party.extend(self.written(Name::InputKeys, party, given));
+        }
+        let k = self.setting.k as usize;
+        let mut keys = Vec::new();
+        for input in 0..self.circuit.inputs {
+            for own in &by_party {
+                keys.extend(&own[input * k..][..k]);
+            }
+        }
+        keys
+    }
+
+    /// The plain outputs, if both programs give the same.
+    fn plain(&self) -> Option<Vec<u8>> {
+        let call = Call::Plain {
+            values: self.setting.values.clone(),
+            outputs: self.circuit.outputs.len(),
+        };
+        let ours = second::run(&self.setting.file, &call);
+        let engines = engine::run(&self.setting.file, &call);
+        let outputs = || engines.loan.buffers[1].content().to_vec();
+        (ours == engines).then(outputs)
+    }
+}

@@ -1,0 +1,73 @@
+//! A difference between the two programs, printed so that it can be looked into.
+
+use super::chain::Made;
+use super::step::Step;
+use crate::call::After;
+use crate::hex;
+
+/// A longer file is not printed, but can be made again.
+const SHOWN_BYTES: usize = 1200;
+
+pub struct Difference {
+    pub case: u64,
+    pub step: Step,
+    pub made: Made,
+}
+
+impl Difference {
+    /// The call's name and both answers' numbers: differences alike in these mostly have one cause.
+    pub fn sort(&self) -> (&'static str, u32, u32) {
+        let Made { ours, engines } = &self.made;
+        let name = self.step.name.text();
+        (name, ours.answer.number, engines.answer.number)
+    }
+
+    /// How much there is to read of it.
+    pub fn size(&self) -> usize {
+        let buffers = self.step.buffers.iter().map(Vec::len).sum::<usize>();
+        self.step.file.len() + buffers
+    }
+
+    pub fn print(&self, seed: u64) {
+        let Made { ours, engines } = &self.made;
+        println!("difference in: {}", self.step);
+        println!("  second: {}", ours.answer);
+        println!("  engine: {}", engines.answer);
+        self.print_buffers();
+        let length = self.step.file.len();
+        println!(
+            "  file of {length} bytes, from: compare round {seed} {}",
+            self.case
+        );
+        if length <= SHOWN_BYTES {
+            print!("{}", hex::text_of(&self.step.file));
+        }
+    }
+
+    /// The lengths of all buffers, and where those of the two programs part.
+    fn print_buffers(&self) {
+        let Made { ours, engines } = &self.made;
+        if ours.loan.numbers != engines.loan.numbers {
+            let (one, other) = (ours.loan.numbers[0], engines.loan.numbers[0]);
+            println!("  meter: second {one}, engine {other}");
+        }
+        if ours.loan.file != engines.loan.file {
+            println!("  the engine wrote into the file or around it");
+        }
+        for (at, name) in self.step.name.buffers().iter().enumerate() {
+            let before = &self.step.buffers[at];
+            print!("  {name}: {} bytes", before.len());
+            let content = |after: &After| after.loan.buffers[at].content().to_vec();
+            let (one, other) = (content(ours), content(engines));
+            let parting = (0..one.len()).find(|byte| one[*byte] != other[*byte]);
+            if let Some(byte) = parting {
+                let count = (0..one.len()).filter(|at| one[*at] != other[*at]).count();
+                print!(", {count} differ, from {byte} on: before {}", before[byte]);
+                print!(", second {}, engine {}", one[byte], other[byte]);
+            } else if ours.loan.buffers[at] != engines.loan.buffers[at] {
+                print!(", the engine wrote around it");
+            }
+            println!();
+        }
+    }
+}

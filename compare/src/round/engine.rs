@@ -1,0 +1,176 @@
+//! The calls of a round as the engine answers them, across its C face.
+
+use super::step::{Name, Step};
+use crate::call::{After, Answer, Lent, Loan};
+
+#[link(name = "engine", kind = "static")]
+unsafe extern "C" {
+    fn lupiknam_garble(
+        file: *const u8,
+        file_length: usize,
+        n: u32,
+        k: u32,
+        contributions: *const u8,
+        contributions_length: usize,
+        rows: *mut u8,
+        rows_length: usize,
+        input_masks: *mut u8,
+        input_masks_length: usize,
+        output_masks: *mut u8,
+        output_masks_length: usize,
+        meter: *mut u32,
+    ) -> Answer;
+
+    fn lupiknam_externals(
+        file: *const u8,
+        file_length: usize,
+        n: u32,
+        party: u32,
+        values: *const u8,
+        values_length: usize,
+        masks: *const u8,
+        masks_length: usize,
+        externals: *mut u8,
+        externals_length: usize,
+    ) -> Answer;
+
+    fn lupiknam_input_keys(
+        file: *const u8,
+        file_length: usize,
+        n: u32,
+        k: u32,
+        party: u32,
+        contribution: *const u8,
+        contribution_length: usize,
+        externals: *const u8,
+        externals_length: usize,
+        keys: *mut u8,
+        keys_length: usize,
+    ) -> Answer;
+
+    fn lupiknam_open(
+        file: *const u8,
+        file_length: usize,
+        n: u32,
+        k: u32,
+        party: u32,
+        contribution: *const u8,
+        contribution_length: usize,
+        externals: *const u8,
+        externals_length: usize,
+        keys: *const u8,
+        keys_length: usize,
+        rows: *const u8,
+        rows_length: usize,
+        wire_keys: *mut u8,
+        wire_keys_length: usize,
+        wire_externals: *mut u8,
+        wire_externals_length: usize,
+    ) -> Answer;
+
+    fn lupiknam_decode(
+        file: *const u8,
+        file_length: usize,
+        externals: *const u8,
+        externals_length: usize,
+        masks: *const u8,
+        masks_length: usize,
+        outputs: *mut u8,
+        outputs_length: usize,
+    ) -> Answer;
+}
+
+/// Makes a call of the engine.
+pub fn run(step: &Step) -> After {
+    let mut loan = step.loan();
+    let answer = match step.name {
+        Name::Garble => garble(step, &mut loan),
+        Name::Externals => externals(step, &mut loan),
+        Name::InputKeys => input_keys(step, &mut loan),
+        Name::Open => open(step, &mut loan),
+        Name::Decode => decode(&mut loan),
+    };
+    After { answer, loan }
+}
+
+/// The pointers and lengths of all buffers, of which there are as many as asked for.
+fn pointers<const N: usize>(buffers: &mut [Lent]) -> [(*mut u8, usize); N] {
+    let all: Vec<_> = buffers.iter_mut().map(Lent::pointer).collect();
+    all.try_into().expect("each call is lent its own number")
+}
+
+// SAFETY, of all calls below: the slices and the number are live for the call and do not overlap.
+
+fn garble(step: &Step, loan: &mut Loan) -> Answer {
+    let (file, size) = loan.file.pointer();
+    let [
+        (contributions, c),
+        (rows, r),
+        (input_masks, i),
+        (output_masks, o),
+    ] = pointers(&mut loan.buffers);
+    let meter = &mut loan.numbers[0];
+    unsafe {
+        lupiknam_garble(
+            file,
+            size,
+            step.n,
+            step.k,
+            contributions,
+            c,
+            rows,
+            r,
+            input_masks,
+            i,
+            output_masks,
+            o,
+            meter,
+        )
+    }
+}
+
+fn externals(step: &Step, loan: &mut Loan) -> Answer {
+    let (file, size) = loan.file.pointer();
+    let [(values, v), (masks, m), (externals, e)] = pointers(&mut loan.buffers);
+    let Step { n, party, .. } = *step;
+    unsafe { lupiknam_externals(file, size, n, party, values, v, masks, m, externals, e) }
+}
+
+fn input_keys(step: &Step, loan: &mut Loan) -> Answer {
+    let (file, size) = loan.file.pointer();
+    let [(own, c), (externals, e), (keys, k)] = pointers(&mut loan.buffers);
+    let Step { n, party, .. } = *step;
+    unsafe { lupiknam_input_keys(file, size, n, step.k, party, own, c, externals, e, keys, k) }
+}
+
+fn open(step: &Step, loan: &mut Loan) -> Answer {
+    let (file, size) = loan.file.pointer();
+    let [own, externals, keys, rows, wire_keys, wire_externals] = pointers(&mut loan.buffers);
+    unsafe {
+        lupiknam_open(
+            file,
+            size,
+            step.n,
+            step.k,
+            step.party,
+            own.0,
+            own.1,
+            externals.0,
+            externals.1,
+            keys.0,
+            keys.1,
+            rows.0,
+            rows.1,
+            wire_keys.0,
+            wire_keys.1,
+            wire_externals.0,
+            wire_externals.1,
+        )
+    }
+}
+
+fn decode(loan: &mut Loan) -> Answer {
+    let (file, size) = loan.file.pointer();
+    let [(externals, e), (masks, m), (outputs, o)] = pointers(&mut loan.buffers);
+    unsafe { lupiknam_decode(file, size, externals, e, masks, m, outputs, o) }
+}

@@ -1,0 +1,14 @@
+//! The calls of a round, made of both programs: whole rounds, and calls with faults.
+
+mod chain;
+mod difference;
+mod engine;
+mod faults;
+mod loose;
+mod places;
+mod run;
+mod second;
+mod step;
+mod tally;
+
+pub use run::{one, run};

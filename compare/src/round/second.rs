@@ -1,0 +1,72 @@
+//! The calls of a round as this program answers them.
+
+use super::step::{Name, Step};
+use crate::call::{ACCEPTED, After, Answer, Lent, Loan};
+use compare::circuit::Refusal;
+use compare::decode::decode;
+use compare::garble::{Written, garble};
+use compare::inputs::{externals, input_keys};
+use compare::open::{Given, open};
+
+/// Makes a call of this program.
+pub fn run(step: &Step) -> After {
+    let mut loan = step.loan();
+    let answer = match made(step, &mut loan) {
+        Ok(()) => ACCEPTED,
+        Err(Refusal { number, place }) => Answer { number, place },
+    };
+    After { answer, loan }
+}
+
+fn made(step: &Step, loan: &mut Loan) -> Result<(), Refusal> {
+    let Step { n, k, party, .. } = *step;
+    let file = loan.file.content();
+    match (step.name, &mut loan.buffers[..]) {
+        (Name::Garble, [contributions, rows, input_masks, output_masks]) => {
+            let written = Written {
+                rows: rows.content_mut(),
+                input_masks: input_masks.content_mut(),
+                output_masks: output_masks.content_mut(),
+            };
+            let meter = &mut loan.numbers[0];
+            garble(file, (n, k), contributions.content(), written, meter)
+        }
+        (Name::Externals, [values, masks, written]) => externals(
+            file,
+            (n, party),
+            values.content(),
+            masks.content(),
+            written.content_mut(),
+        ),
+        (Name::InputKeys, [contribution, externals, keys]) => input_keys(
+            file,
+            (n, k, party),
+            contribution.content(),
+            externals.content(),
+            keys.content_mut(),
+        ),
+        (Name::Open, [given @ .., wire_keys, wire_externals]) => open(
+            file,
+            (n, k, party),
+            &given_to_open(given),
+            wire_keys.content_mut(),
+            wire_externals.content_mut(),
+        ),
+        (Name::Decode, [externals, masks, outputs]) => decode(
+            file,
+            externals.content(),
+            masks.content(),
+            outputs.content_mut(),
+        ),
+        _ => unreachable!("each call is lent its own number of buffers"),
+    }
+}
+
+fn given_to_open(lent: &[Lent]) -> Given<'_> {
+    Given {
+        contribution: lent[0].content(),
+        externals: lent[1].content(),
+        keys: lent[2].content(),
+        rows: lent[3].content(),
+    }
+}

@@ -1,0 +1,111 @@
+//! What a run has met.
+
+use super::chain::Made;
+use super::difference::Difference;
+use super::places::agree;
+use super::step::{NAMES, Name, Step};
+use std::collections::BTreeMap;
+use std::process::ExitCode;
+
+/// How many differences are printed; the others are counted.
+const SHOWN: usize = 5;
+
+/// A run of this many cases must meet every refusal that each call can give.
+const THOROUGH: u64 = 1000;
+
+#[derive(Default)]
+pub struct Tally {
+    pub calls: u64,
+    pub differences: u64,
+    pub rounds: u64,
+    pub wrong_rounds: u64,
+    passed: u64,
+    failed: u64,
+    /// How often each call gave each number, 0 where it was accepted.
+    met: BTreeMap<(Name, u32), u64>,
+    /// Of each sort of difference, the smallest one.
+    smallest: BTreeMap<(&'static str, u32, u32), Difference>,
+}
+
+impl Tally {
+    /// Counts a call, and keeps it if the two programs differ.
+    pub fn count(&mut self, case: u64, step: &Step, made: &Made) {
+        self.calls += 1;
+        let answer = (step.name, made.ours.answer.number);
+        *self.met.entry(answer).or_default() += 1;
+        if agree(step, made) {
+            return;
+        }
+        self.differences += 1;
+        let difference = Difference {
+            case,
+            step: step.clone(),
+            made: made.clone(),
+        };
+        let larger = |kept: &Difference| kept.size() > difference.size();
+        let sort = difference.sort();
+        if self.smallest.get(&sort).is_none_or(larger) {
+            self.smallest.insert(sort, difference);
+        }
+    }
+
+    /// Counts a case: it passed if nothing went wrong since the tally stood so.
+    pub fn close_case(&mut self, before: u64) {
+        if self.wrong() == before {
+            self.passed += 1;
+        } else {
+            self.failed += 1;
+        }
+    }
+
+    /// All that went wrong so far.
+    pub fn wrong(&self) -> u64 {
+        self.differences + self.wrong_rounds
+    }
+
+    pub fn print_differences(&self, seed: u64) {
+        for difference in self.smallest.values().take(SHOWN) {
+            difference.print(seed);
+        }
+    }
+
+    /// Prints the counts; the run failed if anything differs, or if a long run missed a refusal.
+    pub fn report(mut self) -> ExitCode {
+        let count = self.passed + self.failed;
+        let mut missed = Vec::new();
+        for name in NAMES {
+            missed.extend(self.line(name));
+        }
+        println!(
+            "{} rounds, {} of them wrong; {} calls, {} differences",
+            self.rounds, self.wrong_rounds, self.calls, self.differences
+        );
+        if count >= THOROUGH && !missed.is_empty() {
+            println!("never met: {}", missed.join(", "));
+            self.failed += 1;
+        }
+        println!("{} passed, {} failed", self.passed, self.failed);
+        if self.failed > 0 {
+            ExitCode::FAILURE
+        } else {
+            ExitCode::SUCCESS
+        }
+    }
+
+    /// Prints how often a call gave each number, and gives those it never gave.
+    fn line(&self, name: Name) -> Vec<String> {
+        let times = |number: u32| self.met.get(&(name, number)).copied().unwrap_or_default();
+        print!("{}: accepted {}; refused", name.text(), times(0));
+        let file: u64 = (1..=10).map(times).sum();
+        print!(" 1-10: {file}");
+        let mut missed = Vec::new();
+        for number in name.refusals() {
+            print!(", {number}: {}", times(*number));
+            if times(*number) == 0 {
+                missed.push(format!("{} {number}", name.text()));
+            }
+        }
+        println!();
+        missed
+    }
+}

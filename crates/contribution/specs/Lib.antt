@@ -1,0 +1,2 @@
+-- What the checks of bytes against their moduli search for.
+pub mod Large

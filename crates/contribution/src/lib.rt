@@ -1,0 +1,14 @@
+// A party's contribution on lent bytes: its size, the places of its offsets, and the checks of contributions, keys and rows, 16 to 18.
+// Rests on `scheme` and `round` for what is laid out and checked, on `counts` for what a circuit counts, on `checks` for answers.
+mod contributed;
+mod keyed;
+mod offset;
+mod places;
+mod run;
+
+pub use contributed::contributions_checked;
+pub use keyed::keys_checked;
+pub use keyed::rows_checked;
+pub use offset::offsets_checked;
+pub use places::contribution_size;
+pub use places::ranks;

@@ -1,0 +1,9 @@
+-- The laws of evaluation.
+pub mod Bared
+pub mod Correctors
+pub mod Maps
+pub mod Turns
+pub mod Opens
+pub mod Prepared
+pub mod Sweep
+pub mod Loop

@@ -1,0 +1,14 @@
+-- `exchange::either_checked` meets its contract: the first that was found is named. Assumes nothing.
+use borrow.Author.Needs.{needs}
+use Rattle.exchange.proofs.TwoBuffers.{either-met}
+use Rattle.exchange.proofs.either.either_checked.Statement.{statement}
+use Rattle.exchange.proofs.either.either_checked.Tie as tie
+
+pub either-checked-spec : {M : Type 1} → statement M
+either-checked-spec =
+    tie.close
+    (tie.spec
+    (λ c κs. search needs)
+    (λ c κs. search needs)
+    (λ c κs. search needs)
+    (λ c. either-met (c .before .before .before .before .before .before .before .args .xs .now) (c .before .before .before .before .before .before .before .args .ps .now) (c .before .before .before .before .before .before .before .args .ys .now) (c .before .before .before .before .before .before .before .args .qs .now) (c .before .before .larger .ensures) (c .before .first-bad .ensures) (c .named .ensures)))

@@ -1,0 +1,19 @@
+-- `exchange::asked_checked` meets its contract: the checks in their order. Assumes nothing.
+use borrow.Author.Needs.{needs}
+use Rattle.session.specs.Held.{wiresIn}
+use Rattle.exchange.proofs.OwnExternals.{asked-met}
+use Rattle.exchange.proofs.masking.asked_checked.Statement.{statement}
+use Rattle.exchange.proofs.masking.asked_checked.Tie as tie
+
+pub asked-checked-spec : {M : Type 1} → statement M
+asked-checked-spec =
+    tie.close
+    (tie.spec
+    (λ c κs. search needs)
+    (λ c κs. search needs)
+    (λ c κs. search needs)
+    (λ c κs. search needs)
+    (λ c κs. search needs)
+    (λ c κs. search needs)
+    (λ c κs. search needs)
+    (λ c. asked-met (c .before .before .before .before .before .before .before .before .before .args .n) (c .before .before .before .before .before .before .before .before .before .args .party) (c .before .before .before .before .before .before .before .before .before .args .bytes) (wiresIn (c .before .before .before .before .before .before .before .before .before .args .circuit)) (c .before .before .before .before .before .before .before .before .before .args .values .now) (c .before .before .before .before .before .before .before .before .before .args .masks .now) (c .before .before .before .before .before .before .given-checked .ensures) (c .before .before .before .before .before .owners-checked .ensures) (c .before .before .before .before .followed .ensures) (c .before .before .before .party-checked .ensures) (c .before .before .followed2 .ensures) (c .before .parties-checked .ensures) (c .followed3 .ensures)))

@@ -1,0 +1,18 @@
+-- `exchange::given_checked` meets its contract: a wrong length, or what the check of the bytes answers. Assumes nothing.
+use borrow.Author.Needs.{needs}
+use Rattle.exchange.proofs.OwnExternals.{own-lent, own-next, own-refused}
+use Rattle.exchange.proofs.masking.given_checked.Statement.{statement}
+use Rattle.exchange.proofs.masking.given_checked.Tie as tie
+
+pub given-checked-spec : {M : Type 1} → statement M
+given-checked-spec =
+    tie.close
+    (tie.spec
+    (λ c κs. search needs)
+    (λ c κs. search needs)
+    (λ c κs. search needs)
+    (λ c. search needs)
+    (λ c κs. own-lent (c .before .before .before .before .before .before .before .pre) (c .before .before .before .before .before .before .before .args .party) (c .before .before .before .before .before .before .before .args .values .now) (c .before .before .before .before .before .before .before .args .masks .now) (c .before .before .before .before .before .before .before .args .bytes) (c .before .before .before .before .inputs-of .ensures) (c .before .before .before .counted .ensures) (c .before .before .lengths-checked .ensures) (c .enum-told .given .1))
+    (λ c. search needs)
+    (λ c. own-next (c .before .before .before .before .before .before .before .before .pre) (c .before .before .before .before .before .before .before .before .args .party) (c .before .before .before .before .before .before .before .before .args .values .now) (c .before .before .before .before .before .before .before .before .args .masks .now) (c .before .before .before .before .before .before .before .before .args .bytes) (c .before .before .before .before .before .inputs-of .ensures) (c .before .before .before .before .counted .ensures) (c .before .before .before .lengths-checked .ensures) (c .before .enum-told .given .1) (c .own-checked .ensures))
+    (λ c. own-refused (c .before .before .before .before .before .before .before .before .pre) (c .before .before .before .before .before .before .before .before .args .party) (c .before .before .before .before .before .before .before .before .args .values .now) (c .before .before .before .before .before .before .before .before .args .masks .now) (c .before .before .before .before .before .before .before .before .args .bytes) (c .before .before .before .before .before .inputs-of .ensures) (c .before .before .before .before .counted .ensures) (c .before .before .before .lengths-checked .ensures) (c .before .lengths .given .1)))

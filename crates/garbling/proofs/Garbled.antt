@@ -1,0 +1,120 @@
+-- The pass over the wires, the memory that it works in, and the masks that are handed out.
+-- Assumes nothing.
+use mathlib.Core.Path.{_≡_, sym, ap, _∙_}
+use mathlib.Core.List.{List, _++_}
+use Prim.Native.Nat.{ℕ, zero, suc, _-_, _*_, _≤_, _<_}
+use native.Mathlib.Nat.{zero-mul, add-mul, mul-le-mul-left, mul-le-mul-right, le-trans}
+use native.Mathlib.Omega.{arith}
+use lib.ListN.{length, getD, take, replicate}
+use lib.Seq.{getD-take, length-take-le}
+use Rattle.lists.specs.Blocks.{blocks, sumTo, tab}
+use Rattle.lists.proofs.Blocks.{tab-ext, is-tab}
+use Rattle.lists.proofs.Steps.{Steps, steps-start, steps-whole}
+use Rattle.words.specs.declared.gate.Wire.{Wire}
+use Rattle.circuit.specs.declared.Circuit.{Circuit}
+use Rattle.circuit.specs.Wires.{wireAt, moduliOf, inputsIn}
+use Rattle.counts.specs.Recipe.{recipe}
+use Rattle.counts.specs.Counts.{rowsBy, rowsOf, rowsIn, Counts}
+use Rattle.counts.specs.Moduli.{usedBelow}
+use Rattle.session.specs.Held.{wiresIn, outputsIn}
+use Rattle.session.proofs.Circuits.{given-is, inputs-made}
+use Rattle.plain.specs.Ready.{Gives}
+use Rattle.pads.specs.Pad.{shakePad}
+use Rattle.scheme.specs.Contribution.{recordAt}
+use Rattle.scheme.specs.Draw.{Draw}
+use Rattle.scheme.specs.Zero.{mask}
+use Rattle.scheme.specs.Rows.{gateRows, garbledRows, inputMasks, outputMasks}
+use Rattle.session.specs.Sizes.{Sizes}
+use Rattle.zero.specs.Ready.{Contributed, ZeroKeys, Masks, drawnIn}
+use Rattle.garbling.specs.Source.{rowsHere, Sourced}
+use Rattle.zero.proofs.Cursor.{made-is}
+use Rattle.garbling.proofs.Fronts.{vector-fits}
+use Rattle.zero.proofs.Made.{masks-at}
+use Rattle.garbling.proofs.Looked.{rows-counted, sourced, rows-are}
+
+sumTo-by : (m s : ℕ) (f : ℕ → ℕ) → sumTo m (λ i. f i * s) ≡ sumTo m f * s
+unfolding sumTo
+sumTo-by zero s f = sym (zero-mul s)
+sumTo-by (suc m) s f = omega (arith, sumTo-by m s f, add-mul (sumTo m f) (f m) s)
+
+pub count-fits : {n K x : ℕ} → Sizes n K → x ≤ 512 → x * (n * K) ≤ 524288
+count-fits {n} {K} {x} s h = le-trans (mul-le-mul-right (n * K) h) (omega (arith, mul-le-mul-left 512 (vector-fits s)))
+
+module _ {file : List ℕ} {circuit : Circuit} {n K size : ℕ} {contributions : List ℕ} (r : Contributed file circuit n K size contributions) where
+  abbrev wires : List Wire
+  wires = wiresIn circuit
+
+  abbrev drew : Draw
+  drew = drawnIn circuit n K contributions
+
+  -- the zero keys of all wires fit the memory
+  pub keys-fit : circuit .made * (n * K) ≤ 1048576
+  keys-fit = le-trans (mul-le-mul-right (n * K) (r .held .room .made)) (omega (arith, mul-le-mul-left 1024 (vector-fits (r .sizes))))
+
+  -- ---- the pass: rows of so many wires stand, and the cursor is at the next record
+
+  abbrev pub rowsAt : ℕ → List ℕ
+  rowsAt w = gateRows shakePad n K file wires drew w (recipe (wireAt wires w))
+
+  abbrev pub sizeAt : ℕ → ℕ
+  sizeAt w = rowsOf wires w * (n * K)
+
+  total : sumTo (circuit .made) sizeAt ≡ rowsIn wires * (n * K)
+  total = sumTo-by (circuit .made) (n * K) (rowsOf wires) ∙ ap (λ (m : ℕ). sumTo m (rowsOf wires) * (n * K)) (sym (made-is r))
+
+  pub pass-start : {rows : List ℕ} → length rows ≡ rowsIn wires * (n * K) → Steps rows 0 0 (circuit .made) sizeAt rowsAt 0 rows
+  pass-start e = steps-start (omega (arith, total))
+
+  pub pass-done : {rows₀ rows : List ℕ} {from w : ℕ} → Steps rows₀ 0 w (circuit .made) sizeAt rowsAt from rows → circuit .made ≤ w → length rows₀ ≡ rowsIn wires * (n * K)
+      → rows ≡ garbledRows shakePad n K file wires drew
+  unfolding garbledRows
+  pass-done s h e = steps-whole s h (e ∙ sym total) ∙ ap (λ (m : ℕ). blocks m rowsAt) (sym (made-is r))
+
+  module _ {keys masks : List ℕ} (z : ZeroKeys circuit n K contributions keys) (m : Masks circuit n K contributions masks) where
+    module _ {ranks moduli : List ℕ} (er : ranks ≡ tab 256 (usedBelow wires)) (em : moduli ≡ moduliOf wires ++ replicate (1024 - circuit .made) 0)
+        {w at x y : ℕ} (h : w < circuit .made) (here : at ≡ recordAt K wires w)
+        (e : y ≡ x) (c : Counts 512 (rowsBy (recipe (wireAt (circuit .wires) w)) (λ a. getD moduli a 0) (wireAt (circuit .wires) w .modulus)) x) where
+      -- y rows are those of the wire
+      pub turn-size : y * (n * K) ≡ sizeAt w
+      turn-size = ap (λ (i : ℕ). i * (n * K)) (e ∙ c .is ∙ rows-counted r z m er em h here)
+
+      pub turn-ready : {out : List ℕ} → length out ≡ sizeAt w → Sourced n K size at contributions ranks keys masks file moduli (wireAt (circuit .wires) w) out
+      turn-ready {out} l = sourced r z m er em h here (l ∙ ap (λ (i : ℕ). i * (n * K)) (sym (rows-counted r z m er em h here)))
+
+      pub turn-rows : {v : ℕ} {xs : List ℕ} → v ≡ w
+          → xs ≡ rowsHere n K size v at (wireAt (circuit .wires) w .modulus) contributions ranks keys masks file moduli (wireAt (circuit .wires) w .gate) (recipe (wireAt (circuit .wires) w))
+          → xs ≡ rowsAt w
+      turn-rows {v} {xs} g k =
+          k
+          ∙ ap (λ (i : ℕ). rowsHere n K size i at (wireAt (circuit .wires) w .modulus) contributions ranks keys masks file moduli (wireAt (circuit .wires) w .gate) (recipe (wireAt (circuit .wires) w))) g
+          ∙ rows-are r z m er em h here
+
+  module _ {masks : List ℕ} (m : Masks circuit n K contributions masks) where
+    -- ---- the masks that are handed out
+
+    pub inputs-fit : {bytes : ℕ} → bytes ≡ inputsIn wires → bytes ≤ length masks
+    inputs-fit e = omega (arith, inputs-made (r .held), r .held .inputs, r .held .room .made, m .kept)
+
+    pub inputs-are : {bytes : ℕ} → bytes ≡ inputsIn wires → take bytes masks ≡ inputMasks wires drew
+    unfolding inputMasks
+    inputs-are {bytes} e =
+        is-tab (inputsIn wires) (mask wires drew) (take bytes masks) 0 (length-take-le bytes masks (inputs-fit e) ∙ e)
+        (λ i h. getD-take bytes masks i 0 (omega arith) ∙ masks-at r m i (omega (arith, inputs-made (r .held), r .held .inputs)))
+
+    pub gives-masks : {bytes : ℕ} → bytes ≡ length (outputsIn circuit) → Gives circuit masks bytes
+    gives-masks e =
+        record {
+          given = r .held .given;
+          outputs = r .held .outputs;
+          size = e ∙ given-is (r .held);
+          made =
+              λ i l.
+              omega
+              (arith, r .held .room .made, m .kept, made-is r, getD-take (circuit .given) (circuit .outputs) i 0 l, r .accepted .outputsMade i (omega (arith, given-is (r .held))));
+        }
+
+    pub outputs-are : tab (length (outputsIn circuit)) (λ i. getD masks (getD (outputsIn circuit) i 0) 0) ≡ outputMasks wires (outputsIn circuit) drew
+    unfolding outputMasks
+    outputs-are =
+        tab-ext (length (outputsIn circuit)) (λ i. getD masks (getD (outputsIn circuit) i 0) 0) (λ i. mask wires drew (getD (outputsIn circuit) i 0))
+        (λ i l. masks-at r m (getD (outputsIn circuit) i 0) (omega (arith, made-is r, r .accepted .outputsMade i l)))

@@ -1,0 +1,3 @@
+-- Laws of garbling and opening as calls.
+pub mod Garbles
+pub mod Opens

@@ -1,0 +1,89 @@
+-- The place of a wire's record, as a cursor that goes from wire to wire: where it starts, where it stands at the next wire, and that the record's
+-- keys and mask shares lie inside the contribution.
+-- Assumes nothing.
+use mathlib.Core.List.{List}
+use mathlib.Core.Path.{_≡_, refl, ap, _∙_}
+use Prim.Native.Nat.{ℕ, _+_, _*_, _≤_, _<_}
+use native.Mathlib.Nat.{mul-add, add-mul, mul-zero, add-zero}
+use native.Mathlib.Omega.{arith}
+use lib.ListN.{length}
+use lib.Seq.{length-take-le}
+use Rattle.lists.proofs.Sums.{sumTo-next}
+use Rattle.lists.specs.Blocks.{sumTo}
+use Rattle.words.specs.declared.gate.Wire.{Wire}
+use Rattle.circuit.specs.Wires.{wireAt}
+use Rattle.circuit.specs.declared.Circuit.{Circuit}
+use Rattle.counts.proofs.Counting.{records-at}
+use Rattle.counts.specs.Counts.{recordsBy, recordsOf}
+use Rattle.counts.specs.Moduli.{moduliUsed}
+use Rattle.counts.specs.Recipe.{recipe}
+use Rattle.session.specs.Held.{wiresIn}
+use Rattle.scheme.proofs.Places.{record-fits, key-fits, share-fits}
+use Rattle.scheme.specs.Contribution.{recordAt, keyAt, shareAt}
+use Rattle.zero.specs.Ready.{Contributed}
+
+-- ---- for any list of wires
+
+sum-none : (f : ℕ → ℕ) → sumTo 0 f ≡ 0
+unfolding sumTo
+sum-none f = refl
+
+nothing-more : (a b : ℕ) {c : ℕ} → c ≡ 0 → a + b * c ≡ a
+nothing-more a b e = rw (e, mul-zero b, add-zero a)
+
+module _ (K : ℕ) (wires : List Wire) where
+  pub record-first : recordAt K wires 0 ≡ K * moduliUsed wires
+  unfolding recordAt
+  record-first = nothing-more (K * moduliUsed wires) (K + 1) (sum-none (recordsOf wires))
+
+  pub record-next : (w : ℕ) → recordAt K wires (w + 1) ≡ recordAt K wires w + (K + 1) * recordsOf wires w
+  unfolding recordAt
+  record-next w = rw (sumTo-next w (recordsOf wires)) (omega (arith, mul-add (K + 1) (sumTo w (recordsOf wires)) (recordsOf wires w)))
+
+  pub key-place : (w j : ℕ) → keyAt K wires w j ≡ recordAt K wires w + K * j
+  unfolding keyAt
+  key-place w j = refl
+
+  pub share-place : (w j : ℕ) → shareAt K wires w j ≡ recordAt K wires w + K * recordsOf wires w + j
+  unfolding shareAt
+  share-place w j = refl
+
+-- ---- for a circuit of the code, in which a wire is looked up in the array
+
+module _ {file : List ℕ} {circuit : Circuit} {n K size : ℕ} {contributions : List ℕ} (r : Contributed file circuit n K size contributions) where
+  pub made-is : length (wiresIn circuit) ≡ circuit .made
+  made-is = length-take-le (circuit .made) (circuit .wires) (omega (arith, r .held .room .made, r .held .room .wires))
+
+  pub within : {w : ℕ} → w < circuit .made → w < length (wiresIn circuit)
+  within h = omega (arith, made-is)
+
+  module _ {w at : ℕ} (h : w < circuit .made) (here : at ≡ recordAt K (wiresIn circuit) w) where
+    -- the keys of the record, by what the code looks up
+    pub records-here : recordsBy (recipe (wireAt (circuit .wires) w)) ≡ recordsOf (wiresIn circuit) w
+    records-here = records-at (circuit .wires) (circuit .made) w h
+
+    pub cursor-next : {step : ℕ} → step ≡ (K + 1) * recordsBy (recipe (wireAt (circuit .wires) w)) → at + step ≡ recordAt K (wiresIn circuit) (w + 1)
+    cursor-next {step} e =
+        let f : step ≡ (K + 1) * recordsOf (wiresIn circuit) w = e ∙ ap (λ (m : ℕ). (K + 1) * m) records-here in
+        omega (arith, record-next K (wiresIn circuit) w)
+
+    pub cursor-fits : {step : ℕ} → step ≡ (K + 1) * recordsBy (recipe (wireAt (circuit .wires) w)) → at + step ≤ size
+    cursor-fits {step} e =
+        let f : step ≡ (K + 1) * recordsOf (wiresIn circuit) w = e ∙ ap (λ (m : ℕ). (K + 1) * m) records-here in
+        omega (arith, record-fits K (wiresIn circuit) w (within h), r .each)
+
+    -- the shares start inside the contribution, or where it ends
+    pub shares-fit : {shares : ℕ} → shares ≡ K * recordsBy (recipe (wireAt (circuit .wires) w)) → at + shares ≤ size
+    shares-fit {shares} e = omega (arith, cursor-fits refl, add-mul K 1 (recordsBy (recipe (wireAt (circuit .wires) w))))
+
+    module _ (j : ℕ) (have : j < recordsBy (recipe (wireAt (circuit .wires) w))) where
+      inside : j < recordsOf (wiresIn circuit) w
+      inside = omega (arith, records-here)
+
+      pub key-here : at + K * j + K ≤ size
+      key-here = omega (arith, key-fits K (wiresIn circuit) w j inside (within h), key-place K (wiresIn circuit) w j, r .each)
+
+      pub share-here : {shares : ℕ} → shares ≡ K * recordsBy (recipe (wireAt (circuit .wires) w)) → at + shares + j < size
+      share-here {shares} e =
+          let f : shares ≡ K * recordsOf (wiresIn circuit) w = e ∙ ap (λ (m : ℕ). K * m) records-here in
+          omega (arith, share-fits K (wiresIn circuit) w j inside (within h), share-place K (wiresIn circuit) w j, r .each)

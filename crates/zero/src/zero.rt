@@ -1,0 +1,152 @@
+// The zero keys of all wires.
+ghost use mathlib.Core.Path.{_≡_};
+ghost use Prim.Native.Nat.{_+_, _*_, _≤_, _<_};
+ghost use lib.ListN.{length};
+ghost use Rattle.lists.specs.Blocks.{nth};
+ghost use Rattle.residue.specs.Vector.{addV, mulV};
+ghost use Rattle.counts.specs.Recipe.{recipe};
+ghost use Rattle.scheme.specs.Zero.{zeroKeyBy};
+ghost use Rattle.zero.specs.Ready.{Contributed, ZeroKeys};
+ghost use Rattle.zero.specs.Turn.{ofWire, keysAt, Stands, KeysAsked, Put};
+use super::places::first_record;
+use super::places::record_size;
+use super::shares::gather;
+use circuit::Circuit;
+use words::Choice;
+use words::Gate;
+use words::Pair;
+use words::Scaling;
+use words::Wire;
+
+fn sum(p: u8, gate: Pair, keys: &[u8], out: &mut [u8])
+    requires { ⌜ (0 < p) × (Stands (length (now out)) (now keys) (gate .a) × Stands (length (now out)) (now keys) (gate .b)) ⌝ }
+    ensures { λ _. ⌜ now (out .exit) ≡ addV p (nth (now (keys .entry)) (length (now (out .entry))) (gate .a)) (nth (now (keys .entry)) (length (now (out .entry))) (gate .b)) ⌝ }
+{
+    let m = out.len();
+    let a = lists::nth_piece(keys, m, gate.a as usize);
+    let b = lists::nth_piece(keys, m, gate.b as usize);
+    residue::key_of(p, a, 1, b, out);
+}
+
+fn multiple(p: u8, gate: Scaling, keys: &[u8], out: &mut [u8])
+    requires { ⌜ (0 < p) × Stands (length (now out)) (now keys) (gate .a) ⌝ }
+    ensures { λ _. ⌜ now (out .exit) ≡ mulV p (gate .constant) (nth (now (keys .entry)) (length (now (out .entry))) (gate .a)) ⌝ }
+{
+    let m = out.len();
+    let a = lists::nth_piece(keys, m, gate.a as usize);
+    lists::copy(&mut *out, a);
+    residue::scale(p, gate.constant, out);
+}
+
+// Adds the keys of wire a, which a choice gives at 0.
+fn add_first(p: u8, gate: Choice, keys: &[u8], out: &mut [u8])
+    requires { ⌜ (0 < p) × Stands (length (now out)) (now keys) (gate .a) ⌝ }
+    ensures { λ _. ⌜ now (out .exit) ≡ addV p (now (out .entry)) (nth (now (keys .entry)) (length (now (out .entry))) (gate .a)) ⌝ }
+{
+    let m = out.len();
+    let a = lists::nth_piece(keys, m, gate.a as usize);
+    residue::add_multiple(p, 1, a, out);
+}
+
+// The zero keys of one wire, whose record stands at place `at`, from the keys of lower wires.
+fn put_zero_key(
+    wire: Wire,
+    at: usize,
+    n: usize,
+    k: usize,
+    size: usize,
+    contributions: &[u8],
+    keys: &[u8],
+    out: &mut [u8],
+)
+    requires { ⌜ KeysAsked n k size at (wire .modulus) (wire .gate) (now contributions) (now keys) ⌝ }
+    requires { ⌜ length (now out) ≡ n * k ⌝ }
+    ensures { λ _. ⌜ now (out .exit) ≡ zeroKeyBy (ofWire (keysAt n k size (now (contributions .entry)) at) 0) 0 (wire .modulus) (wire .gate) (recipe wire) (λ a. nth (now (keys .entry)) (n * k) a) ⌝ }
+{
+    let gate = wire.gate;
+    let p = wire.modulus;
+    match gate {
+        Gate::Input(_) => gather(contributions, n, k, size, at, out),
+        Gate::Add(pair) => sum(p, pair, keys, out),
+        Gate::Scale(scaling) => multiple(p, scaling, keys, out),
+        Gate::Multiply(_) => gather(contributions, n, k, size, at, out),
+        Gate::Project(_) => gather(contributions, n, k, size, at, out),
+        Gate::Select(choice) => {
+            gather(contributions, n, k, size, at, &mut *out);
+            add_first(p, choice, keys, out);
+        }
+    }
+}
+
+fn scratch() -> [u8; 1024]
+    ensures { λ r. ⌜ length r ≡ 1024 ⌝ }
+{
+    [0u8; 1024]
+}
+
+// The same, put into its place among the keys of all wires. `key` is what they are made in, since lower wires' keys are read from where they are put.
+fn put_made(
+    wire: Wire,
+    at: usize,
+    to: usize,
+    n: usize,
+    k: usize,
+    size: usize,
+    contributions: &[u8],
+    key: &mut [u8],
+    keys: &mut [u8],
+)
+    requires { ⌜ KeysAsked n k size at (wire .modulus) (wire .gate) (now contributions) (now keys) ⌝ }
+    requires { ⌜ (length (now key) ≡ n * k) × (to + n * k ≤ length (now keys)) ⌝ }
+    ensures { λ _. ⌜ Put n k to (zeroKeyBy (ofWire (keysAt n k size (now (contributions .entry)) at) 0) 0 (wire .modulus) (wire .gate) (recipe wire) (λ a. nth (now (keys .entry)) (n * k) a)) (now (keys .entry)) (now (keys .exit)) ⌝ }
+{
+    put_zero_key(wire, at, n, k, size, contributions, &*keys, &mut *key);
+    lists::put_at(keys, to, &*key);
+}
+
+fn put_wire(
+    wire: Wire,
+    at: usize,
+    to: usize,
+    n: usize,
+    k: usize,
+    size: usize,
+    contributions: &[u8],
+    keys: &mut [u8],
+)
+    requires { ⌜ KeysAsked n k size at (wire .modulus) (wire .gate) (now contributions) (now keys) ⌝ }
+    requires { ⌜ (n * k ≤ 1024) × (to + n * k ≤ length (now keys)) ⌝ }
+    ensures { λ _. ⌜ Put n k to (zeroKeyBy (ofWire (keysAt n k size (now (contributions .entry)) at) 0) 0 (wire .modulus) (wire .gate) (recipe wire) (λ a. nth (now (keys .entry)) (n * k) a)) (now (keys .entry)) (now (keys .exit)) ⌝ }
+{
+    let m = n * k;
+    let mut key = scratch();
+    put_made(wire, at, to, n, k, size, contributions, &mut key[..m], keys);
+}
+
+// Each wire's zero keys of all parties, in the order of the wires.
+pub fn zero_keys(
+    circuit: Circuit,
+    file: &[u8],
+    n: usize,
+    k: usize,
+    size: usize,
+    contributions: &[u8],
+    keys: &mut [u8],
+)
+    requires { ⌜ Contributed (now file) circuit n k size (now contributions) ⌝ }
+    requires { ⌜ length (now keys) ≡ circuit .made * (n * k) ⌝ }
+    ensures { λ _. ⌜ ZeroKeys circuit n k (now (contributions .entry)) (now (keys .exit)) ⌝ }
+{
+    let m = n * k;
+    let made = circuit.made;
+    let mut at = first_record(circuit, k);
+    let mut to = 0;
+    let mut w = 0;
+    while w < made {
+        let wire = circuit.wires[w];
+        put_wire(wire, at, to, n, k, size, contributions, &mut *keys);
+        at += record_size(wire, k);
+        to += m;
+        w += 1;
+    }
+}
