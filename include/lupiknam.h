@@ -1,8 +1,9 @@
 /*
- * lupiknam.h: the engine's calls.
+ * lupiknam.h: the engine's calls. For C99 or later, and C++. docs/HOST.md tells the life of a round, docs/FILE.md the circuit file, and
+ * host/round.c is a whole round to copy.
  *
- * A slice is lent as a pointer and a length. What a call only reads is `const`; what it writes must not overlap anything else that
- * is lent to it. A pointer whose length is 0 may be NULL. No call keeps a pointer after it returns, allocates memory or holds state.
+ * A slice is lent as a pointer and a length in bytes. What a call only reads is `const`. Every number n, k, party and every byte may be
+ * anything: a call refuses what it cannot take, and always returns.
  *
  * A circuit file is words of 32 bits, lent as bytes, four a word, little-endian.
  *
@@ -22,11 +23,26 @@
  *   add, scale       nothing
  *
  * with k bytes for a key and one for a share, all below the wire's modulus. It has k * moduli + (k + 1) * records bytes, by the counts
- * that lupiknam_read writes. No offset is zero.
+ * that lupiknam_read writes. No offset is zero, that is, each has a byte that is not 0.
  *
  * A round is lupiknam_garble once, from all contributions; then at each party lupiknam_externals for its own inputs, lupiknam_input_keys,
  * lupiknam_open and lupiknam_decode. The caller hands the same circuit, n, k and contributions to every call, draws each contribution
  * afresh for each garbling, and brings the parties' external values and keys together.
+ *
+ * The caller's duties, which no call can check:
+ *
+ *   memory     each pointer leads to as many bytes as its length says, all of them set where the call reads them; a pointer whose length
+ *              is 0 may be NULL, a pointer to a number (uint32_t *) may not. The memory stays there until the call returns. Lengths are
+ *              products: reckon them in size_t
+ *   aliasing   what a call writes, a buffer or a number, overlaps nothing else that is lent to the same call; what it only reads may
+ *              overlap
+ *   lifetime   no call keeps a pointer after it returns, allocates memory or holds state: there is nothing to open, close or free
+ *   threads    calls may run at the same time in any threads, as long as nothing that one of them writes is lent to another that runs
+ *              then. Nobody else changes lent memory during a call. One meter serves one garbling at a time
+ *   stack      work memory is on the caller's stack: about 1.2 MiB in lupiknam_garble, 300 KiB in lupiknam_open, 150 KiB or less in the
+ *              others. A thread with 2 MiB of stack can make every call
+ *   secrets    a contribution is its party's secret, an input's value and mask its owner's; clearing memory after use is the caller's
+ *              business, the stack included
  */
 #ifndef LUPIKNAM_H
 #define LUPIKNAM_H
@@ -42,18 +58,18 @@ extern "C" {
  * What a call answers: number 0 and place 0 where it is accepted, else the number of the refusal and its place.
  *
  *   number  when                                                              place
- *    1      the first word is absent, or is not 0x10000000                    0
+ *    1      first word absent, or not 0x10000000                              0
  *    2      unknown kind of word, or a bit that must be zero                  word
- *    3      a kind that is not due here                                       word
+ *    3      a kind of word that is not due here                               word
  *    4      modulus not a prime from 2 to 251                                 word
  *    5      wire not lower than the one being made, or (output) not made      word
- *    6      moduli differ; bit wire not of modulus 2                          word
- *    7      owner above 7; constant 0 or not below the modulus; image not     word
+ *    6      moduli differ, or bit wire not of modulus 2                       word
+ *    7      owner above 7, constant 0 or not below the modulus, or image not  word
  *           below the output modulus
- *    8      1,025th wire, 257th output                                        word
+ *    8      1,025th wire, or 257th output                                     word
  *    9      no output before the end word                                     word
  *   10      words ran out, or one follows the end word                        its index (ran out: the number of words)
- *   11      number of parties not 2 to 8; key length not 1 to 128             0
+ *   11      number of parties not 2 to 8, or key length not 1 to 128          0
  *   12      party asked for not below the number of parties                   party
  *   13      owner of an input not below the number of parties                 wire, the lowest such
  *   14      a lent length is not exact                                        0
@@ -62,15 +78,49 @@ extern "C" {
  *   17      an offset is zero                                                 its modulus, the lowest such
  *   18      byte of a key or of a row not below its modulus                   index in its buffer of some such byte, of a key if
  *                                                                             there is one
- *   19      the party's own key on an input is not zero key + external value  wire, the lowest such
- *           times offset
+ *   19      own input key is not zero key plus external value times offset    wire, the lowest such
  *   20      no multiplier fits the key that a gate's rows give                wire, the lowest such
- *   21      the meter would pass 4,294,967,295                                0
+ *   21      row meter would pass 4,294,967,295                                0
+ *
+ * Words are counted from 0, four bytes each; so are wires, parties and the bytes of a buffer.
  */
 typedef struct lupiknam_answer {
     uint32_t number;
     size_t place;
 } lupiknam_answer;
+
+/*
+ * The number of an answer in words, as in the table above; "accepted" for 0, "unknown refusal" for a number that no call gives. The string
+ * is constant and is not freed.
+ */
+static inline const char *lupiknam_refusal(uint32_t number)
+{
+    static const char *const words[] = {
+        "accepted",
+        "first word absent, or not 0x10000000",
+        "unknown kind of word, or a bit that must be zero",
+        "a kind of word that is not due here",
+        "modulus not a prime from 2 to 251",
+        "wire not lower than the one being made, or (output) not made",
+        "moduli differ, or bit wire not of modulus 2",
+        "owner above 7, constant 0 or not below the modulus, or image not below the output modulus",
+        "1,025th wire, or 257th output",
+        "no output before the end word",
+        "words ran out, or one follows the end word",
+        "number of parties not 2 to 8, or key length not 1 to 128",
+        "party asked for not below the number of parties",
+        "owner of an input not below the number of parties",
+        "a lent length is not exact",
+        "value, external value or mask not below its modulus",
+        "byte of a contribution not below its modulus",
+        "an offset is zero",
+        "byte of a key or of a row not below its modulus",
+        "own input key is not zero key plus external value times offset",
+        "no multiplier fits the key that a gate's rows give",
+        "row meter would pass 4,294,967,295"
+    };
+    return number < sizeof words / sizeof words[0] ? words[number] : "unknown refusal";
+}
 
 /*
  * Reads a circuit.
@@ -83,7 +133,10 @@ typedef struct lupiknam_answer {
  *   moduli              written: number of different moduli among the wires
  *   records             written: number of keys in a party's records; a contribution has K * moduli + (K + 1) * records bytes
  *
- * Refusals: 1 to 10.
+ * Refusals: 1 to 10. Where the file is refused none of the six numbers is written.
+ *
+ * The six pointers lead to six different numbers. A file that this call refuses, every other call refuses with the same answer; one that it
+ * accepts meets none of 1 to 10 in any other call.
  */
 lupiknam_answer lupiknam_read(
     const uint8_t *file, size_t file_length,
@@ -96,9 +149,9 @@ lupiknam_answer lupiknam_read(
  *   file, file_length   the circuit file
  *   n                   number of parties, 2 to 8
  *   party               the party, from 0
- *   count               written: number of inputs whose owner is the party
+ *   count               written: number of inputs whose owner is the party; it may be 0
  *
- * Refusals: 1 to 10, 11, 12, 13.
+ * Refusals: 1 to 10; 11 for n; 12; 13.
  */
 lupiknam_answer lupiknam_inputs_of(
     const uint8_t *file, size_t file_length,
@@ -112,7 +165,10 @@ lupiknam_answer lupiknam_inputs_of(
  *   values, values_length     a byte for each input, in the order of the wires, each below its wire's modulus
  *   outputs, outputs_length   written: a byte for each output, in the order of the file
  *
- * Refusals: 1 to 10; 14 where values_length is not the number of inputs or outputs_length not the number of outputs; 15.
+ * Refusals: 1 to 10; 14 where values_length is not the number of inputs or outputs_length not the number of outputs; 15 over values, whose
+ * index is the wire's number.
+ *
+ * The values of all parties stand together here: this call is for tests, and for figures that are not secret.
  */
 lupiknam_answer lupiknam_plain(
     const uint8_t *file, size_t file_length,
@@ -124,17 +180,19 @@ lupiknam_answer lupiknam_plain(
  *
  *   file, file_length                     the circuit file
  *   n, k                                  number of parties, key length
- *   contributions, contributions_length   all parties' contributions, one after another, parties ascending
+ *   contributions, contributions_length   n * (k * moduli + (k + 1) * records) bytes: all parties' contributions, one after another,
+ *                                         parties ascending
  *   rows, rows_length                     written: rows * n * k bytes, by the count of rows that lupiknam_read writes; by gate, component
  *                                         and row, then a key's length for each receiving party
  *   input_masks, input_masks_length       written: a byte for each input, in the order of the wires
  *   output_masks, output_masks_length     written: a byte for each output, in the order of the file
  *   meter                                 read and written: the rows of all accepted garblings; this garbling's are added to it
  *
- * Refusals: 1 to 10, 11, 13; 14 where a length is not as above; 16, 17, 21. The place of 16 counts through all contributions.
+ * Refusals: 1 to 10; 11; 13; 14 where a length is not as above; 16, whose place counts through all contributions; 17, whose place is the
+ * lowest modulus over all parties; 21. Where the call is refused the meter is as it was.
  *
- * The caller starts the meter at 0, hands it from each garbling to the next, and changes it nowhere else. An input's mask is for its
- * owner alone.
+ * The caller starts the meter at 0, hands it from each garbling to the next, and changes it nowhere else. Each contribution serves one
+ * garbling. An input's mask is for its owner alone; whoever garbles sees all contributions.
  */
 lupiknam_answer lupiknam_garble(
     const uint8_t *file, size_t file_length,
@@ -154,8 +212,10 @@ lupiknam_answer lupiknam_garble(
  *   masks, masks_length           the masks that garbling wrote for these inputs, in the same order
  *   externals, externals_length   written: a byte for each of these inputs
  *
- * Refusals: 1 to 10, 11 for n, 12, 13; 14 where a length is not the number that lupiknam_inputs_of gives; 15 over values and masks, the
- * lowest index over both.
+ * Refusals: 1 to 10; 11 for n; 12; 13; 14 where a length is not the number that lupiknam_inputs_of gives; 15 over values and masks, the
+ * lowest index over both: an index among the party's own inputs, not a wire.
+ *
+ * A party that owns no input lends three buffers of length 0.
  */
 lupiknam_answer lupiknam_externals(
     const uint8_t *file, size_t file_length,
@@ -169,11 +229,12 @@ lupiknam_answer lupiknam_externals(
  *
  *   file, file_length                   the circuit file
  *   n, k, party                         number of parties, key length, the party
- *   contribution, contribution_length   the party's contribution
- *   externals, externals_length         the external values of all inputs, in the order of the wires
- *   keys, keys_length                   written: k bytes for each input, in the order of the wires
+ *   contribution, contribution_length   k * moduli + (k + 1) * records bytes: the party's contribution
+ *   externals, externals_length         a byte for each input: the external values of all inputs, in the order of the wires
+ *   keys, keys_length                   written: inputs * k bytes, a key for each input, in the order of the wires
  *
- * Refusals: 1 to 10, 11, 12, 13; 14 where a length is not as above; 15, 16, 17.
+ * Refusals: 1 to 10; 11; 12; 13; 14 where a length is not as above; 15 over externals; 16, whose place counts from the contribution's
+ * start; 17.
  *
  * The caller asks for the keys of one list of external values alone: keys of two external values on a wire give away the offset.
  */
@@ -189,15 +250,19 @@ lupiknam_answer lupiknam_input_keys(
  *
  *   file, file_length                       the circuit file
  *   n, k, party                             number of parties, key length, the party that opens
- *   contribution, contribution_length       that party's contribution
- *   externals, externals_length             the external values of all inputs, in the order of the wires
- *   keys, keys_length                       inputs * n * k bytes: the input keys by input, then by party
+ *   contribution, contribution_length       k * moduli + (k + 1) * records bytes: that party's contribution
+ *   externals, externals_length             a byte for each input: the external values of all inputs, in the order of the wires
+ *   keys, keys_length                       inputs * n * k bytes: the input keys by input, then by party, so that party j's key on wire w
+ *                                           starts at (w * n + j) * k
  *   rows, rows_length                       rows * n * k bytes: the rows that garbling wrote
  *   wire_keys, wire_keys_length             written: wires * n * k bytes, the keys by wire, then by party
  *   wire_externals, wire_externals_length   written: a byte for each wire
  *
- * Refusals: 1 to 10, 11, 12, 13; 14 where a length is not as above; 15, 16, 17, 18, 19, 20. After 20 wire_keys and wire_externals are
- * all zero.
+ * Refusals: 1 to 10; 11; 12; 13; 14 where a length is not as above; 15 over externals; 16, whose place counts from the contribution's
+ * start; 17; 18 over keys, then rows; 19 over the keys of the party that opens, on all inputs; 20. After 20 wire_keys and wire_externals
+ * are all zero.
+ *
+ * 18, 19 or 20 says that keys, rows, external values or the contribution are not those of one round. Not every such change meets a refusal.
  */
 lupiknam_answer lupiknam_open(
     const uint8_t *file, size_t file_length,
@@ -213,7 +278,7 @@ lupiknam_answer lupiknam_open(
  * Decodes the outputs, (external value - mask) modulo the wire's modulus.
  *
  *   file, file_length             the circuit file
- *   externals, externals_length   the external values of all wires, as lupiknam_open wrote them
+ *   externals, externals_length   a byte for each wire: the external values of all wires, as lupiknam_open wrote them
  *   masks, masks_length           a byte for each output: the output masks that garbling wrote
  *   outputs, outputs_length       written: a byte for each output, in the order of the file
  *
