@@ -1,0 +1,60 @@
+// The header from C++: it may be included twice, its names are those of the archive, and its types are as C has them. The calls here are
+// those at the edge of what may be lent: no file, and buffers of length 0 that are NULL. What they must answer follows from document 01.
+#include "lupiknam.h"
+#include "lupiknam.h"
+#include <cstdio>
+#include <cstring>
+
+static int failed = 0;
+
+static void check(const char *what, bool holds)
+{
+    if (!holds) {
+        std::printf("failed: %s\n", what);
+        failed = 1;
+    }
+}
+
+static bool answers(lupiknam_answer answer, uint32_t number, size_t place)
+{
+    return answer.number == number && answer.place == place;
+}
+
+int main()
+{
+    // two inputs of modulus 5, of parties 0 and 1, and their product: 10 rows; 2 records of one key and one of two
+    static const uint8_t product[] = {0, 0, 0, 0x10, 5, 0, 0, 0x20, 5, 0, 1, 0x20, 1, 0, 0, 0x50, 2, 0, 0, 0xA0, 0, 0, 0, 0xB0};
+    uint32_t wires = 77, inputs = 77, outputs = 77, rows = 77, moduli = 77, records = 77, count = 77, meter = 77;
+
+    check("no file", answers(lupiknam_read(NULL, 0, &wires, &inputs, &outputs, &rows, &moduli, &records), 1, 0));
+    check("no file: numbers untouched",
+        wires == 77 && inputs == 77 && outputs == 77 && rows == 77 && moduli == 77 && records == 77);
+    check("product", answers(lupiknam_read(product, sizeof product, &wires, &inputs, &outputs, &rows, &moduli, &records), 0, 0));
+    check("product: counts", wires == 3 && inputs == 2 && outputs == 1 && rows == 10 && moduli == 1 && records == 4);
+
+    // the product's second wire is its own: word 3
+    uint8_t own[sizeof product];
+    std::memcpy(own, product, sizeof own);
+    own[12] = 2;
+    check("own wire", answers(lupiknam_read(own, sizeof own, &wires, &inputs, &outputs, &rows, &moduli, &records), 5, 3));
+
+    check("inputs of party 1", answers(lupiknam_inputs_of(product, sizeof product, 3, 1, &count), 0, 0) && count == 1);
+    check("inputs of party 2", answers(lupiknam_inputs_of(product, sizeof product, 3, 2, &count), 0, 0) && count == 0);
+    check("party 3 of 3", answers(lupiknam_inputs_of(product, sizeof product, 3, 3, &count), 12, 3));
+    check("external values of no inputs", answers(lupiknam_externals(product, sizeof product, 3, 2, NULL, 0, NULL, 0, NULL, 0), 0, 0));
+    check("external values of one", answers(lupiknam_externals(product, sizeof product, 3, 1, NULL, 0, NULL, 0, NULL, 0), 14, 0));
+
+    // lengths of 0 where more is due
+    const uint8_t four[] = {4, 5};
+    uint8_t result[1] = {77};
+    check("plain, no output", answers(lupiknam_plain(product, sizeof product, four, 2, NULL, 0), 14, 0));
+    check("plain, value 5 of modulus 5", answers(lupiknam_plain(product, sizeof product, four, 2, result, 1), 15, 1) && result[0] == 77);
+    check("garbling of nothing",
+        answers(lupiknam_garble(product, sizeof product, 3, 16, NULL, 0, NULL, 0, NULL, 0, NULL, 0, &meter), 14, 0) && meter == 77);
+    check("input keys of nothing", answers(lupiknam_input_keys(product, sizeof product, 3, 16, 0, NULL, 0, NULL, 0, NULL, 0), 14, 0));
+    check("opening of nothing",
+        answers(lupiknam_open(product, sizeof product, 3, 16, 0, NULL, 0, NULL, 0, NULL, 0, NULL, 0, NULL, 0, NULL, 0), 14, 0));
+    check("decoding of nothing", answers(lupiknam_decode(product, sizeof product, NULL, 0, NULL, 0, NULL, 0), 14, 0));
+    check("refusal in words", std::strcmp(lupiknam_refusal(17), "an offset is zero") == 0);
+    return failed;
+}
