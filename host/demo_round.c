@@ -1,0 +1,704 @@
+// Plays a round of a circuit file on this one machine: all parties by turns, through the engine's calls. Prints the price list, who owns
+// which input, each party's figures beside the plain circuit's, the bytes that a party sends and the time that each call took.
+//
+//   demo_round FILE [--parties N] [--key-length K] [--values A,B,...] [--seed N]
+//
+// One process holds every party's secrets here, and prints their values: this shows a round, it does not keep one.
+//
+// Ends with 0 if every party's figures are the plain circuit's, with 1 if the engine refuses or a figure differs, and with 2 if the command
+// is wrong or the machine does not give what it needs.
+#define _POSIX_C_SOURCE 200809L
+#include "lupiknam.h"
+#include <errno.h>
+#include <signal.h>
+#include <stdarg.h>
+#include <stdbool.h>
+#include <stdio.h>
+#include <stdlib.h>
+#include <string.h>
+#include <time.h>
+#include <unistd.h>
+
+enum { MOST_WIRES = 1024, MOST_OUTPUTS = 256, MOST_PARTIES = 8 };
+
+// No circuit has more than 258,306 words: a head, 1,024 wires of at most 252 words each, 256 outputs and an end. Of a longer file the
+// reader refuses a word before that, so that the rest of it need not be read.
+enum { MOST_BYTES = 1 << 21 };
+
+enum kind { INPUT = 2, ADD, SCALE, MULTIPLY, PROJECT, ENTRY, SELECT, BRANCHES, OUTPUT };
+
+// as the command has them; NULL where it has none
+struct options {
+    const char *path, *parties, *key_length, *values, *seed;
+};
+
+struct wire {
+    uint32_t kind, owner, modulus, rows;
+    uint32_t keys; // in a party's record of this wire
+};
+
+struct circuit {
+    uint8_t *file;
+    size_t length;
+    uint32_t wires, inputs, outputs, rows, moduli, records; // as lupiknam_read counts them
+    struct wire wire[MOST_WIRES];
+    uint32_t output[MOST_OUTPUTS]; // the wire of each
+};
+
+enum call { READ, PLAIN, GARBLE, EXTERNALS, INPUT_KEYS, OPEN, DECODE, CALLS };
+
+static const char *const call_names[CALLS] = {"read", "plain", "garble", "externals", "input_keys", "open", "decode"};
+
+struct round {
+    const struct circuit *circuit;
+    uint32_t n, k;
+    size_t contribution_length, rows_length, keys_length, wire_keys_length;
+    uint8_t *contributions, *rows, *keys, *own_keys, *wire_keys;
+    uint8_t values[MOST_WIRES], input_masks[MOST_WIRES], externals[MOST_WIRES], wire_externals[MOST_WIRES];
+    uint8_t output_masks[MOST_OUTPUTS], plain[MOST_OUTPUTS], figures[MOST_PARTIES][MOST_OUTPUTS];
+    uint32_t meter;                           // rows garbled
+    uint32_t owned[MOST_PARTIES];             // inputs of each party
+    double milliseconds[CALLS][MOST_PARTIES]; // party 0's place where a call is made once
+};
+
+// ---- ending early
+
+__attribute__((format(printf, 1, 2), noreturn)) static void stop(const char *why, ...) {
+    va_list rest;
+    va_start(rest, why);
+    fflush(stdout);
+    fputs("demo_round: ", stderr);
+    vfprintf(stderr, why, rest);
+    fputc('\n', stderr);
+    va_end(rest);
+    exit(2);
+}
+
+static void *room(size_t bytes) {
+    // a length of 0 must not look like a want of memory
+    void *at = malloc(bytes + 1);
+    if (!at)
+        stop("no memory for %zu bytes", bytes);
+    return at;
+}
+
+// what the place of a refusal counts
+static const char *place_of(uint32_t number) {
+    switch (number) {
+    case 12:
+        return "party";
+    case 13:
+    case 19:
+    case 20:
+        return "wire";
+    case 15:
+        return "value";
+    case 16:
+    case 18:
+        return "byte";
+    case 17:
+        return "modulus";
+    default:
+        return NULL;
+    }
+}
+
+static void print_place(lupiknam_answer answer) {
+    if (answer.number <= 10)
+        fprintf(stderr, ", at word %zu (byte offset %zu of the file)", answer.place, 4 * answer.place);
+    else if (place_of(answer.number))
+        fprintf(stderr, ", at %s %zu", place_of(answer.number), answer.place);
+}
+
+static void must(lupiknam_answer answer, enum call call) {
+    if (answer.number == 0)
+        return;
+    fflush(stdout);
+    fprintf(stderr, "demo_round: %s refused with %u: %s", call_names[call], (unsigned)answer.number, lupiknam_refusal(answer.number));
+    print_place(answer);
+    fputc('\n', stderr);
+    exit(1);
+}
+
+// ---- time, and a sign of life in a long call
+
+// A call says nothing until it returns, so the sign comes from a signal each second: first what runs, then dots. The handler may only
+// write.
+static char what_runs[80];
+static size_t what_runs_length;
+static volatile sig_atomic_t seconds;
+
+static void second_passed(int signal_number) {
+    (void)signal_number;
+    ssize_t written = seconds++ == 0 ? write(STDERR_FILENO, what_runs, what_runs_length) : write(STDERR_FILENO, ".", 1);
+    (void)written; // nothing is lost with it
+    alarm(1);
+}
+
+static void listen_for_seconds(void) {
+    struct sigaction action = {.sa_handler = second_passed, .sa_flags = SA_RESTART};
+    sigemptyset(&action.sa_mask);
+    sigaction(SIGALRM, &action, NULL);
+}
+
+static double milliseconds_now(void) {
+    struct timespec t;
+    clock_gettime(CLOCK_MONOTONIC, &t);
+    return (double)t.tv_sec * 1e3 + (double)t.tv_nsec / 1e6;
+}
+
+__attribute__((format(printf, 1, 2))) static double start(const char *what, ...) {
+    va_list rest;
+    va_start(rest, what);
+    vsnprintf(what_runs, sizeof what_runs, what, rest);
+    va_end(rest);
+    what_runs_length = strlen(what_runs);
+    seconds = 0;
+    alarm(1);
+    return milliseconds_now();
+}
+
+static double start_at(enum call call, uint32_t party, uint32_t parties) {
+    return start("%s at party %u of %u ", call_names[call], (unsigned)party, (unsigned)parties);
+}
+
+static double spent_since(double begun) {
+    double spent = milliseconds_now() - begun;
+    alarm(0);
+    if (seconds > 0)
+        fputc('\n', stderr);
+    return spent;
+}
+
+// ---- drawing
+
+struct source {
+    FILE *bytes; // NULL for the repeatable generator
+    uint64_t state;
+};
+
+// SplitMix64, its highest byte. Whoever knows the seed knows every key: for repeating a demonstration, and for nothing else.
+static uint8_t repeatable_byte(uint64_t *state) {
+    uint64_t z = *state += 0x9E3779B97F4A7C15u;
+    z = (z ^ z >> 30) * 0xBF58476D1CE4E5B9u;
+    z = (z ^ z >> 27) * 0x94D049BB133111EBu;
+    return (uint8_t)((z ^ z >> 31) >> 56);
+}
+
+static struct source open_source(const uint64_t *seed) {
+    struct source source = {NULL, 0};
+    if (seed)
+        source.state = *seed;
+    else if (!(source.bytes = fopen("/dev/urandom", "rb")))
+        stop("/dev/urandom: %s", strerror(errno));
+    return source;
+}
+
+static uint32_t draw_byte(struct source *source) {
+    if (!source->bytes)
+        return repeatable_byte(&source->state);
+    int byte = getc(source->bytes);
+    if (byte == EOF)
+        stop("/dev/urandom gives no more");
+    return (uint32_t)byte;
+}
+
+// Each residue alike: bytes past the last whole run of residues are drawn again, or the low residues would come more often.
+static uint8_t draw_below(struct source *source, uint32_t modulus) {
+    uint32_t runs_end = 256 - 256 % modulus, byte;
+    do
+        byte = draw_byte(source);
+    while (byte >= runs_end);
+    return (uint8_t)(byte % modulus);
+}
+
+// writes so many residues, and says whether one of them is not zero
+static bool draw_residues(struct source *source, uint8_t *at, size_t count, uint32_t modulus) {
+    bool some = false;
+    for (size_t i = 0; i < count; i++)
+        some |= (at[i] = draw_below(source, modulus)) != 0;
+    return some;
+}
+
+static bool has_modulus(const struct circuit *c, uint32_t modulus) {
+    for (uint32_t w = 0; w < c->wires; w++)
+        if (c->wire[w].modulus == modulus)
+            return true;
+    return false;
+}
+
+static uint8_t *draw_offsets(const struct round *r, struct source *source, uint8_t *at) {
+    for (uint32_t modulus = 2; modulus <= 251; modulus++)
+        if (has_modulus(r->circuit, modulus)) {
+            // an offset of zero would give every external value the same key
+            while (!draw_residues(source, at, r->k, modulus)) {
+            }
+            at += r->k;
+        }
+    return at;
+}
+
+// keys and shares of a wire's record alike are below its modulus
+static uint8_t *draw_records(const struct round *r, struct source *source, uint8_t *at) {
+    for (uint32_t w = 0; w < r->circuit->wires; w++) {
+        size_t bytes = (size_t)r->circuit->wire[w].keys * (r->k + 1);
+        draw_residues(source, at, bytes, r->circuit->wire[w].modulus);
+        at += bytes;
+    }
+    return at;
+}
+
+static void draw_contributions(struct round *r, struct source *source) {
+    uint8_t *at = r->contributions;
+    for (uint32_t party = 0; party < r->n; party++)
+        at = draw_records(r, source, draw_offsets(r, source, at));
+}
+
+static void draw_values(struct round *r, struct source *source) {
+    for (uint32_t i = 0; i < r->circuit->inputs; i++)
+        r->values[i] = draw_below(source, r->circuit->wire[i].modulus);
+}
+
+// ---- the circuit
+
+static void load(struct circuit *c, const char *path) {
+    FILE *f = fopen(path, "rb");
+    if (!f)
+        stop("%s: %s", path, strerror(errno));
+    c->file = room(MOST_BYTES);
+    c->length = fread(c->file, 1, MOST_BYTES, f);
+    if (ferror(f))
+        stop("%s: %s", path, strerror(errno));
+    fclose(f);
+}
+
+static uint32_t word_at(const struct circuit *c, size_t at) {
+    const uint8_t *b = c->file + 4 * at;
+    return b[0] | (uint32_t)b[1] << 8 | (uint32_t)b[2] << 16 | (uint32_t)b[3] << 24;
+}
+
+// the wire that the low ten bits of a word name
+static const struct wire *named(const struct circuit *c, uint32_t word) {
+    return &c->wire[word & 0x3FF];
+}
+
+// the wire that a word of an accepted file starts; a select's moduli stand in the word after it
+static struct wire wire_of(const struct circuit *c, uint32_t word, uint32_t next) {
+    uint32_t kind = word >> 28, p = named(c, kind == SELECT ? next : word)->modulus;
+    switch (kind) {
+    case INPUT:
+        return (struct wire){kind, word >> 16 & 0xFF, word & 0xFF, 0, 1};
+    case PROJECT:
+        return (struct wire){kind, 0, word >> 10 & 0xFF, p, 1};
+    case MULTIPLY:
+        return (struct wire){kind, 0, p, 2 * p, 2};
+    case SELECT:
+        return (struct wire){kind, 0, p, 2 * p + 2, 3};
+    default: // add, scale
+        return (struct wire){kind, 0, p, 0, 0};
+    }
+}
+
+static bool starts_wire(uint32_t kind) {
+    return kind >= INPUT && kind <= SELECT && kind != ENTRY;
+}
+
+// The engine's calls tell sizes, not wires; the price list, the owners and the drawing need these. Only for a file that was accepted: then
+// there is an end word after every other.
+static void list_wires(struct circuit *c) {
+    uint32_t wires = 0, outputs = 0;
+    for (size_t at = 0; 4 * at + 4 < c->length; at++) {
+        uint32_t word = word_at(c, at), kind = word >> 28;
+        if (starts_wire(kind))
+            c->wire[wires++] = wire_of(c, word, word_at(c, at + 1));
+        else if (kind == OUTPUT)
+            c->output[outputs++] = word & 0x3FF;
+    }
+}
+
+static uint32_t rows_listed(const struct circuit *c) {
+    uint32_t rows = 0;
+    for (uint32_t w = 0; w < c->wires; w++)
+        rows += c->wire[w].rows;
+    return rows;
+}
+
+static double read_circuit(struct circuit *c, const char *path) {
+    load(c, path);
+    double begun = start("read ");
+    lupiknam_answer answer = lupiknam_read(c->file, c->length, &c->wires, &c->inputs, &c->outputs, &c->rows, &c->moduli, &c->records);
+    double spent = spent_since(begun);
+    must(answer, READ);
+    list_wires(c);
+    if (rows_listed(c) != c->rows)
+        stop("the price list has %u rows, the engine counts %u", (unsigned)rows_listed(c), (unsigned)c->rows);
+    return spent;
+}
+
+static uint32_t parties_needed(const struct circuit *c) {
+    uint32_t most = 1;
+    for (uint32_t i = 0; i < c->inputs; i++)
+        if (c->wire[i].owner > most)
+            most = c->wire[i].owner;
+    return most + 1;
+}
+
+// ---- the calls of a round
+
+// Whether n and K will do is the engine's to say, and before memory is sought for them: 11 and 13 come before 14, which a garbling that
+// is lent nothing meets in any case.
+static void check_session(const struct circuit *c, uint32_t n, uint32_t k) {
+    uint32_t meter = 0;
+    lupiknam_answer answer = lupiknam_garble(c->file, c->length, n, k, NULL, 0, NULL, 0, NULL, 0, NULL, 0, &meter);
+    if (answer.number != 14)
+        must(answer, GARBLE);
+}
+
+static void make_room(struct round *r) {
+    const struct circuit *c = r->circuit;
+    r->contribution_length = (size_t)r->k * c->moduli + (size_t)(r->k + 1) * c->records;
+    r->rows_length = (size_t)c->rows * r->n * r->k;
+    r->keys_length = (size_t)c->inputs * r->n * r->k;
+    r->wire_keys_length = (size_t)c->wires * r->n * r->k;
+    r->contributions = room(r->n * r->contribution_length);
+    r->rows = room(r->rows_length);
+    r->keys = room(r->keys_length);
+    r->own_keys = room((size_t)c->inputs * r->k);
+    r->wire_keys = room(r->wire_keys_length);
+}
+
+static void give_back_room(struct round *r) {
+    free(r->contributions);
+    free(r->rows);
+    free(r->keys);
+    free(r->own_keys);
+    free(r->wire_keys);
+}
+
+static uint8_t *contribution_of(const struct round *r, uint32_t party) {
+    return r->contributions + party * r->contribution_length;
+}
+
+static void evaluate_plainly(struct round *r) {
+    const struct circuit *c = r->circuit;
+    double begun = start("plain ");
+    lupiknam_answer answer = lupiknam_plain(c->file, c->length, r->values, c->inputs, r->plain, c->outputs);
+    r->milliseconds[PLAIN][0] = spent_since(begun);
+    must(answer, PLAIN);
+}
+
+// a circuit of one input and its projection, of so many rows
+enum { TRIAL_ROWS = 251, TRIAL_WORDS = TRIAL_ROWS + 5 };
+
+static uint8_t *put_word(uint8_t *at, uint32_t word) {
+    for (uint32_t byte = 0; byte < 4; byte++)
+        *at++ = (uint8_t)(word >> 8 * byte);
+    return at;
+}
+
+static void write_trial(uint8_t *at) {
+    at = put_word(at, 0x10000000);
+    at = put_word(at, 0x20000000 | TRIAL_ROWS); // its modulus
+    at = put_word(at, 0x60000800);              // of wire 0, to modulus 2
+    for (int entry = 0; entry < TRIAL_ROWS; entry++)
+        at = put_word(at, 0x70000000);
+    at = put_word(at, 0xA0000001);
+    put_word(at, 0xB0000000);
+}
+
+// The time goes by the rows, whatever the gates: garbling a few with the same n and K tells about how long all of them will take.
+static double seconds_to_garble(const struct round *r) {
+    uint8_t file[4 * TRIAL_WORDS], input_mask, output_mask;
+    size_t contributions_length = r->n * (2 * (size_t)r->k + 2 * ((size_t)r->k + 1)), rows_length = (size_t)TRIAL_ROWS * r->n * r->k;
+    uint8_t *contributions = room(contributions_length), *rows = room(rows_length);
+    uint32_t meter = 0;
+    write_trial(file);
+    memset(contributions, 1, contributions_length); // below both moduli, and no offset zero
+    double begun = milliseconds_now();
+    must(lupiknam_garble(file, sizeof file, r->n, r->k, contributions, contributions_length, rows, rows_length, &input_mask, 1,
+                         &output_mask, 1, &meter),
+         GARBLE);
+    double spent = milliseconds_now() - begun;
+    free(contributions);
+    free(rows);
+    return spent / TRIAL_ROWS * r->circuit->rows / 1e3;
+}
+
+static void garble(struct round *r) {
+    const struct circuit *c = r->circuit;
+    double begun = start("garble, %u rows, about %.0f s ", (unsigned)c->rows, seconds_to_garble(r));
+    lupiknam_answer answer = lupiknam_garble(c->file, c->length, r->n, r->k, r->contributions, r->n * r->contribution_length, r->rows,
+                                             r->rows_length, r->input_masks, c->inputs, r->output_masks, c->outputs, &r->meter);
+    r->milliseconds[GARBLE][0] = spent_since(begun);
+    must(answer, GARBLE);
+}
+
+// takes a party's own bytes out of those of all inputs
+static uint32_t own_part(const struct circuit *c, uint32_t party, const uint8_t *all, uint8_t *own) {
+    uint32_t count = 0;
+    for (uint32_t i = 0; i < c->inputs; i++)
+        if (c->wire[i].owner == party)
+            own[count++] = all[i];
+    return count;
+}
+
+// puts a party's own bytes in their places among those of all inputs
+static void put_own_part(const struct circuit *c, uint32_t party, const uint8_t *own, uint8_t *all) {
+    for (uint32_t i = 0; i < c->inputs; i++)
+        if (c->wire[i].owner == party)
+            all[i] = *own++;
+}
+
+static void make_externals(struct round *r, uint32_t party) {
+    const struct circuit *c = r->circuit;
+    uint8_t values[MOST_WIRES], masks[MOST_WIRES], externals[MOST_WIRES];
+    uint32_t own = r->owned[party] = own_part(c, party, r->values, values);
+    own_part(c, party, r->input_masks, masks);
+    double begun = start_at(EXTERNALS, party, r->n);
+    lupiknam_answer answer = lupiknam_externals(c->file, c->length, r->n, party, values, own, masks, own, externals, own);
+    r->milliseconds[EXTERNALS][party] = spent_since(begun);
+    must(answer, EXTERNALS);
+    put_own_part(c, party, externals, r->externals);
+}
+
+// a party's keys lie input after input; among all parties' those of one input lie side by side
+static void put_own_keys(struct round *r, uint32_t party) {
+    for (uint32_t i = 0; i < r->circuit->inputs; i++)
+        memcpy(r->keys + ((size_t)i * r->n + party) * r->k, r->own_keys + (size_t)i * r->k, r->k);
+}
+
+static void make_input_keys(struct round *r, uint32_t party) {
+    const struct circuit *c = r->circuit;
+    double begun = start_at(INPUT_KEYS, party, r->n);
+    lupiknam_answer answer = lupiknam_input_keys(c->file, c->length, r->n, r->k, party, contribution_of(r, party), r->contribution_length,
+                                                 r->externals, c->inputs, r->own_keys, (size_t)c->inputs * r->k);
+    r->milliseconds[INPUT_KEYS][party] = spent_since(begun);
+    must(answer, INPUT_KEYS);
+    put_own_keys(r, party);
+}
+
+static void open_rows(struct round *r, uint32_t party) {
+    const struct circuit *c = r->circuit;
+    double begun = start_at(OPEN, party, r->n);
+    lupiknam_answer answer =
+        lupiknam_open(c->file, c->length, r->n, r->k, party, contribution_of(r, party), r->contribution_length, r->externals, c->inputs,
+                      r->keys, r->keys_length, r->rows, r->rows_length, r->wire_keys, r->wire_keys_length, r->wire_externals, c->wires);
+    r->milliseconds[OPEN][party] = spent_since(begun);
+    must(answer, OPEN);
+}
+
+static void decode(struct round *r, uint32_t party) {
+    const struct circuit *c = r->circuit;
+    double begun = start_at(DECODE, party, r->n);
+    lupiknam_answer answer =
+        lupiknam_decode(c->file, c->length, r->wire_externals, c->wires, r->output_masks, c->outputs, r->figures[party], c->outputs);
+    r->milliseconds[DECODE][party] = spent_since(begun);
+    must(answer, DECODE);
+}
+
+// every party needs all external values for its keys, and all keys to open
+static void play(struct round *r) {
+    evaluate_plainly(r);
+    garble(r);
+    for (uint32_t party = 0; party < r->n; party++)
+        make_externals(r, party);
+    for (uint32_t party = 0; party < r->n; party++)
+        make_input_keys(r, party);
+    for (uint32_t party = 0; party < r->n; party++) {
+        open_rows(r, party);
+        decode(r, party);
+    }
+}
+
+// ---- what is printed
+
+static void print_prices(const struct circuit *c) {
+    puts("wire kind modulus rows");
+    for (uint32_t w = 0; w < c->wires; w++)
+        printf("%u %u %u %u\n", (unsigned)w, (unsigned)c->wire[w].kind, (unsigned)c->wire[w].modulus, (unsigned)c->wire[w].rows);
+    printf("total %u\n", (unsigned)c->rows);
+}
+
+static void print_inputs(const struct round *r) {
+    puts("\ninputs, and the party that owns each\nwire modulus party value");
+    for (uint32_t i = 0; i < r->circuit->inputs; i++)
+        printf("%4u %7u %5u %5u\n", (unsigned)i, (unsigned)r->circuit->wire[i].modulus, (unsigned)r->circuit->wire[i].owner,
+               (unsigned)r->values[i]);
+}
+
+static void print_figures_head(uint32_t n) {
+    printf("\nfigures: the plain circuit's, and what each party decodes\noutput wire modulus plain");
+    for (uint32_t party = 0; party < n; party++)
+        printf(" party %u", (unsigned)party);
+    putchar('\n');
+}
+
+static void print_figures(const struct round *r) {
+    const struct circuit *c = r->circuit;
+    print_figures_head(r->n);
+    for (uint32_t o = 0; o < c->outputs; o++) {
+        printf("%6u %4u %7u %5u", (unsigned)o, (unsigned)c->output[o], (unsigned)c->wire[c->output[o]].modulus, (unsigned)r->plain[o]);
+        for (uint32_t party = 0; party < r->n; party++)
+            printf(" %7u", (unsigned)r->figures[party][o]);
+        putchar('\n');
+    }
+}
+
+// names each party whose figures are not the plain circuit's, and says whether there is none
+static bool print_verdict(const struct round *r) {
+    bool all = true;
+    for (uint32_t party = 0; party < r->n; party++)
+        if (memcmp(r->figures[party], r->plain, r->circuit->outputs) != 0) {
+            fflush(stdout);
+            fprintf(stderr, "demo_round: party %u decodes other figures than the plain circuit's\n", (unsigned)party);
+            all = false;
+        }
+    if (all)
+        puts("The decoded figures are those of the plain circuit.");
+    return all;
+}
+
+static void print_bytes(const struct round *r) {
+    printf("\nrows garbled: %u, each %u parties x %u bytes: %zu bytes\n", (unsigned)r->meter, (unsigned)r->n, (unsigned)r->k,
+           r->rows_length);
+    puts("\nbytes that a party sends: its contribution to the garbling, the external values of its own inputs, its keys on all inputs.\n"
+         "Each is counted once, however many take it; the rows are not counted.\n"
+         "party contribution externals input keys     all");
+    for (uint32_t party = 0; party < r->n; party++) {
+        size_t externals = r->owned[party], keys = (size_t)r->circuit->inputs * r->k;
+        printf("%5u %12zu %9zu %10zu %7zu\n", (unsigned)party, r->contribution_length, externals, keys,
+               r->contribution_length + externals + keys);
+    }
+}
+
+static bool made_once(enum call call) {
+    return call == READ || call == PLAIN || call == GARBLE;
+}
+
+static void print_times(const struct round *r) {
+    puts("\ntime of each call in milliseconds; where every party makes it, party 0's first");
+    for (enum call call = READ; call < CALLS; call++) {
+        printf("%-10s", call_names[call]);
+        for (uint32_t party = 0; party < (made_once(call) ? 1 : r->n); party++)
+            printf(" %9.3f", r->milliseconds[call][party]);
+        putchar('\n');
+    }
+}
+
+// ---- the command
+
+__attribute__((noreturn)) static void usage(void) {
+    stop("usage: demo_round FILE [--parties N] [--key-length K] [--values A,B,...] [--seed N]");
+}
+
+// the number that a text begins with; *text is left after it
+static uint64_t take_number(const char **text, uint64_t most, const char *option) {
+    const char *at = *text;
+    uint64_t number = 0;
+    bool fits = *at >= '0' && *at <= '9';
+    for (; fits && *at >= '0' && *at <= '9'; at++) {
+        uint64_t digit = (uint64_t)(*at - '0');
+        fits = number <= (most - digit) / 10 && digit <= most;
+        number = 10 * number + digit;
+    }
+    if (!fits)
+        stop("%s: '%s' does not begin with a number from 0 to %llu", option, *text, (unsigned long long)most);
+    *text = at;
+    return number;
+}
+
+static uint64_t number_in(const char *text, uint64_t most, const char *option) {
+    uint64_t number = take_number(&text, most, option);
+    if (*text)
+        stop("%s: '%s' follows the number", option, text);
+    return number;
+}
+
+static uint32_t number_32_in(const char *text, const char *option) {
+    return (uint32_t)number_in(text, UINT32_MAX, option);
+}
+
+static const char **place_for(struct options *options, const char *name) {
+    if (strcmp(name, "--parties") == 0)
+        return &options->parties;
+    if (strcmp(name, "--key-length") == 0)
+        return &options->key_length;
+    if (strcmp(name, "--values") == 0)
+        return &options->values;
+    if (strcmp(name, "--seed") == 0)
+        return &options->seed;
+    usage();
+}
+
+static struct options options_from(int count, char **arguments) {
+    struct options options = {.key_length = "16"};
+    if (count < 2 || count % 2 != 0)
+        usage();
+    options.path = arguments[1];
+    for (int at = 2; at < count; at += 2)
+        *place_for(&options, arguments[at]) = arguments[at + 1];
+    return options;
+}
+
+static void take_values(struct round *r, const char *list) {
+    uint32_t count = 0, inputs = r->circuit->inputs;
+    for (const char *at = list;; at++) {
+        uint8_t value = (uint8_t)take_number(&at, 255, "--values");
+        if (count < inputs)
+            r->values[count] = value;
+        count++;
+        if (*at != ',' && *at != '\0')
+            stop("--values: '%s' follows a number", at);
+        if (*at == '\0')
+            break;
+    }
+    if (count != inputs)
+        stop("--values has %u numbers, and the circuit %u inputs", (unsigned)count, (unsigned)inputs);
+}
+
+static struct source source_for(const struct options *options) {
+    if (!options->seed)
+        return open_source(NULL);
+    uint64_t seed = number_in(options->seed, UINT64_MAX, "--seed");
+    return open_source(&seed);
+}
+
+static void draw(struct round *r, const struct options *options) {
+    struct source source = source_for(options);
+    if (options->values)
+        take_values(r, options->values);
+    else
+        draw_values(r, &source);
+    draw_contributions(r, &source);
+    if (source.bytes)
+        fclose(source.bytes);
+}
+
+static bool print_round(const struct round *r) {
+    print_inputs(r);
+    print_figures(r);
+    bool all = print_verdict(r);
+    print_bytes(r);
+    print_times(r);
+    return all;
+}
+
+int main(int count, char **arguments) {
+    static struct circuit circuit;
+    static struct round round = {.circuit = &circuit};
+    struct options options = options_from(count, arguments);
+    listen_for_seconds();
+    round.milliseconds[READ][0] = read_circuit(&circuit, options.path);
+    round.n = options.parties ? number_32_in(options.parties, "--parties") : parties_needed(&circuit);
+    round.k = number_32_in(options.key_length, "--key-length");
+    check_session(&circuit, round.n, round.k);
+    print_prices(&circuit);
+    fflush(stdout); // before what may take long
+    make_room(&round);
+    draw(&round, &options);
+    play(&round);
+    bool all = print_round(&round);
+    give_back_room(&round);
+    free(circuit.file);
+    return all ? 0 : 1;
+}
