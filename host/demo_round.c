@@ -558,9 +558,18 @@ static bool print_verdict(const struct round *r) {
     return all;
 }
 
+// FNV-1a: shows whether two runs garbled the same rows; it protects nothing
+static uint64_t checksum(const uint8_t *bytes, size_t length) {
+    uint64_t sum = 0xCBF29CE484222325u;
+    for (size_t at = 0; at < length; at++)
+        sum = (sum ^ bytes[at]) * 0x100000001B3u;
+    return sum;
+}
+
 static void print_bytes(const struct round *r) {
     printf("\nrows garbled: %u, each %u parties x %u bytes: %zu bytes\n", (unsigned)r->meter, (unsigned)r->n, (unsigned)r->k,
            r->rows_length);
+    printf("checksum of the rows: %016llx\n", (unsigned long long)checksum(r->rows, r->rows_length));
     puts("\nbytes that a party sends: its contribution to the garbling, the external values of its own inputs, its keys on all inputs.\n"
          "Each is counted once, however many take it; the rows are not counted.\n"
          "party contribution externals input keys     all");
