@@ -1,2 +1,10 @@
--- Demand 3 over the calls' contracts.
-pub mod Demand
+-- What playing a round rests on.
+pub mod InTurn
+pub mod Turns
+pub mod Interleaved
+pub mod Own
+pub mod Asked
+pub mod Gathered
+pub mod Rehearses
+pub mod Joined
+pub mod Sized

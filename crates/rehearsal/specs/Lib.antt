@@ -1,2 +1,5 @@
--- A round as it is played with the calls.
-pub mod Played
+-- A round, played with the calls.
+pub mod All
+pub mod Hosts
+pub mod Rehearsed
+pub mod Stages

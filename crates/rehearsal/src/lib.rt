@@ -1,2 +1,9 @@
-// A round, played with the calls. `specs/Played` states demand 3 of what the calls' contracts give, and `proofs/Demand` proves it from the claim, so that nothing lies between the
-// claim and the code. No code.
+// A round, played: one function makes every call of document 01's round on lent memory, for all parties, and its contract is demand 3. What a host does
+// between the calls is in `hosts`, the calls that each party makes in `masking` and `parties`, the round's three stages in `stages`, the whole in `whole`.
+mod hosts;
+mod masking;
+mod parties;
+mod stages;
+mod whole;
+
+pub use whole::rehearse;

@@ -27,7 +27,7 @@ use Rattle.round.specs.Round as round
 use Rattle.round.specs.Round.{Lent, ownerAt, placeAt}
 use Rattle.round.specs.Claim.{Conditions, Promise}
 use Rattle.round.proofs.RealPad.{shake-claim}
-use Rattle.rehearsal.specs.Played.{Results, Played, Kept, ownOf, contributionOf, allExternals, allKeys}
+use Rattle.demand.specs.Played.{Results, Played, Kept, ownOf, contributionOf, allExternals, allKeys}
 
 -- an answer that meets checks that pass has number 0
 zero-of : {checks : Checked} {number place : ℕ} → Reports checks number place → checks ≡ passed → number ≡ 0

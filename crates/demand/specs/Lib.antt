@@ -1,0 +1,2 @@
+-- A round as it is played with the calls.
+pub mod Played

@@ -1,0 +1,162 @@
+-- A round's stages come to what demand 3 says: each stage's memory is the round's, so the claim holds of it.
+-- Assumes nothing.
+use mathlib.Core.Path.{_≡_, refl, ap, _∙_}
+use mathlib.Core.List.{List}
+use Prim.Native.Nat.{ℕ, _+_, _*_, _<_}
+use lib.ListN.{length, getD}
+use Rattle.lists.specs.Blocks.{blocks, tab, nth}
+use Rattle.lists.proofs.Blocks.{blocks-ext}
+use Rattle.checks.specs.declared.Answer.{Answer}
+use Rattle.checks.specs.declared.Answer.the-variants.{Accepted}
+use Rattle.checks.specs.Combined.{followed}
+use Rattle.checks.specs.Checked.{Checked, Meets}
+use Rattle.checks.specs.Checked.Checked.{passed}
+use Rattle.checks.specs.Checked.Meets.{accepts, names, namesSome}
+use Rattle.checks.proofs.Passed.{andThen-passed, afterwards-passed}
+use Rattle.words.specs.declared.gate.Wire.{Wire}
+use Rattle.circuit.specs.Wires.{inputsIn}
+use Rattle.circuit.specs.File.{readFile}
+use Rattle.circuit.proofs.Accepted.{accepted}
+use Rattle.counts.specs.Counts.{rowsIn}
+use Rattle.scheme.specs.Contribution.{contributionSize}
+use Rattle.pads.specs.Pad.{shakePad}
+use Rattle.plain.specs.Plain.{plainOutputs}
+use Rattle.plain.specs.Call.{plainChecked, plainAfter}
+use Rattle.round.specs.Garble.{garbleMeter}
+use Rattle.round.specs.InputKeys.{inputKeysAfter}
+use Rattle.round.specs.Round as round
+use Rattle.round.specs.Round.{Lent, ownerAt, placeAt}
+use Rattle.round.specs.Claim.{Conditions, Promise}
+use Rattle.round.proofs.Inputs.{input-owned}
+use Rattle.round.proofs.RealPad.{shake-claim}
+use Rattle.rehearsal.specs.Hosts.{ownAfter, ownChecks}
+use Rattle.rehearsal.specs.Stages.{Prepared, Keyed, Finished}
+use Rattle.rehearsal.specs.Rehearsed.{lentOf, Whole, Rehearsed}
+use Rattle.rehearsal.proofs.InTurn.{all-passed}
+use Rattle.rehearsal.proofs.Gathered.{gathered-all}
+
+-- an answer that meets checks that pass
+met-accepted : {checks : Checked} {answer : Answer} → Meets checks answer → checks ≡ passed → answer ≡ Accepted
+met-accepted accepts e = refl
+met-accepted names e = cc
+met-accepted (namesSome t) e = cc
+
+followed-accepted : {a b c : Answer} → c ≡ followed a b → a ≡ Accepted → b ≡ Accepted → c ≡ Accepted
+followed-accepted {a} {b} {c} e f g = e ∙ ap (λ (x : Answer). followed x b) f ∙ g
+
+module _ {file : List ℕ} {n K : ℕ} {contributions values : List ℕ} {meter : ℕ}
+    {rows₀ inputs₀ outputs₀ externals₀ mine₀ keys₀ wkeys₀ wexternals₀ results₀ figures₀ : List ℕ}
+    {begun handed ended : Answer} {raised : ℕ} {rows inputs outputs externals mine keys wkeys wexternals results : List ℕ}
+    (conditions : Conditions file n K contributions values meter (lentOf file n K rows₀ inputs₀ outputs₀ mine₀ wkeys₀ wexternals₀ results₀ figures₀))
+    (whole : Whole file n K externals₀ mine₀ keys₀ wkeys₀ wexternals₀ results₀)
+    (prepared : Prepared file (readFile file .wires) n K contributions values meter rows₀ inputs₀ outputs₀ externals₀ begun raised rows inputs outputs externals)
+    (keyed : Keyed file n K contributions (contributionSize K (readFile file .wires)) externals (inputsIn (readFile file .wires))
+    (inputsIn (readFile file .wires) * K) mine₀ handed mine keys)
+    (finished : Finished file n K contributions (contributionSize K (readFile file .wires)) externals keys rows outputs (length (readFile file .wires) * (n * K))
+    (length (readFile file .wires)) (length (readFile file .outputs)) wkeys₀ wexternals₀ results₀ ended wkeys wexternals results) where
+  abbrev wires : List Wire
+  wires = readFile file .wires
+
+  abbrev lent : Lent
+  lent = lentOf file n K rows₀ inputs₀ outputs₀ mine₀ wkeys₀ wexternals₀ results₀ figures₀
+
+  promise : Promise shakePad file n K contributions values meter lent
+  promise = shake-claim file n K contributions values meter lent conditions
+
+  -- the memory of each stage is the round's
+  rows-is : rows ≡ round.rows shakePad file n K contributions values meter lent
+  unfolding round.rows
+  rows-is = prepared .rowsIs
+
+  masks-is : inputs ≡ round.inputMasks shakePad file n K contributions values meter lent
+  unfolding round.inputMasks
+  masks-is = prepared .inputsIs
+
+  outs-is : outputs ≡ round.outputMasks shakePad file n K contributions values meter lent
+  unfolding round.outputMasks
+  outs-is = prepared .outputsIs
+
+  externals-is : externals ≡ round.externals shakePad file n K contributions values meter lent
+  unfolding round.externals round.ownExternals round.ownOf
+  externals-is =
+      prepared .externalsIs
+      ∙ gathered-all file n wires values inputs externals₀ (whole .externalsLong) (λ w h. input-owned (accepted file (conditions .accepted)) w h)
+      (conditions .owners)
+      ∙ ap (λ (masks : List ℕ). tab (inputsIn wires) (λ w. getD (ownAfter file n wires values masks (ownerAt wires w)) (placeAt wires w) 0)) masks-is
+
+  own-keys-is : (party : ℕ) → party < n → nth mine (inputsIn wires * K) party ≡ round.ownKeys shakePad file n K contributions values meter lent party
+  unfolding round.ownKeys round.contributionOf
+  own-keys-is party h =
+      keyed .own .part party h
+      ∙ ap (λ (xs : List ℕ). inputKeysAfter file n K party (nth contributions (contributionSize K wires) party) xs (nth mine₀ (inputsIn wires * K) party))
+      externals-is
+
+  keys-is : keys ≡ round.keys shakePad file n K contributions values meter lent
+  unfolding round.keys
+  keys-is =
+      keyed .keysIs
+      ∙ blocks-ext (inputsIn wires) (λ w. blocks n (λ party. nth (nth mine (inputsIn wires * K) party) K w))
+      (λ w. blocks n (λ party. nth (round.ownKeys shakePad file n K contributions values meter lent party) K w))
+      (λ w h. blocks-ext n (λ party. nth (nth mine (inputsIn wires * K) party) K w)
+      (λ party. nth (round.ownKeys shakePad file n K contributions values meter lent party) K w)
+      (λ party l. ap (λ (xs : List ℕ). nth xs K w) (own-keys-is party l)))
+
+  wire-keys-is : (party : ℕ) → party < n
+      → nth wkeys (length wires * (n * K)) party ≡ round.wireKeys shakePad file n K contributions values meter lent party
+  unfolding round.wireKeys round.contributionOf
+  wire-keys-is party h = finished .keysAre .part party h ∙ rw (externals-is, keys-is, rows-is)
+
+  wire-externals-is : (party : ℕ) → party < n
+      → nth wexternals (length wires) party ≡ round.wireExternals shakePad file n K contributions values meter lent party
+  unfolding round.wireExternals round.contributionOf
+  wire-externals-is party h = finished .externalsAre .part party h ∙ rw (externals-is, keys-is, rows-is)
+
+  figures-is : (party : ℕ) → party < n
+      → nth results (length (readFile file .outputs)) party ≡ round.figures shakePad file n K contributions values meter lent party
+  unfolding round.figures
+  figures-is party h = finished .resultsAre .part party h ∙ rw (wire-externals-is party h, outs-is)
+
+  -- the answers
+  begins : begun ≡ Accepted
+  unfolding round.garbling round.externalValues round.ownOf
+  begins =
+      met-accepted (prepared .met)
+      (andThen-passed (promise .garbles) (all-passed n (ownChecks file n wires values inputs) (λ party h. rw masks-is (promise .hasExternals party h))))
+
+  hands : handed ≡ Accepted
+  unfolding round.inputKeys round.contributionOf
+  hands = met-accepted (keyed .met) (all-passed n _ (λ party h. rw externals-is (promise .hasKeys party h)))
+
+  ends : ended ≡ Accepted
+  unfolding round.opening round.decoding round.contributionOf
+  ends =
+      met-accepted (finished .met)
+      (andThen-passed (all-passed n _ (λ party h. rw (externals-is, keys-is, rows-is) (promise .opens party h)))
+      (all-passed n _ (λ party h. rw (wire-externals-is party h, outs-is) (promise .decodes party h))))
+
+  counted : raised ≡ meter + rowsIn wires
+  unfolding garbleMeter round.garbling
+  counted = prepared .meterIs ∙ afterwards-passed (promise .garbles) (meter + rowsIn wires) meter
+
+  evaluates : {evaluated : Answer} → Meets (plainChecked file values figures₀) evaluated → evaluated ≡ Accepted
+  unfolding round.plainly
+  evaluates m = met-accepted m (promise .evaluates)
+
+  plain-decoded : {figures : List ℕ} → figures ≡ plainAfter file values figures₀ → figures ≡ plainOutputs file wires (readFile file .outputs) values
+  unfolding round.plainFigures
+  plain-decoded e = e ∙ promise .plainDecoded
+
+  pub rehearses : {evaluated last rest answer : Answer} {figures : List ℕ} → Meets (plainChecked file values figures₀) evaluated
+      → figures ≡ plainAfter file values figures₀
+      → last ≡ followed ended evaluated → rest ≡ followed handed last → answer ≡ followed begun rest
+      → Rehearsed file n K contributions values meter answer raised wkeys wexternals results figures
+  unfolding round.contributionOf
+  rehearses {evaluated} {last} {rest} {answer} {figures} m e a b c =
+      record {
+        accepts = followed-accepted c begins (followed-accepted b hands (followed-accepted a ends (evaluates m)));
+        counted = counted;
+        keys = λ party w each h made l. ap (λ (xs : List ℕ). nth (nth xs (n * K) w) K each) (wire-keys-is party h) ∙ promise .keys party w each h made l;
+        externals = λ party w h made. ap (λ (xs : List ℕ). getD xs w 0) (wire-externals-is party h) ∙ promise .externals party w h made;
+        decoded = λ party h. figures-is party h ∙ promise .decoded party h;
+        plainDecoded = plain-decoded e;
+      }

@@ -1,0 +1,218 @@
+-- The loops in which each party makes its call: what stands after so many parties, and one party more.
+-- Assumes nothing.
+use mathlib.Core.Path.{_≡_, refl, sym, ap, ap₂, _∙_}
+use mathlib.Core.List.{List}
+use Prim.Native.Nat.{ℕ, _+_, _-_, _*_, _≤_, _<_}
+use native.Mathlib.Omega.{arith}
+use lib.ListN.{length, take, drop}
+use Rattle.lists.specs.Blocks.{part, nth}
+use Rattle.lists.proofs.Sums.{times-next}
+use Rattle.lists.proofs.Written.{lent}
+use Rattle.lists.proofs.Steps.{Level, level-start, steps-long, steps-call}
+use Rattle.checks.specs.declared.Answer.{Answer}
+use Rattle.checks.specs.declared.Answer.the-variants.{Accepted}
+use Rattle.checks.specs.Combined.{followed}
+use Rattle.checks.specs.Checked.{Checked, Meets}
+use Rattle.pads.specs.Pad.{shakePad}
+use Rattle.round.specs.InputKeys.{inputKeysChecked, inputKeysAfter}
+use Rattle.round.specs.Open.{openChecked, openKeys, openExternals}
+use Rattle.round.specs.Decode.{decodeChecked, decodeAfter}
+use Rattle.rehearsal.specs.All.{allOf}
+use Rattle.rehearsal.proofs.InTurn.{turn-start, turn-next, part-next, read-next, met-all, sized-next}
+
+-- a part of what is only read, by its place
+own-part : (xs : List ℕ) {ys : List ℕ} {from : ℕ} (s i : ℕ) → ys ≡ part xs from s → from ≡ i * s → ys ≡ nth xs s i
+own-part xs {ys} {from} s i e k = e ∙ ap (λ (at : ℕ). part xs at s) k
+
+-- ---- input keys
+
+module _ (file : List ℕ) (n K : ℕ) (contributions : List ℕ) (size : ℕ) (externals : List ℕ) (each : ℕ) (mine₀ : List ℕ) where
+  abbrev pub keysChecks : ℕ → Checked
+  keysChecks party = inputKeysChecked file n K party (nth contributions size party) externals (nth mine₀ each party)
+
+  abbrev pub keysWritten : ℕ → List ℕ
+  keysWritten party = inputKeysAfter file n K party (nth contributions size party) externals (nth mine₀ each party)
+
+  pub record KeysTo (party from at : ℕ) (answer : Answer) (mine : List ℕ) : Type 0 where
+    pub place : from ≡ party * size
+    pub level : Level mine₀ 0 party n each keysWritten at mine
+    pub sized : (j : ℕ) → j < party → length (keysWritten j) ≡ each
+    pub met : Meets (allOf party keysChecks) answer
+
+module _ {file : List ℕ} {n K : ℕ} {contributions : List ℕ} {size : ℕ} {externals : List ℕ} {each : ℕ} {mine₀ : List ℕ} where
+  pub keys-start : length mine₀ ≡ n * each → KeysTo file n K contributions size externals each mine₀ 0 0 0 Accepted mine₀
+  keys-start l =
+      record {
+        place = omega arith;
+        level = level-start (omega arith);
+        sized = λ j h. absurd (omega arith);
+        met = turn-start (keysChecks file n K contributions size externals each mine₀);
+      }
+
+  module _ {party from at : ℕ} {answer : Answer} {mine : List ℕ}
+      (r : KeysTo file n K contributions size externals each mine₀ party from at answer mine) (h : party < n) where
+    pub keys-reads : length contributions ≡ n * size → from + size ≤ length contributions
+    keys-reads l = read-next contributions n size party from l (r .place) h
+
+    pub keys-next : {own ys : List ℕ} {next both : Answer} → own ≡ part contributions from size
+        → length ys ≡ length (take (at + each - at) (drop at mine))
+        → Meets (inputKeysChecked file n K party own externals (take (at + each - at) (drop at mine))) next
+        → ys ≡ inputKeysAfter file n K party own externals (take (at + each - at) (drop at mine))
+        → both ≡ followed answer next
+        → KeysTo file n K contributions size externals each mine₀ (party + 1) (from + size) (at + each) both (lent at (at + each) mine ys)
+    keys-next {own} {ys} {next} {both} o l m e b =
+        let o′ : own ≡ nth contributions size party = own-part contributions size party o (r .place) in
+        let p : take (at + each - at) (drop at mine) ≡ nth mine₀ each party = part-next (r .level) refl in
+        let z : ys ≡ keysWritten file n K contributions size externals each mine₀ party =
+        e ∙ ap₂ (λ (a b : List ℕ). inputKeysAfter file n K party a externals b) o′ p in
+        record {
+          place = omega (arith, r .place, times-next party size);
+          level = steps-call (r .level) h refl l z;
+          sized =
+              sized-next (keysWritten file n K contributions size externals each mine₀) party each (r .sized)
+              (sym (ap length z) ∙ l ∙ steps-long (r .level) h refl);
+          met =
+              turn-next (keysChecks file n K contributions size externals each mine₀) party (r .met) m
+              (ap₂ (λ (a b : List ℕ). inputKeysChecked file n K party a externals b) o′ p) b;
+        }
+
+  pub keys-all : {party from at : ℕ} {answer : Answer} {mine : List ℕ} → KeysTo file n K contributions size externals each mine₀ party from at answer mine → n ≤ party
+      → Meets (allOf n (keysChecks file n K contributions size externals each mine₀)) answer
+  keys-all r h = met-all (keysChecks file n K contributions size externals each mine₀) (r .level) h (r .met)
+
+-- ---- opening
+
+module _ (file : List ℕ) (n K : ℕ) (contributions : List ℕ) (size : ℕ) (externals keys rows : List ℕ) (wide : ℕ) (wkeys₀ : List ℕ) (long : ℕ) (wexts₀ : List ℕ) where
+  abbrev pub openChecks : ℕ → Checked
+  openChecks party = openChecked shakePad file n K party (nth contributions size party) externals keys rows (nth wkeys₀ wide party) (nth wexts₀ long party)
+
+  abbrev pub openedKeys : ℕ → List ℕ
+  openedKeys party = openKeys shakePad file n K party (nth contributions size party) externals keys rows (nth wkeys₀ wide party) (nth wexts₀ long party)
+
+  abbrev pub openedExternals : ℕ → List ℕ
+  openedExternals party =
+      openExternals shakePad file n K party (nth contributions size party) externals keys rows (nth wkeys₀ wide party) (nth wexts₀ long party)
+
+  pub record OpenTo (party from at place : ℕ) (answer : Answer) (wkeys wexts : List ℕ) : Type 0 where
+    pub start : from ≡ party * size
+    pub keysLevel : Level wkeys₀ 0 party n wide openedKeys at wkeys
+    pub extsLevel : Level wexts₀ 0 party n long openedExternals place wexts
+    pub keysSized : (j : ℕ) → j < party → length (openedKeys j) ≡ wide
+    pub extsSized : (j : ℕ) → j < party → length (openedExternals j) ≡ long
+    pub met : Meets (allOf party openChecks) answer
+
+module _ {file : List ℕ} {n K : ℕ} {contributions : List ℕ} {size : ℕ} {externals keys rows : List ℕ} {wide : ℕ} {wkeys₀ : List ℕ} {long : ℕ} {wexts₀ : List ℕ} where
+  pub open-start : length wkeys₀ ≡ n * wide → length wexts₀ ≡ n * long
+      → OpenTo file n K contributions size externals keys rows wide wkeys₀ long wexts₀ 0 0 0 0 Accepted wkeys₀ wexts₀
+  open-start l k =
+      record {
+        start = omega arith;
+        keysLevel = level-start (omega arith);
+        extsLevel = level-start (omega arith);
+        keysSized = λ j h. absurd (omega arith);
+        extsSized = λ j h. absurd (omega arith);
+        met = turn-start (openChecks file n K contributions size externals keys rows wide wkeys₀ long wexts₀);
+      }
+
+  module _ {party from at place : ℕ} {answer : Answer} {wkeys wexts : List ℕ}
+      (r : OpenTo file n K contributions size externals keys rows wide wkeys₀ long wexts₀ party from at place answer wkeys wexts) (h : party < n) where
+    abbrev keysPart : List ℕ
+    keysPart = take (at + wide - at) (drop at wkeys)
+
+    abbrev extsPart : List ℕ
+    extsPart = take (place + long - place) (drop place wexts)
+
+    pub open-reads : length contributions ≡ n * size → from + size ≤ length contributions
+    open-reads l = read-next contributions n size party from l (r .start) h
+
+    pub open-next : {own ys zs : List ℕ} {next both : Answer} → own ≡ part contributions from size
+        → length ys ≡ length keysPart → length zs ≡ length extsPart
+        → Meets (openChecked shakePad file n K party own externals keys rows keysPart extsPart) next
+        → ys ≡ openKeys shakePad file n K party own externals keys rows keysPart extsPart
+        → zs ≡ openExternals shakePad file n K party own externals keys rows keysPart extsPart
+        → both ≡ followed answer next
+        → OpenTo file n K contributions size externals keys rows wide wkeys₀ long wexts₀ (party + 1) (from + size) (at + wide) (place + long) both
+        (lent at (at + wide) wkeys ys) (lent place (place + long) wexts zs)
+    open-next {own} {ys} {zs} {next} {both} o ly lz m ey ez b =
+        let o′ : own ≡ nth contributions size party = own-part contributions size party o (r .start) in
+        let p : keysPart ≡ nth wkeys₀ wide party = part-next (r .keysLevel) refl in
+        let q : extsPart ≡ nth wexts₀ long party = part-next (r .extsLevel) refl in
+        let y : ys ≡ openedKeys file n K contributions size externals keys rows wide wkeys₀ long wexts₀ party =
+        ey ∙ ap (λ (a : List ℕ). openKeys shakePad file n K party a externals keys rows keysPart extsPart) o′
+        ∙ ap₂ (λ (a b : List ℕ). openKeys shakePad file n K party (nth contributions size party) externals keys rows a b) p q in
+        let z : zs ≡ openedExternals file n K contributions size externals keys rows wide wkeys₀ long wexts₀ party =
+        ez ∙ ap (λ (a : List ℕ). openExternals shakePad file n K party a externals keys rows keysPart extsPart) o′
+        ∙ ap₂ (λ (a b : List ℕ). openExternals shakePad file n K party (nth contributions size party) externals keys rows a b) p q in
+        record {
+          start = omega (arith, r .start, times-next party size);
+          keysLevel = steps-call (r .keysLevel) h refl ly y;
+          extsLevel = steps-call (r .extsLevel) h refl lz z;
+          keysSized = sized-next (openedKeys file n K contributions size externals keys rows wide wkeys₀ long wexts₀) party wide (r .keysSized) (sym (ap length y) ∙ ly ∙ steps-long (r .keysLevel) h refl);
+          extsSized = sized-next (openedExternals file n K contributions size externals keys rows wide wkeys₀ long wexts₀) party long (r .extsSized) (sym (ap length z) ∙ lz ∙ steps-long (r .extsLevel) h refl);
+          met =
+              turn-next (openChecks file n K contributions size externals keys rows wide wkeys₀ long wexts₀) party (r .met) m
+              (ap (λ (a : List ℕ). openChecked shakePad file n K party a externals keys rows keysPart extsPart) o′
+              ∙ ap₂ (λ (a b : List ℕ). openChecked shakePad file n K party (nth contributions size party) externals keys rows a b) p q)
+              b;
+        }
+
+  pub open-all : {party from at place : ℕ} {answer : Answer} {wkeys wexts : List ℕ}
+      → OpenTo file n K contributions size externals keys rows wide wkeys₀ long wexts₀ party from at place answer wkeys wexts → n ≤ party
+      → Meets (allOf n (openChecks file n K contributions size externals keys rows wide wkeys₀ long wexts₀)) answer
+  open-all r h = met-all (openChecks file n K contributions size externals keys rows wide wkeys₀ long wexts₀) (r .keysLevel) h (r .met)
+
+-- ---- decoding
+
+module _ (file : List ℕ) (n : ℕ) (externals : List ℕ) (long : ℕ) (masks : List ℕ) (each : ℕ) (results₀ : List ℕ) where
+  abbrev pub decodeChecks : ℕ → Checked
+  decodeChecks party = decodeChecked file (nth externals long party) masks (nth results₀ each party)
+
+  abbrev pub decodedBytes : ℕ → List ℕ
+  decodedBytes party = decodeAfter file (nth externals long party) masks (nth results₀ each party)
+
+  pub record DecodeTo (party from at : ℕ) (answer : Answer) (results : List ℕ) : Type 0 where
+    pub place : from ≡ party * long
+    pub level : Level results₀ 0 party n each decodedBytes at results
+    pub sized : (j : ℕ) → j < party → length (decodedBytes j) ≡ each
+    pub met : Meets (allOf party decodeChecks) answer
+
+module _ {file : List ℕ} {n : ℕ} {externals : List ℕ} {long : ℕ} {masks : List ℕ} {each : ℕ} {results₀ : List ℕ} where
+  pub decode-start : length results₀ ≡ n * each → DecodeTo file n externals long masks each results₀ 0 0 0 Accepted results₀
+  decode-start l =
+      record {
+        place = omega arith;
+        level = level-start (omega arith);
+        sized = λ j h. absurd (omega arith);
+        met = turn-start (decodeChecks file n externals long masks each results₀);
+      }
+
+  module _ {party from at : ℕ} {answer : Answer} {results : List ℕ}
+      (r : DecodeTo file n externals long masks each results₀ party from at answer results) (h : party < n) where
+    pub decode-reads : length externals ≡ n * long → from + long ≤ length externals
+    decode-reads l = read-next externals n long party from l (r .place) h
+
+    pub decode-next : {own ys : List ℕ} {next both : Answer} → own ≡ part externals from long
+        → length ys ≡ length (take (at + each - at) (drop at results))
+        → Meets (decodeChecked file own masks (take (at + each - at) (drop at results))) next
+        → ys ≡ decodeAfter file own masks (take (at + each - at) (drop at results))
+        → both ≡ followed answer next
+        → DecodeTo file n externals long masks each results₀ (party + 1) (from + long) (at + each) both (lent at (at + each) results ys)
+    decode-next {own} {ys} {next} {both} o l m e b =
+        let o′ : own ≡ nth externals long party = own-part externals long party o (r .place) in
+        let p : take (at + each - at) (drop at results) ≡ nth results₀ each party = part-next (r .level) refl in
+        let z : ys ≡ decodedBytes file n externals long masks each results₀ party =
+        e ∙ ap₂ (λ (a b : List ℕ). decodeAfter file a masks b) o′ p in
+        record {
+          place = omega (arith, r .place, times-next party long);
+          level = steps-call (r .level) h refl l z;
+          sized =
+              sized-next (decodedBytes file n externals long masks each results₀) party each (r .sized)
+              (sym (ap length z) ∙ l ∙ steps-long (r .level) h refl);
+          met =
+              turn-next (decodeChecks file n externals long masks each results₀) party (r .met) m
+              (ap₂ (λ (a b : List ℕ). decodeChecked file a masks b) o′ p) b;
+        }
+
+  pub decode-all : {party from at : ℕ} {answer : Answer} {results : List ℕ} → DecodeTo file n externals long masks each results₀ party from at answer results → n ≤ party
+      → Meets (allOf n (decodeChecks file n externals long masks each results₀)) answer
+  decode-all r h = met-all (decodeChecks file n externals long masks each results₀) (r .level) h (r .met)
