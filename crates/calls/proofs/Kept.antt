@@ -28,7 +28,7 @@ use Rattle.circuit.proofs.Entry.{ran}
 use Rattle.circuit.proofs.Accepted as theorem
 use Rattle.counts.specs.declared.tally.Tally.{Tally}
 use Rattle.counts.specs.Recipe.{recipe, gateRecipe}
-use Rattle.counts.specs.Counts.{rowsBy, rowsOf, rowsIn, recordsBy, recordsOf, recordsIn, mark}
+use Rattle.counts.specs.Counts.{rowsBy, rowsOf, rowsIn, recordKeysBy, recordKeysOf, recordKeysIn, mark}
 use Rattle.counts.specs.Moduli.{someBelow, used, moduliUsed}
 use Rattle.counts.specs.Tally.{Spare, Adds}
 use Rattle.counts.proofs.Wires.{modulus-at}
@@ -62,11 +62,11 @@ module _ (wires : List Wire) (x : Wire) where
       (λ w h. ap₂ (λ (a : Wire) (before : List Wire). rowsBy (recipe a) (modulusAt before) (a .modulus)) (wire-kept wires (x ∷ []) w h) (take-append-le w wires (x ∷ []) (omega arith)))
       (ap₂ (λ (a : Wire) (before : List Wire). rowsBy (recipe a) (modulusAt before) (a .modulus)) (wire-new wires x) (take-append-seam wires (x ∷ [])))
 
-  records-more : recordsIn more ≡ recordsIn wires + recordsBy (recipe x)
+  records-more : recordKeysIn more ≡ recordKeysIn wires + recordKeysBy (recipe x)
   records-more =
-      sum-more recordsOf wires x _
-      (λ w h. ap (λ (a : Wire). recordsBy (recipe a)) (wire-kept wires (x ∷ []) w h))
-      (ap (λ (a : Wire). recordsBy (recipe a)) (wire-new wires x))
+      sum-more recordKeysOf wires x _
+      (λ w h. ap (λ (a : Wire). recordKeysBy (recipe a)) (wire-kept wires (x ∷ []) w h))
+      (ap (λ (a : Wire). recordKeysBy (recipe a)) (wire-new wires x))
 
   marks-more : (marks : List ℕ) → marks ≡ marked 256 (modulusAt wires) (length wires) → x .modulus < 256
       → set marks (x .modulus) 1 ≡ marked 256 (modulusAt more) (length more)
@@ -83,7 +83,7 @@ pub record Kept (file moduli marks : List ℕ) (tally : Tally) (made given : ℕ
   pub loop : Loop file wires moduli outputs made (tally .inputs) given due at
   pub rows : tally .rows ≡ sumTo (length (take made wires)) (rowsMade (take made wires))
   pub rowsMost : tally .rows ≤ made * 512
-  pub records : tally .records ≡ recordsIn (take made wires)
+  pub records : tally .records ≡ recordKeysIn (take made wires)
   pub recordsMost : tally .records ≤ made * 3
   pub marked : marks ≡ marked 256 (modulusAt (take made wires)) (length (take made wires))
 
@@ -201,9 +201,9 @@ module _ {file moduli marks : List ℕ} {tally : Tally} {made given : ℕ} {due 
           rowsMost = omega (arith, a .rowsMost, k .rowsMost, times-next made 512);
           records =
               a .records
-              ∙ ap (λ (n : ℕ). n + recordsBy (recipe x)) (k .records)
+              ∙ ap (λ (n : ℕ). n + recordKeysBy (recipe x)) (k .records)
               ∙ sym (records-more (take made (k .wires)) x)
-              ∙ ap recordsIn (sym front);
+              ∙ ap recordKeysIn (sym front);
           recordsMost = omega (arith, a .recordsMost, k .recordsMost, times-next made 3);
           marked =
               ap (λ (q : ℕ). set marks q 1) e
@@ -247,7 +247,7 @@ refused-counts {file} {summary} {reason} {place} e s =
       outputs = ap (λ (r : Read). length (r .outputs)) e;
       rows = ap (λ (r : Read). rowsIn (r .wires)) e;
       moduli = sym no-moduli ∙ ap (λ (r : Read). moduliUsed (r .wires)) e;
-      records = ap (λ (r : Read). recordsIn (r .wires)) e;
+      records = ap (λ (r : Read). recordKeysIn (r .wires)) e;
     })
 
 -- where it is accepted the counts are those of its wires
@@ -269,5 +269,5 @@ accepted-counts {file} {marks = marks} {made = made} {given} k e t =
           ∙ ap (λ (r : Read). length (r .outputs)) e;
       rows = t .rows ∙ k .rows ∙ rows-all file (take made (k .wires)) (take given (k .outputs)) fits ∙ ap (λ (r : Read). rowsIn (r .wires)) e;
       moduli = marks-summed 256 (used (take made (k .wires))) {marks = marks} (k .marked) (t .moduli) .is ∙ ap (λ (r : Read). moduliUsed (r .wires)) e;
-      records = t .records ∙ k .records ∙ ap (λ (r : Read). recordsIn (r .wires)) e;
+      records = t .records ∙ k .records ∙ ap (λ (r : Read). recordKeysIn (r .wires)) e;
     }

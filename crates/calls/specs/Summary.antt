@@ -8,7 +8,7 @@ use Rattle.checks.specs.declared.Answer.the-variants.{Accepted, Refused}
 use Rattle.checks.specs.declared.Refusal.{Refusal}
 use Rattle.circuit.specs.Wires.{inputsIn}
 use Rattle.circuit.specs.File.{readFile}
-use Rattle.counts.specs.Counts.{rowsIn, recordsIn}
+use Rattle.counts.specs.Counts.{rowsIn, recordKeysIn}
 use Rattle.counts.specs.Moduli.{moduliUsed, SetMarks}
 use Rattle.counts.specs.declared.tally.Tally.{Tally}
 use Rattle.calls.specs.declared.summary.Summary.{Summary}
@@ -21,7 +21,7 @@ pub record Summarizes (file : List ℕ) (summary : Summary) : Type 0 where
   pub rows : summary .rows ≡ rowsIn (readFile file .wires)
   pub moduli : summary .moduli ≡ moduliUsed (readFile file .wires)
   -- I + P + 2M + 3S of document 01's "What a seat contributes"
-  pub records : summary .records ≡ recordsIn (readFile file .wires)
+  pub records : summary .records ≡ recordKeysIn (readFile file .wires)
 
 -- nothing is counted in a refused file
 abbrev pub noCounts : Refusal → ℕ → Summary

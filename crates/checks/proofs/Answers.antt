@@ -13,7 +13,7 @@ use Rattle.checks.specs.declared.Answer.{Answer}
 use Rattle.checks.specs.declared.Answer.the-variants.{Accepted, Refused}
 use Rattle.checks.specs.Combined.{named, followed}
 use Rattle.checks.specs.Answer.{numberIn, placeIn}
-use Rattle.checks.specs.Checked.{Checked, Meets, Reports, answered, andThen, unless, noneBad, refusedSome, noneBadSomewhere, afterwards}
+use Rattle.checks.specs.Checked.{Checked, Meets, Reports, answered, andThen, unless, noneBad, unlessFree, noneBadFree, afterwards}
 use Rattle.checks.specs.Checked.Checked.{passed}
 use Rattle.checks.specs.Checked.Meets.{accepts, names, namesSome}
 use Rattle.checks.proofs.Passed.{noneBad-passed, somewhere-passed}
@@ -99,7 +99,7 @@ module _ (n : ℕ) (bad : ℕ → Bool) (reason : Refusal) where
 
   -- ---- the same where the place is free: any that is bad may be named, so the lowest may
 
-  pub somewhere-met : ((i : ℕ) → i < n → bad i ≡ false) → Meets (noneBadSomewhere n bad reason) Accepted
+  pub somewhere-met : ((i : ℕ) → i < n → bad i ≡ false) → Meets (noneBadFree n bad reason) Accepted
   somewhere-met fine = meets-passed (somewhere-passed n bad reason fine)
 
   not-past : (i : ℕ) → i < n → bad i ≡ true → (b : Bool) → leb n (first n bad) ≡ b → leb n (first n bad) ≡ false
@@ -109,16 +109,16 @@ module _ (n : ℕ) (bad : ℕ → Bool) (reason : Refusal) where
   allowed : (i : ℕ) → i < n → bad i ≡ true → (ltb i n && bad i) ≡ true
   allowed i h here = rw (lt-ltb i n h, here)
 
-  pub somewhere-named : (i : ℕ) → i < n → bad i ≡ true → Meets (noneBadSomewhere n bad reason) (Refused reason i)
-  unfolding noneBadSomewhere refusedSome
+  pub somewhere-named : (i : ℕ) → i < n → bad i ≡ true → Meets (noneBadFree n bad reason) (Refused reason i)
+  unfolding noneBadFree unlessFree
   somewhere-named i h here =
-      rw (not-past i h here (leb n (first n bad)) refl, refusedSome) (namesSome (allowed i h here))
+      rw (not-past i h here (leb n (first n bad)) refl, unlessFree) (namesSome (allowed i h here))
 
-  pub meets-somewhere : Meets (noneBadSomewhere n bad reason) (named n (first n bad) reason)
-  unfolding noneBadSomewhere refusedSome
+  pub meets-somewhere : Meets (noneBadFree n bad reason) (named n (first n bad) reason)
+  unfolding noneBadFree unlessFree
   meets-somewhere = go (leb n (first n bad)) refl
     where
-      go : (b : Bool) → leb n (first n bad) ≡ b → Meets (refusedSome b (λ i. ltb i n && bad i) reason) (cond b Accepted (Refused reason (first n bad)))
+      go : (b : Bool) → leb n (first n bad) ≡ b → Meets (unlessFree b (λ i. ltb i n && bad i) reason) (cond b Accepted (Refused reason (first n bad)))
       go true e = accepts
       go false e =
           let h : first n bad < n = leb-false n (first n bad) e in

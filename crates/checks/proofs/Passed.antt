@@ -12,7 +12,7 @@ use Rattle.lists.proofs.First.{first-none, first-before}
 use Rattle.checks.specs.declared.Refusal.{Refusal}
 use Rattle.checks.specs.declared.Answer.{Answer}
 use Rattle.checks.specs.declared.Answer.the-variants.{Accepted, Refused}
-use Rattle.checks.specs.Checked.{Checked, answered, andThen, unless, noneBad, refusedSome, noneBadSomewhere, afterwards}
+use Rattle.checks.specs.Checked.{Checked, answered, andThen, unless, noneBad, unlessFree, noneBadFree, afterwards}
 use Rattle.checks.specs.Checked.Checked.{passed, refused}
 
 -- ---- one check after another
@@ -70,17 +70,17 @@ unfolding noneBad
 noneBad-none n bad reason e = none n bad (unless-true (leb n (first n bad)) reason (first n bad) e)
 
 -- the same where the place is free
-pub somewhere-passed : (n : ℕ) (bad : ℕ → Bool) (reason : Refusal) → ((i : ℕ) → i < n → bad i ≡ false) → noneBadSomewhere n bad reason ≡ passed
-unfolding noneBadSomewhere refusedSome
-somewhere-passed n bad reason fine = rw (past n bad fine, refusedSome)
+pub somewhere-passed : (n : ℕ) (bad : ℕ → Bool) (reason : Refusal) → ((i : ℕ) → i < n → bad i ≡ false) → noneBadFree n bad reason ≡ passed
+unfolding noneBadFree unlessFree
+somewhere-passed n bad reason fine = rw (past n bad fine, unlessFree)
 
-refusedSome-true : (b : Bool) (bad : ℕ → Bool) (reason : Refusal) → refusedSome b bad reason ≡ passed → b ≡ true
-unfolding refusedSome
+refusedSome-true : (b : Bool) (bad : ℕ → Bool) (reason : Refusal) → unlessFree b bad reason ≡ passed → b ≡ true
+unfolding unlessFree
 refusedSome-true true bad reason e = refl
 refusedSome-true false bad reason e = cc
 
-pub somewhere-none : (n : ℕ) (bad : ℕ → Bool) (reason : Refusal) → noneBadSomewhere n bad reason ≡ passed → (i : ℕ) → i < n → bad i ≡ false
-unfolding noneBadSomewhere
+pub somewhere-none : (n : ℕ) (bad : ℕ → Bool) (reason : Refusal) → noneBadFree n bad reason ≡ passed → (i : ℕ) → i < n → bad i ≡ false
+unfolding noneBadFree
 somewhere-none n bad reason e = none n bad (refusedSome-true (leb n (first n bad)) (λ i. ltb i n && bad i) reason e)
 
 -- ---- where the checks pass, a buffer holds what is written

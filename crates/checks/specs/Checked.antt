@@ -39,12 +39,12 @@ unfoldable pub noneBad : ℕ → (ℕ → Bool) → Refusal → Checked
 noneBad n bad reason = unless (leb n (first n bad)) reason (first n bad)
 
 -- the same, refused at some number that is bad
-unfoldable pub refusedSome : Bool → (ℕ → Bool) → Refusal → Checked
-refusedSome true bad reason = passed
-refusedSome false bad reason = refused reason (free bad)
+unfoldable pub unlessFree : Bool → (ℕ → Bool) → Refusal → Checked
+unlessFree true bad reason = passed
+unlessFree false bad reason = refused reason (free bad)
 
-unfoldable pub noneBadSomewhere : ℕ → (ℕ → Bool) → Refusal → Checked
-noneBadSomewhere n bad reason = refusedSome (leb n (first n bad)) (λ i. ltb i n && bad i) reason
+unfoldable pub noneBadFree : ℕ → (ℕ → Bool) → Refusal → Checked
+noneBadFree n bad reason = unlessFree (leb n (first n bad)) (λ i. ltb i n && bad i) reason
 
 -- what an answer must be
 pub data Meets : Checked → Answer → Type 0 where

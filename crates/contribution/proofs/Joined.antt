@@ -16,7 +16,7 @@ use Rattle.lists.proofs.Blocks.{length-runs}
 use Rattle.lists.proofs.Search.{Looking, looking-start}
 use Rattle.words.specs.declared.gate.Wire.{Wire}
 use Rattle.circuit.specs.Wires.{modulusAt}
-use Rattle.counts.specs.Counts.{Counts, mark, recordsOf, recordsIn}
+use Rattle.counts.specs.Counts.{Counts, mark, recordKeysOf, recordKeysIn}
 use Rattle.counts.specs.Moduli.{used, moduliUsed}
 use Rattle.session.specs.Session.{tooLarge}
 use Rattle.scheme.specs.Contribution.{contributionSize, contributionModuli}
@@ -59,7 +59,7 @@ module _ (K : ℕ) (wires : List Wire) (xs : List ℕ) (e : length xs ≡ contri
   ofOffsets = runs 256 (λ p. K * mark (used wires p)) (λ p. p)
 
   abbrev ofRecords : List ℕ
-  ofRecords = runs (length wires) (λ w. (K + 1) * recordsOf wires w) (modulusAt wires)
+  ofRecords = runs (length wires) (λ w. (K + 1) * recordKeysOf wires w) (modulusAt wires)
 
   -- what stands behind the offsets, as the code cuts it
   abbrev behindOffsets : List ℕ
@@ -85,7 +85,7 @@ module _ (K : ℕ) (wires : List Wire) (xs : List ℕ) (e : length xs ≡ contri
   rest-size : length behindOffsets ≡ length xs - K * moduli
   rest-size = length-range xs (K * moduli) (length xs) split-fits (omega arith)
 
-  pub rest-long : length behindOffsets ≡ (K + 1) * recordsIn wires
+  pub rest-long : length behindOffsets ≡ (K + 1) * recordKeysIn wires
   unfolding contributionSize
   rest-long = rest-size ∙ omega (arith, e, split-is)
 

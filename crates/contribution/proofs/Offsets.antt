@@ -9,7 +9,7 @@ use native.Mathlib.Omega.{arith}
 use borrow.Author.Tests.{eq-eqb, ne-eqb}
 use lib.Dec.{eqb}
 use lib.ListN.{length, getD, take, drop}
-use Rattle.lists.specs.Blocks.{tab, part, nth}
+use Rattle.lists.specs.Blocks.{tab, part, nthPiece}
 use Rattle.lists.specs.First.{first}
 use Rattle.lists.proofs.Parts.{part-range, part-of-part}
 use Rattle.lists.proofs.Sums.{times-fits}
@@ -72,7 +72,7 @@ module _ (xs : List ℕ) (n size at k : ℕ) (e : length xs ≡ n * size) (fits 
   pub within-all : party * size + at + k ≤ length xs
   within-all = omega (arith, times-fits party n size h)
 
-  pub party-part : {to : ℕ} → to ≡ party * size + at + k → take (to - (party * size + at)) (drop (party * size + at) xs) ≡ part (nth xs size party) at k
+  pub party-part : {to : ℕ} → to ≡ party * size + at + k → take (to - (party * size + at)) (drop (party * size + at) xs) ≡ part (nthPiece xs size party) at k
   party-part {to} z =
       part-range xs (party * size + at) to k z ∙ sym (part-of-part xs (party * size) size at k fits)
 
@@ -92,7 +92,7 @@ looking-as {n} {i} {test} {other} r e = record { within = r .within; failed = λ
 -- what the code tests of a modulus, by its marks and places
 abbrev pub zeroMarked : ℕ → ℕ → List ℕ → List ℕ → ℕ → List ℕ → ℕ → Bool
 zeroMarked n k marks ranks size xs p =
-    eqb (getD marks p 0) 1 && someBelow n (λ party. allZero (part (nth xs size party) (k * getD ranks p 0) k))
+    eqb (getD marks p 0) 1 && someBelow n (λ party. allZero (part (nthPiece xs size party) (k * getD ranks p 0) k))
 
 pub both-marked : (m : ℕ) (x : Bool) → m ≡ 1 → x ≡ (eqb m 1 && x)
 both-marked m x e = rw (eq-eqb m 1 e)
@@ -101,10 +101,10 @@ pub not-marked : (m : ℕ) (x : Bool) → (m ≡ 1 → ⊥) → false ≡ (eqb m
 not-marked m x e = rw (ne-eqb m 1 e)
 
 pub marked-is : (n k : ℕ) (marks ranks : List ℕ) (size : ℕ) (xs : List ℕ) (p : ℕ) {rank : ℕ} {b : Bool} → rank ≡ getD ranks p 0
-    → b ≡ (eqb (getD marks p 0) 1 && someBelow n (λ party. allZero (part (nth xs size party) (k * rank) k)))
+    → b ≡ (eqb (getD marks p 0) 1 && someBelow n (λ party. allZero (part (nthPiece xs size party) (k * rank) k)))
     → zeroMarked n k marks ranks size xs p ≡ b
 marked-is n k marks ranks size xs p {rank} {b} e f =
-    sym (f ∙ ap (λ (r : ℕ). eqb (getD marks p 0) 1 && someBelow n (λ party. allZero (part (nth xs size party) (k * r) k))) e)
+    sym (f ∙ ap (λ (r : ℕ). eqb (getD marks p 0) 1 && someBelow n (λ party. allZero (part (nthPiece xs size party) (k * r) k))) e)
 
 module _ (n k : ℕ) (wires : List Wire) (xs : List ℕ) {marks ranks : List ℕ} {limit size : ℕ} (e : marks ≡ tab 256 (λ p. mark (used wires p)))
     (f : ranks ≡ tab 256 (usedBelow wires)) (g : Counts limit (contributionSize k wires) size) where
@@ -122,10 +122,10 @@ module _ (n k : ℕ) (wires : List Wire) (xs : List ℕ) {marks ranks : List ℕ
   pub zero-same : (p : ℕ) → p < 256 → zeroMarked n k marks ranks size xs p ≡ zeroOffset n k wires xs p
   unfolding zeroOffset offsetAt
   zero-same p h =
-      ap (λ (b : Bool). b && someBelow n (λ party. allZero (part (nth xs size party) (k * getD ranks p 0) k)))
+      ap (λ (b : Bool). b && someBelow n (λ party. allZero (part (nthPiece xs size party) (k * getD ranks p 0) k)))
       (ap (λ (m : ℕ). eqb m 1) (mark-at k (used wires) e p h) ∙ mark-tests (used wires p))
-      ∙ ap (λ (r : ℕ). used wires p && someBelow n (λ party. allZero (part (nth xs size party) (k * r) k))) (rank-at p h)
-      ∙ ap (λ (s : ℕ). used wires p && someBelow n (λ party. allZero (part (nth xs s party) (k * usedBelow wires p) k))) (g .is)
+      ∙ ap (λ (r : ℕ). used wires p && someBelow n (λ party. allZero (part (nthPiece xs size party) (k * r) k))) (rank-at p h)
+      ∙ ap (λ (s : ℕ). used wires p && someBelow n (λ party. allZero (part (nthPiece xs s party) (k * usedBelow wires p) k))) (g .is)
 
   pub zero-found : {i : ℕ} → Looking 256 (zeroMarked n k marks ranks size xs) i → Looking 256 (zeroOffset n k wires xs) i
   zero-found r = looking-as r zero-same

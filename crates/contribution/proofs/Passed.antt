@@ -7,7 +7,7 @@ use Prim.Native.Nat.{ℕ, _+_, _*_, _≤_, _<_}
 use native.Mathlib.Nat.{add-assoc, add-mul}
 use native.Mathlib.Omega.{arith}
 use lib.ListN.{length, getD}
-use Rattle.lists.specs.Blocks.{nth, runs, sumTo}
+use Rattle.lists.specs.Blocks.{nthPiece, runs, sumTo}
 use Rattle.lists.proofs.Sums.{times-fits, sumTo-const, sumTo-fits}
 use Rattle.lists.proofs.Blocks.{getD-runs}
 use Rattle.residue.specs.Vector.{AllBelow}
@@ -23,7 +23,7 @@ use Rattle.contribution.proofs.Wired.{sumTo-times-right}
 
 module _ (n K : ℕ) (wires : List Wire) where
   pub keys-below : (keys : List ℕ) → length keys ≡ inputsIn wires * (n * K) → keysChecked n K wires keys ≡ passed
-      → (w : ℕ) → w < inputsIn wires → AllBelow (modulusAt wires w) (nth keys (n * K) w)
+      → (w : ℕ) → w < inputsIn wires → AllBelow (modulusAt wires w) (nthPiece keys (n * K) w)
   unfolding keysChecked
   keys-below keys e t w h =
       let moduli : List ℕ = runs (inputsIn wires) (λ _. n * K) (modulusAt wires) in
@@ -35,7 +35,7 @@ module _ (n K : ℕ) (wires : List Wire) where
       (bytes-below keys moduli KeyOrRowTooLarge t (w * (n * K) + j) (omega (arith, e))))
 
   pub rows-below : (rows : List ℕ) → length rows ≡ rowsIn wires * (n * K) → rowsChecked n K wires rows ≡ passed
-      → (w i : ℕ) → w < length wires → i < rowsOf wires w → AllBelow (modulusAt wires w) (nth rows (n * K) (sumTo w (rowsOf wires) + i))
+      → (w i : ℕ) → w < length wires → i < rowsOf wires w → AllBelow (modulusAt wires w) (nthPiece rows (n * K) (sumTo w (rowsOf wires) + i))
   unfolding rowsChecked
   rows-below rows e t w i h k =
       let size : ℕ → ℕ = λ v. rowsOf wires v * (n * K) in

@@ -13,7 +13,7 @@ use Rattle.lists.proofs.Sums.{sumTo-next, sumTo-le, sumTo-ext, sumTo-const}
 use Rattle.lists.proofs.Blocks.{length-tab, getD-tab, take-tab, tab-ext}
 use Rattle.lists.proofs.Filled.{Filled, filled-step, filled-whole}
 use Rattle.words.specs.declared.gate.Wire.{Wire}
-use Rattle.counts.specs.Counts.{Counts, mark, recordsIn}
+use Rattle.counts.specs.Counts.{Counts, mark, recordKeysIn}
 use Rattle.counts.specs.Moduli.{used, usedBelow, moduliUsed}
 use Rattle.scheme.specs.Contribution.{contributionSize}
 
@@ -24,7 +24,7 @@ times-most a b m n h k = le-trans (mul-le-mul-right b h) (mul-le-mul-left m k)
 
 -- ---- the size
 
-module _ (K : ℕ) (wires : List Wire) {moduli keys m r : ℕ} (h : K ≤ 128) (a : Counts 256 (moduliUsed wires) m) (b : Counts 3072 (recordsIn wires) r) (e : moduli ≡ m) (f : keys ≡ r) where
+module _ (K : ℕ) (wires : List Wire) {moduli keys m r : ℕ} (h : K ≤ 128) (a : Counts 256 (moduliUsed wires) m) (b : Counts 3072 (recordKeysIn wires) r) (e : moduli ≡ m) (f : keys ≡ r) where
   pub offsets-most : K * moduli ≤ 32768
   offsets-most = times-most K moduli 128 256 h (omega arith)
 

@@ -14,7 +14,7 @@ use Rattle.lists.proofs.Blocks.{blocks-ext, getD-tab}
 use Rattle.circuit.specs.declared.Circuit.{Circuit}
 use Rattle.circuit.specs.Wires.{wireAt, modulusAt, moduliOf}
 use Rattle.counts.specs.Recipe.{recipe}
-use Rattle.counts.specs.Counts.{Counts, Room, mark, rowsBy, rowsOf, recordsBy, recordsOf}
+use Rattle.counts.specs.Counts.{Counts, Room, mark, rowsBy, rowsOf, recordKeysBy, recordKeysOf}
 use Rattle.counts.proofs.Wires.{modulus-at}
 use Rattle.counts.proofs.Counting.{rows-at, records-at}
 use Rattle.session.specs.Held.{wiresIn}
@@ -52,8 +52,8 @@ module _ (circuit : Circuit) (room : Room circuit) where
     pub modulus-is : modulusAt (circuit .wires) w ≡ modulusAt (wiresIn circuit) w
     modulus-is = sym (modulus-at (circuit .wires) (circuit .made) w h)
 
-    pub records-are : {limit count size : ℕ} → Counts limit (recordsBy (recipe (wireAt (circuit .wires) w))) count → size ≡ count → (k : ℕ)
-        → (k + 1) * size ≡ (k + 1) * recordsOf (wiresIn circuit) w
+    pub records-are : {limit count size : ℕ} → Counts limit (recordKeysBy (recipe (wireAt (circuit .wires) w))) count → size ≡ count → (k : ℕ)
+        → (k + 1) * size ≡ (k + 1) * recordKeysOf (wiresIn circuit) w
     records-are {limit} {count} {size} r e k = ap (λ (s : ℕ). (k + 1) * s) (e ∙ r .is ∙ records-at (circuit .wires) (circuit .made) w h)
 
     pub rows-are : {table : List ℕ} {limit count size : ℕ} → table ≡ moduliOf (wiresIn circuit) ++ replicate (1024 - circuit .made) 0

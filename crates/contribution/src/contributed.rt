@@ -5,7 +5,7 @@ ghost use lib.ListN.{length, getD};
 ghost use Rattle.lists.specs.Blocks.{blocks, runs};
 ghost use Rattle.checks.specs.Checked.{Meets};
 ghost use Rattle.circuit.specs.Wires.{modulusAt};
-ghost use Rattle.counts.specs.Counts.{Room, mark, recordsOf, recordsIn};
+ghost use Rattle.counts.specs.Counts.{Room, mark, recordKeysOf, recordKeysIn};
 ghost use Rattle.counts.specs.Moduli.{used, moduliUsed};
 ghost use Rattle.session.specs.Held.{wiresIn};
 ghost use Rattle.scheme.specs.Contribution.{contributionSize, contributionModuli};
@@ -48,8 +48,8 @@ fn first_in_offsets(circuit: Circuit, k: usize, bytes: &[u8]) -> usize
 // In the records of one party.
 fn first_in_records(circuit: Circuit, k: usize, bytes: &[u8]) -> usize
     requires { ⌜ Room circuit × (k ≤ 128) ⌝ }
-    requires { ⌜ length (now bytes) ≡ (k + 1) * recordsIn (wiresIn circuit) ⌝ }
-    ensures { λ r. ⌜ r ≡ firstLarge (now (bytes .entry)) (λ i. getD (runs (length (wiresIn circuit)) (λ w. (k + 1) * recordsOf (wiresIn circuit) w) (modulusAt (wiresIn circuit))) i 0) ⌝ }
+    requires { ⌜ length (now bytes) ≡ (k + 1) * recordKeysIn (wiresIn circuit) ⌝ }
+    ensures { λ r. ⌜ r ≡ firstLarge (now (bytes .entry)) (λ i. getD (runs (length (wiresIn circuit)) (λ w. (k + 1) * recordKeysOf (wiresIn circuit) w) (modulusAt (wiresIn circuit))) i 0) ⌝ }
 {
     let made = circuit.made;
     let mut at = 0;

@@ -4,7 +4,7 @@ ghost use mathlib.Core.Bool.{_&&_};
 ghost use Prim.Native.Nat.{_+_, _*_, _≤_};
 ghost use lib.Dec.{eqb};
 ghost use lib.ListN.{length};
-ghost use Rattle.lists.specs.Blocks.{part, nth};
+ghost use Rattle.lists.specs.Blocks.{part, nthPiece};
 ghost use Rattle.lists.specs.First.{first};
 ghost use Rattle.checks.specs.Checked.{Meets};
 ghost use Rattle.counts.specs.Counts.{Room};
@@ -38,7 +38,7 @@ fn all_zero(bytes: &[u8]) -> bool
 // Whether the k bytes from place `at` on are zero in one of the n parts of `size` bytes.
 fn some_zero(n: usize, size: usize, at: usize, k: usize, contributions: &[u8]) -> bool
     requires { ⌜ (length (now contributions) ≡ n * size) × (at + k ≤ size) ⌝ }
-    ensures { λ r. ⌜ r ≡ someBelow n (λ party. allZero (part (nth (now (contributions .entry)) size party) at k)) ⌝ }
+    ensures { λ r. ⌜ r ≡ someBelow n (λ party. allZero (part (nthPiece (now (contributions .entry)) size party) at k)) ⌝ }
 {
     let mut party = 0;
     while party < n {
@@ -55,7 +55,7 @@ fn some_zero(n: usize, size: usize, at: usize, k: usize, contributions: &[u8]) -
 // The same, of an offset that has a mark where its modulus is in use.
 fn zero_marked(marked: u8, n: usize, size: usize, at: usize, k: usize, contributions: &[u8]) -> bool
     requires { ⌜ (length (now contributions) ≡ n * size) × (marked ≡ 1 → at + k ≤ size) ⌝ }
-    ensures { λ r. ⌜ r ≡ (eqb marked 1 && someBelow n (λ party. allZero (part (nth (now (contributions .entry)) size party) at k))) ⌝ }
+    ensures { λ r. ⌜ r ≡ (eqb marked 1 && someBelow n (λ party. allZero (part (nthPiece (now (contributions .entry)) size party) at k))) ⌝ }
 {
     if marked == 1 {
         some_zero(n, size, at, k, contributions)

@@ -16,7 +16,7 @@ use Rattle.circuit.specs.Wires.{wireAt, modulusAt, moduliOf}
 use Rattle.counts.specs.declared.recipe.Recipe.{Recipe}
 use Rattle.counts.specs.declared.recipe.Recipe.the-variants.{Drawn, Free, Table, Product, Choice}
 use Rattle.counts.specs.Recipe.{recipe}
-use Rattle.counts.specs.Counts.{rowsBy, rowsOf, recordsBy, Room, Counts}
+use Rattle.counts.specs.Counts.{rowsBy, rowsOf, recordKeysBy, Room, Counts}
 use Rattle.counts.proofs.Wires.{wire-at, padded-modulus}
 
 -- i of n turns are taken, and each added at most a limit
@@ -62,5 +62,5 @@ rows-at wires made w n table h e =
     (λ a. ap (λ (l : List ℕ). getD l a 0) e ∙ padded-modulus (take made wires) n a)
     ∙ ap (λ (wire : Wire). rowsBy (recipe wire) (modulusAt (take made wires)) (wire .modulus)) (sym (wire-at wires made w h))
 
-pub records-at : (wires : List Wire) (made w : ℕ) → w < made → recordsBy (recipe (wireAt wires w)) ≡ recordsBy (recipe (wireAt (take made wires) w))
-records-at wires made w h = ap (λ (wire : Wire). recordsBy (recipe wire)) (sym (wire-at wires made w h))
+pub records-at : (wires : List Wire) (made w : ℕ) → w < made → recordKeysBy (recipe (wireAt wires w)) ≡ recordKeysBy (recipe (wireAt (take made wires) w))
+records-at wires made w h = ap (λ (wire : Wire). recordKeysBy (recipe wire)) (sym (wire-at wires made w h))

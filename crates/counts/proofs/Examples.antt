@@ -7,7 +7,7 @@ use Rattle.lists.specs.Blocks.{sumTo}
 use Rattle.words.specs.declared.gate.Gate.{Gate}
 use Rattle.words.specs.declared.gate.Gate.the-variants.{Input, Add, Scale, Multiply, Project, Select}
 use Rattle.words.specs.declared.gate.Wire.{Wire}
-use Rattle.counts.specs.Counts.{rowsOf, rowsIn, recordsIn, inputsOf}
+use Rattle.counts.specs.Counts.{rowsOf, rowsIn, recordKeysIn, inputsOf}
 use Rattle.counts.specs.Moduli.{someBelow, moduliUsed}
 
 wire : Gate → ℕ → Wire
@@ -48,7 +48,7 @@ small-rows : rowsIn small ≡ 24
 unfolding wire input small sumTo
 small-rows = refl
 
-small-records : recordsIn small ≡ 9
+small-records : recordKeysIn small ≡ 9
 unfolding wire input small sumTo
 small-records = refl
 

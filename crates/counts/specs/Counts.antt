@@ -35,18 +35,18 @@ rowsIn wires = sumTo (length wires) (rowsOf wires)
 
 -- the keys that a wire's record has, and as many mask shares: zero key and share; for a product those of its first part too; for a
 -- choice those of two first parts. So I + P + 2M + 3S in all
-abbrev pub recordsBy : Recipe → ℕ
-recordsBy Drawn = 1
-recordsBy Free = 0
-recordsBy (Table a) = 1
-recordsBy (Product g) = 2
-recordsBy (Choice g) = 3
+abbrev pub recordKeysBy : Recipe → ℕ
+recordKeysBy Drawn = 1
+recordKeysBy Free = 0
+recordKeysBy (Table a) = 1
+recordKeysBy (Product g) = 2
+recordKeysBy (Choice g) = 3
 
-abbrev pub recordsOf : List Wire → ℕ → ℕ
-recordsOf wires w = recordsBy (recipe (wireAt wires w))
+abbrev pub recordKeysOf : List Wire → ℕ → ℕ
+recordKeysOf wires w = recordKeysBy (recipe (wireAt wires w))
 
-abbrev pub recordsIn : List Wire → ℕ
-recordsIn wires = sumTo (length wires) (recordsOf wires)
+abbrev pub recordKeysIn : List Wire → ℕ
+recordKeysIn wires = sumTo (length wires) (recordKeysOf wires)
 
 -- 1 where a test holds, so that a sum counts
 abbrev pub mark : Bool → ℕ

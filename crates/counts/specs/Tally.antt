@@ -8,7 +8,7 @@ use Rattle.words.specs.declared.gate.Wire.{Wire}
 use Rattle.circuit.specs.Wires.{isInput}
 use Rattle.counts.specs.declared.tally.Tally.{Tally}
 use Rattle.counts.specs.Recipe.{recipe}
-use Rattle.counts.specs.Counts.{rowsBy, recordsBy, mark, Counts}
+use Rattle.counts.specs.Counts.{rowsBy, recordKeysBy, mark, Counts}
 
 -- the counts of at most 1,024 wires
 pub record Spare (tally : Tally) : Type 0 where
@@ -25,5 +25,5 @@ pub record Adds (moduli : List ℕ) (wire : Wire) (before after : Tally) : Type 
   pub inputs : after .inputs ≡ before .inputs + mark (isInput (wire .gate))
   pub rows : after .rows ≡ before .rows + rowsBy (recipe wire) (λ a. getD moduli a 0) (wire .modulus)
   pub rowsMost : after .rows ≤ before .rows + 512
-  pub records : after .records ≡ before .records + recordsBy (recipe wire)
+  pub records : after .records ≡ before .records + recordKeysBy (recipe wire)
   pub recordsMost : after .records ≤ before .records + 3

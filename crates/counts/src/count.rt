@@ -3,7 +3,7 @@ ghost use mathlib.Core.Path.{_≡_};
 ghost use Prim.Native.Nat.{_≤_, _<_};
 ghost use lib.ListN.{take, getD};
 ghost use Rattle.counts.specs.Recipe.{recipe};
-ghost use Rattle.counts.specs.Counts.{rowsBy, rowsIn, recordsBy, recordsIn, mark, ownedBy, inputsOf, Room, Counts};
+ghost use Rattle.counts.specs.Counts.{rowsBy, rowsIn, recordKeysBy, recordKeysIn, mark, ownedBy, inputsOf, Room, Counts};
 use super::modulus::moduli;
 use super::number::same;
 use super::number::widened;
@@ -59,7 +59,7 @@ pub fn rows(circuit: Circuit) -> u32
 
 // The keys in a wire's record.
 pub fn record_count(wire: Wire) -> u32
-    ensures { λ r. ⌜ Counts 3 (recordsBy (recipe wire)) r ⌝ }
+    ensures { λ r. ⌜ Counts 3 (recordKeysBy (recipe wire)) r ⌝ }
 {
     let how = recipe_of(wire);
     match how {
@@ -74,7 +74,7 @@ pub fn record_count(wire: Wire) -> u32
 // The keys in all records of a party's contribution.
 pub fn records(circuit: Circuit) -> u32
     requires { ⌜ Room circuit ⌝ }
-    ensures { λ r. ⌜ Counts 3072 (recordsIn (take (circuit .made) (circuit .wires))) r ⌝ }
+    ensures { λ r. ⌜ Counts 3072 (recordKeysIn (take (circuit .made) (circuit .wires))) r ⌝ }
 {
     let made = circuit.made;
     let mut total = 0;

@@ -4,7 +4,7 @@ use mathlib.Core.Path.{_≡_, refl, ap, _∙_}
 use mathlib.Core.List.{List}
 use Prim.Native.Nat.{ℕ, _+_, _*_, _<_}
 use lib.ListN.{length, getD}
-use Rattle.lists.specs.Blocks.{blocks, nth}
+use Rattle.lists.specs.Blocks.{blocks, nthPiece}
 use Rattle.lists.proofs.Blocks.{blocks-ext, tab-ext}
 use Rattle.residue.specs.Residue.{add}
 use Rattle.residue.specs.Vector.{keyV}
@@ -82,11 +82,11 @@ module _ (file : List ℕ) (n K : ℕ) (contributions values : List ℕ) (meter 
   all-keys-is : allKeys file n K contributions values meter lent r ≡ round.keys shakePad file n K contributions values meter lent
   unfolding round.keys
   all-keys-is =
-      blocks-ext (inputsIn wires) (λ w. blocks n (λ party. nth (r .keys party) K w))
-      (λ w. blocks n (λ party. nth (round.ownKeys shakePad file n K contributions values meter lent party) K w))
-      (λ w h. blocks-ext n (λ party. nth (r .keys party) K w)
-      (λ party. nth (round.ownKeys shakePad file n K contributions values meter lent party) K w)
-      (λ party l. ap (λ (xs : List ℕ). nth xs K w) (keys-is party l)))
+      blocks-ext (inputsIn wires) (λ w. blocks n (λ party. nthPiece (r .keys party) K w))
+      (λ w. blocks n (λ party. nthPiece (round.ownKeys shakePad file n K contributions values meter lent party) K w))
+      (λ w h. blocks-ext n (λ party. nthPiece (r .keys party) K w)
+      (λ party. nthPiece (round.ownKeys shakePad file n K contributions values meter lent party) K w)
+      (λ party l. ap (λ (xs : List ℕ). nthPiece xs K w) (keys-is party l)))
 
   wire-keys-is : (party : ℕ) → party < n → r .wireKeys party ≡ round.wireKeys shakePad file n K contributions values meter lent party
   unfolding round.wireKeys round.contributionOf
@@ -134,14 +134,14 @@ module _ (file : List ℕ) (n K : ℕ) (contributions values : List ℕ) (meter 
   plain-decoded = played .plainIs ∙ promise .plainDecoded
 
   kept-keys : (party w each : ℕ) → party < n → w < length wires → each < n
-      → nth (nth (r .wireKeys party) (n * K) w) K each
+      → nthPiece (nthPiece (r .wireKeys party) (n * K) w) K each
       ≡ keyV (modulusAt wires w)
       (zeroKey wires (drawn 1 K wires (contributionOf file n K contributions values meter lent r each)) w)
       (add (modulusAt wires w) (getD (plainValues file wires values) w 0) (mask wires (drawn n K wires contributions) w))
       (drawn 1 K wires (contributionOf file n K contributions values meter lent r each) .offset (modulusAt wires w))
   unfolding round.contributionOf
   kept-keys party w each h made l =
-      ap (λ (xs : List ℕ). nth (nth xs (n * K) w) K each) (wire-keys-is party h) ∙ promise .keys party w each h made l
+      ap (λ (xs : List ℕ). nthPiece (nthPiece xs (n * K) w) K each) (wire-keys-is party h) ∙ promise .keys party w each h made l
 
   pub demand : Kept file n K contributions values meter lent r
   demand =

@@ -5,7 +5,7 @@ use mathlib.Core.Path.{_≡_}
 use mathlib.Core.List.{List, map}
 use Prim.Native.Nat.{ℕ, _+_, _*_, _<_}
 use lib.ListN.{length, getD}
-use Rattle.lists.specs.Blocks.{blocks, tab, nth}
+use Rattle.lists.specs.Blocks.{blocks, tab, nthPiece}
 use Rattle.residue.specs.Residue.{add}
 use Rattle.residue.specs.Vector.{keyV}
 use Rattle.checks.specs.Checked.{Reports}
@@ -60,13 +60,13 @@ module _ (file : List ℕ) (n K : ℕ) (contributions values : List ℕ) (meter 
   ownOf all party = map (λ w. getD all w 0) (ownInputs party wires)
 
   abbrev pub contributionOf : ℕ → List ℕ
-  contributionOf party = nth contributions (contributionSize K wires) party
+  contributionOf party = nthPiece contributions (contributionSize K wires) party
 
   abbrev pub allExternals : List ℕ
   allExternals = tab (inputsIn wires) (λ w. getD (r .externals (ownerAt wires w)) (placeAt wires w) 0)
 
   abbrev pub allKeys : List ℕ
-  allKeys = blocks (inputsIn wires) (λ w. blocks n (λ party. nth (r .keys party) K w))
+  allKeys = blocks (inputsIn wires) (λ w. blocks n (λ party. nthPiece (r .keys party) K w))
 
   -- the contracts of the calls, one field for each thing that they give
   pub record Played : Type 0 where
@@ -119,7 +119,7 @@ module _ (file : List ℕ) (n K : ℕ) (contributions values : List ℕ) (meter 
     pub counted : r .meter ≡ meter + rowsIn wires
     -- "At every seat and on every wire, the key opened for each seat is that seat's zero key plus (value plus mask) times its offset"
     pub keys : (party w each : ℕ) → party < n → w < length wires → each < n
-        → nth (nth (r .wireKeys party) (n * K) w) K each
+        → nthPiece (nthPiece (r .wireKeys party) (n * K) w) K each
         ≡ keyV (modulusAt wires w) (zeroKey wires (drawn 1 K wires (contributionOf each)) w)
         (add (modulusAt wires w) (getD (plainValues file wires values) w 0) (mask wires (drawn n K wires contributions) w))
         (drawn 1 K wires (contributionOf each) .offset (modulusAt wires w))

@@ -4,7 +4,7 @@ ghost use lib.ListN.{length};
 ghost use Rattle.checks.specs.Checked.{Reports, afterwards};
 ghost use Rattle.circuit.specs.Wires.{inputsIn};
 ghost use Rattle.circuit.specs.File.{readFile};
-ghost use Rattle.counts.specs.Counts.{rowsIn, recordsIn};
+ghost use Rattle.counts.specs.Counts.{rowsIn, recordKeysIn};
 ghost use Rattle.counts.specs.Moduli.{moduliUsed};
 ghost use Rattle.session.specs.Session.{fileChecked};
 ghost use Rattle.calls.specs.InputsOf.{inputsOfChecked, inputsOfAfter};
@@ -31,7 +31,7 @@ pub extern "C" fn lupiknam_read(
         × (now (outputs .exit) ≡ afterwards (fileChecked (now (file .entry))) (length (readFile (now (file .entry)) .outputs)) (now (outputs .entry)))
         × (now (rows .exit) ≡ afterwards (fileChecked (now (file .entry))) (rowsIn (readFile (now (file .entry)) .wires)) (now (rows .entry)))
         × (now (moduli .exit) ≡ afterwards (fileChecked (now (file .entry))) (moduliUsed (readFile (now (file .entry)) .wires)) (now (moduli .entry)))
-        × (now (records .exit) ≡ afterwards (fileChecked (now (file .entry))) (recordsIn (readFile (now (file .entry)) .wires)) (now (records .entry))) ⌝ }
+        × (now (records .exit) ≡ afterwards (fileChecked (now (file .entry))) (recordKeysIn (readFile (now (file .entry)) .wires)) (now (records .entry))) ⌝ }
 {
     let found = summary_of(file);
     let answer = found.answer;

@@ -8,7 +8,7 @@ use native.Mathlib.Omega.{arith}
 use lib.Dec.{eqb}
 use borrow.Author.Tests.{ne-eqb}
 use lib.ListN.{length}
-use Rattle.lists.specs.Blocks.{part, nth}
+use Rattle.lists.specs.Blocks.{part, nthPiece}
 use native.Mathlib.Nat.{mul-le-mul}
 use Rattle.lists.proofs.Sums.{times-fits}
 use Rattle.residue.specs.Vector.{addV, subV, mulV, AllBelow}
@@ -72,11 +72,11 @@ module _ {n K p count : ℕ} {rows : List ℕ} (r : Rows n K p rows count) where
   pub row-inside : {i j : ℕ} → i < count → j ≡ i → j * (n * K) + n * K ≤ length rows
   row-inside {i} {j} h e = rw (e, r .size) (times-fits i count (n * K) h)
 
-  pub row-below : {row : List ℕ} (j : ℕ) → row ≡ nth rows (n * K) j → AllBelow p row
+  pub row-below : {row : List ℕ} (j : ℕ) → row ≡ nthPiece rows (n * K) j → AllBelow p row
   row-below {row} j e = subst (λ (xs : List ℕ). AllBelow p xs) (sym e) (below-part (r .below) (j * (n * K)) (n * K))
 
-pub row-at : (m : ℕ) (rows : List ℕ) {row : List ℕ} (i j : ℕ) → row ≡ nth rows m j → j ≡ i → row ≡ nth rows m i
-row-at m rows i j e f = e ∙ ap (λ (i : ℕ). nth rows m i) f
+pub row-at : (m : ℕ) (rows : List ℕ) {row : List ℕ} (i j : ℕ) → row ≡ nthPiece rows m j → j ≡ i → row ≡ nthPiece rows m i
+row-at m rows i j e f = e ∙ ap (λ (i : ℕ). nthPiece rows m i) f
 
 pub width : {n K : ℕ} → Sizes n K → n * K ≤ 1024
 width s = mul-le-mul (s .parties) (s .short)
@@ -104,12 +104,12 @@ module _ (n K w p bit : ℕ) where
 
 module _ (n K w p : ℕ) (a b : List ℕ) (α β : ℕ) (rows : List ℕ) where
   pub product-is : {row₀ row₁ out₀ out₁ out : List ℕ} {i j : ℕ}
-      → row₀ ≡ nth rows (n * K) i → i ≡ α
-      → row₁ ≡ nth rows (n * K) j → j ≡ p + β
+      → row₀ ≡ nthPiece rows (n * K) i → i ≡ α
+      → row₁ ≡ nthPiece rows (n * K) j → j ≡ p + β
       → out₀ ≡ bared n K w p p 0 a row₀
       → out₁ ≡ addV p out₀ (bared n K w p p 1 b row₁)
       → out ≡ addV p out₁ (mulV p β a)
-      → out ≡ productKeys n K w p a b β (nth rows (n * K) α) (nth rows (n * K) (p + β))
+      → out ≡ productKeys n K w p a b β (nthPiece rows (n * K) α) (nthPiece rows (n * K) (p + β))
   unfolding productKeys
   product-is e f g h x y z = rw (z, y, x, e, g, f, h)
 
@@ -117,11 +117,11 @@ module _ (n K w p : ℕ) (a b : List ℕ) (α β : ℕ) (rows : List ℕ) where
 
 module _ (n K w p bit : ℕ) (v d : List ℕ) (rows : List ℕ) where
   pub choice-is : (i₁ : ℕ) {row₀ row₁ out₀ out : List ℕ} {i : ℕ}
-      → row₀ ≡ nth rows (n * K) i → i ≡ bit
-      → row₁ ≡ nth rows (n * K) i₁
+      → row₀ ≡ nthPiece rows (n * K) i → i ≡ bit
+      → row₁ ≡ nthPiece rows (n * K) i₁
       → out₀ ≡ chooserKeys n K w (eqb bit 0) p (bared n K w p 2 0 v row₀) d
       → out ≡ addV p out₀ (bared n K w p p (1 + bit) d row₁)
-      → out ≡ choiceKeys n K w p bit v d (nth rows (n * K) bit) (nth rows (n * K) i₁)
+      → out ≡ choiceKeys n K w p bit v d (nthPiece rows (n * K) bit) (nthPiece rows (n * K) i₁)
   unfolding choiceKeys
   choice-is i₁ e f g x y = rw (y, x, e, g, f)
 
@@ -131,13 +131,13 @@ pub below-as : {x y p : ℕ} → x ≡ y → y < p → x < p
 below-as e h = omega (arith, e, h)
 
 pub choice-as : (n K w p bit : ℕ) (v d rows : List ℕ) {α α′ : ℕ} {out : List ℕ}
-    → out ≡ choiceKeys n K w p bit v d (nth rows (n * K) bit) (nth rows (n * K) (2 + bit * p + α))
+    → out ≡ choiceKeys n K w p bit v d (nthPiece rows (n * K) bit) (nthPiece rows (n * K) (2 + bit * p + α))
     → α ≡ α′
-    → out ≡ choiceKeys n K w p bit v d (nth rows (n * K) bit) (nth rows (n * K) (2 + bit * p + α′))
+    → out ≡ choiceKeys n K w p bit v d (nthPiece rows (n * K) bit) (nthPiece rows (n * K) (2 + bit * p + α′))
 choice-as n K w p bit v d rows {α} {α′} {out} e f = rw (← f) e
 
 pub choice-with : (n K w p bit : ℕ) (v rows : List ℕ) (i : ℕ) {d e out : List ℕ} → d ≡ e
-    → out ≡ choiceKeys n K w p bit v d (nth rows (n * K) bit) (nth rows (n * K) i)
-    → out ≡ choiceKeys n K w p bit v e (nth rows (n * K) bit) (nth rows (n * K) i)
+    → out ≡ choiceKeys n K w p bit v d (nthPiece rows (n * K) bit) (nthPiece rows (n * K) i)
+    → out ≡ choiceKeys n K w p bit v e (nthPiece rows (n * K) bit) (nthPiece rows (n * K) i)
 choice-with n K w p bit v rows i {d} {e} {out} same f =
-    f ∙ ap (λ (xs : List ℕ). choiceKeys n K w p bit v xs (nth rows (n * K) bit) (nth rows (n * K) i)) same
+    f ∙ ap (λ (xs : List ℕ). choiceKeys n K w p bit v xs (nthPiece rows (n * K) bit) (nthPiece rows (n * K) i)) same

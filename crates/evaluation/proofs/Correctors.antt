@@ -5,7 +5,7 @@ use mathlib.Core.List.{List}
 use Prim.Native.Nat.{ℕ, zero, suc, _+_, _*_, _≤_, _<_}
 use native.Mathlib.Nat.{mul-le-mul}
 use native.Mathlib.Omega.{arith}
-use Rattle.lists.specs.Blocks.{part, nth}
+use Rattle.lists.specs.Blocks.{part, nthPiece}
 use Rattle.lists.proofs.Parts.{part-of-part}
 use Rattle.lists.proofs.Sums.{times-fits}
 use Rattle.search.specs.Corrector.{named}
@@ -31,7 +31,7 @@ pub corrector-at : (rows : List ℕ) (p m bit α : ℕ) {i j : ℕ} {first secon
     → first ≡ part rows (2 * m) (j * m)
     → second ≡ part rows (2 * m + j * m) (j * m)
     → row ≡ part (named bit first second) (i * m) m
-    → row ≡ nth rows m (2 + bit * p + α)
+    → row ≡ nthPiece rows m (2 + bit * p + α)
 unfolding named
 corrector-at rows p m zero α {i} {j} h k e f a b r =
     let place : 2 * m + α * m ≡ (2 + 0 * p + α) * m = omega arith in

@@ -14,7 +14,7 @@ use Rattle.circuit.specs.declared.Circuit.{Circuit}
 use Rattle.circuit.specs.Wires.{wireAt, modulusAt, moduliOf}
 use Rattle.circuit.proofs.More.{made}
 use Rattle.counts.specs.Recipe.{recipe}
-use Rattle.counts.specs.Counts.{rowsBy, rowsOf, recordsBy, recordsOf}
+use Rattle.counts.specs.Counts.{rowsBy, rowsOf, recordKeysBy, recordKeysOf}
 use Rattle.counts.specs.Moduli.{usedBelow, moduliUsed}
 use Rattle.counts.proofs.Wires.{wire-at, modulus-at, padded-modulus}
 use Rattle.counts.proofs.Counting.{rows-at, records-at}
@@ -85,9 +85,9 @@ module _ {file : List ℕ} {circuit : Circuit} {n K party : ℕ} {contribution e
     pub small : w < 1024
     small = omega (arith, within, given .accepted .wiresLimit)
 
-    pub cursor-room : {step : ℕ} → step ≡ (K + 1) * recordsBy (recipe wire) → zero + step ≤ length contribution
+    pub cursor-room : {step : ℕ} → step ≡ (K + 1) * recordKeysBy (recipe wire) → zero + step ≤ length contribution
     cursor-room {step} e =
-        let f : step ≡ (K + 1) * recordsOf wires w = e ∙ ap (λ (x : ℕ). (K + 1) * x) (records-at (circuit .wires) (circuit .made) w h) in
+        let f : step ≡ (K + 1) * recordKeysOf wires w = e ∙ ap (λ (x : ℕ). (K + 1) * x) (records-at (circuit .wires) (circuit .made) w h) in
         omega (arith, f, record-fits K wires w within, r .zeroIs, given .ownSize)
 
     module _ {table : List ℕ} (table-is : table ≡ moduliOf wires ++ replicate (1024 - circuit .made) 0) where
@@ -164,7 +164,7 @@ module _ {file : List ℕ} {circuit : Circuit} {n K party : ℕ} {contribution e
                 (wireBy t (λ a. getD table a 0) contribution externals keys own (lower m wkeys wexternals) (wire .gate) (recipe wire))
                 wkeys wexternals e wkeys′ wexternals′) turn-same put)))
 
-            pub loop-next : {step : ℕ} → e < wire .modulus → step ≡ (K + 1) * recordsBy (recipe wire) → Stands (w + 1) (zero + step) (from + size) wkeys′ wexternals′
+            pub loop-next : {step : ℕ} → e < wire .modulus → step ≡ (K + 1) * recordKeysBy (recipe wire) → Stands (w + 1) (zero + step) (from + size) wkeys′ wexternals′
             loop-next {step} l s =
                 reached-step n K party wires contribution externals keys rows r within put-same (subst (λ (q : ℕ). e < q) modulus-same l)
                 (ap (λ (x : ℕ). zero + x) (s ∙ ap (λ (x : ℕ). (K + 1) * x) (records-at (circuit .wires) (circuit .made) w h))) (ap (λ (x : ℕ). from + x) size-here)

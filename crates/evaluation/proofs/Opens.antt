@@ -8,7 +8,7 @@ use native.Mathlib.Nat.{mul-comm, mul-zero, mul-le-mul-left}
 use native.Mathlib.Omega.{arith}
 use lib.Dec.{ltb, eqb}
 use lib.ListN.{length, getD}
-use Rattle.lists.specs.Blocks.{sumTo, blocks, part, nth}
+use Rattle.lists.specs.Blocks.{sumTo, blocks, part, nthPiece}
 use Rattle.lists.proofs.Parts.{part-of-part}
 use Rattle.lists.proofs.Sums.{sumTo-ext, sumTo-times, times-fits}
 use Rattle.residue.specs.Residue.{add, sub}
@@ -81,20 +81,20 @@ module _ (n K party : ℕ) (wires : List Wire) (contribution externals keys rows
 
   found-is : (all : List ℕ) → shown turn contribution all ≡ found shakePad n K party wires own externals keys rows w all
   unfolding shown found ownKey
-  found-is all = ap₂ (λ (k D : List ℕ). multiplier p k D (nth all K party)) (sym (own-key-is K wires contribution e w)) (sym (own-offset-is K wires contribution e p))
+  found-is all = ap₂ (λ (k D : List ℕ). multiplier p k D (nthPiece all K party)) (sym (own-key-is K wires contribution e w)) (sym (own-offset-is K wires contribution e p))
 
   searched-is : (all : List ℕ) → sought turn contribution all ≡ searched shakePad n K party wires own externals keys rows w all
   unfolding sought searched
   searched-is all = ap (λ (x : ℕ). record { keys = all; external = x; fits = ltb x p }) (found-is all)
 
   -- a row of w's own
-  row-is : (r : ℕ) → r < rowsOf wires w → nth mine m r ≡ nth rows m (sumTo w (rowsOf wires) + r)
+  row-is : (r : ℕ) → r < rowsOf wires w → nthPiece mine m r ≡ nthPiece rows m (sumTo w (rowsOf wires) + r)
   row-is r h =
       part-of-part rows (sumTo w (λ v. rowsOf wires v * m)) (rowsOf wires w * m) (r * m) m (times-fits r (rowsOf wires w) m h)
       ∙ ap (λ (at : ℕ). part rows at m) (omega (arith, rows-place wires m w))
 
   bared-is : (q place : ℕ) (component : ℕ) (ks : List ℕ) (r : ℕ) → r < rowsOf wires w
-      → bared n K w q place component ks (nth mine m r)
+      → bared n K w q place component ks (nthPiece mine m r)
       ≡ unpadded shakePad n K party wires own externals keys rows q (under place w component) ks (rowAt shakePad n K party wires own externals keys rows w + r)
   unfolding bared unpadded rowAt
   bared-is q place component ks r h = ap (λ (l : List ℕ). subV q l (padRow shakePad K q (under place w component) ks n)) (row-is r h)

@@ -22,7 +22,7 @@ use Rattle.circuit.specs.Wires.{wireAt, modulusAt, inputsIn}
 use Rattle.circuit.specs.Accepted.{GateFits, AcceptedCircuit, Alike}
 use Rattle.circuit.specs.Accepted.GateFits.{input, scale, multiply, project, select}
 use Rattle.counts.specs.Recipe.{gateRecipe, recipe}
-use Rattle.counts.specs.Counts.{rowsBy, rowsOf, rowsIn, recordsBy, recordsOf}
+use Rattle.counts.specs.Counts.{rowsBy, rowsOf, rowsIn, recordKeysBy, recordKeysOf}
 use Rattle.session.specs.Held.{wiresIn, outputsIn}
 use Rattle.session.specs.Session.{tooLarge, valuesChecked}
 use Rattle.scheme.specs.Contribution.{recordAt, keyAt, offsetAt, contributionSize}
@@ -91,7 +91,7 @@ module _ {file : List ℕ} {circuit : Circuit} {n K party : ℕ} {contribution e
           below = rows-below n K wires rows (given .rowsBelow) (given .rowsSize) w made;
         })
 
-    own-there : {gate : Gate} → wireAt wires w .gate ≡ gate → 0 < recordsBy (gateRecipe gate) → Own turn contribution
+    own-there : {gate : Gate} → wireAt wires w .gate ≡ gate → 0 < recordKeysBy (gateRecipe gate) → Own turn contribution
     unfolding keyAt
     own-there is h =
         record {

@@ -11,7 +11,7 @@ use borrow.Author.Tests.{lt-ltb, le-ltb}
 use lib.Dec.{ltb}
 use lib.ListN.{length, getD, set, length-set, length-map}
 use lib.Seq.{getD-set-same, getD-set-other, ext-getD}
-use Rattle.lists.specs.Blocks.{sumTo, blocks, part, nth, written}
+use Rattle.lists.specs.Blocks.{sumTo, blocks, part, nthPiece, written}
 use Rattle.lists.specs.First.{first}
 use Rattle.lists.specs.Grown.{grown}
 use Rattle.lists.proofs.Sums.{sumTo-next, times-fits, times-next}
@@ -23,7 +23,7 @@ use Rattle.words.specs.declared.gate.Wire.{Wire}
 use Rattle.circuit.specs.declared.Circuit.{Circuit}
 use Rattle.circuit.specs.Wires.{wireAt, modulusAt}
 use Rattle.counts.specs.Recipe.{recipe}
-use Rattle.counts.specs.Counts.{rowsOf, recordsOf}
+use Rattle.counts.specs.Counts.{rowsOf, recordKeysOf}
 use Rattle.counts.specs.Moduli.{moduliUsed}
 use Rattle.session.specs.Held.{wiresIn}
 use Rattle.pads.specs.Pad.{shakePad}
@@ -43,12 +43,12 @@ module _ (K : ℕ) (wires : List Wire) where
   pub record-first : recordAt K wires 0 ≡ K * moduliUsed wires
   unfolding recordAt
   record-first =
-      ap (λ (s : ℕ). K * moduliUsed wires + (K + 1) * s) (sumTo-none (recordsOf wires))
+      ap (λ (s : ℕ). K * moduliUsed wires + (K + 1) * s) (sumTo-none (recordKeysOf wires))
       ∙ ap (λ (x : ℕ). K * moduliUsed wires + x) (mul-zero (K + 1)) ∙ add-zero (K * moduliUsed wires)
 
-  pub record-next : (w : ℕ) → recordAt K wires (w + 1) ≡ recordAt K wires w + (K + 1) * recordsOf wires w
+  pub record-next : (w : ℕ) → recordAt K wires (w + 1) ≡ recordAt K wires w + (K + 1) * recordKeysOf wires w
   unfolding recordAt
-  record-next w = rw (sumTo-next w (recordsOf wires)) (omega (arith, mul-add (K + 1) (sumTo w (recordsOf wires)) (recordsOf wires w)))
+  record-next w = rw (sumTo-next w (recordKeysOf wires)) (omega (arith, mul-add (K + 1) (sumTo w (recordKeysOf wires)) (recordKeysOf wires w)))
 
 -- a wire is its keys, its external value and that it fits
 whole : (o : Opened) {keys : List ℕ} {external : ℕ} → keys ≡ o .keys → external ≡ o .external → o .fits ≡ true
@@ -91,13 +91,13 @@ module _ (n K party : ℕ) (wires : List Wire) (contribution externals keys rows
     pub kept-externals : length wexternals′ ≡ length wires
     kept-externals = ap length (put .externals) ∙ length-set wexternals w e ∙ r .externalsSize
 
-    keys-before : (v : ℕ) → v < w → nth wkeys′ m v ≡ nth wkeys m v
+    keys-before : (v : ℕ) → v < w → nthPiece wkeys′ m v ≡ nthPiece wkeys m v
     keys-before v h =
-        ap (λ (l : List ℕ). nth l m v) (put .keys) ∙ part-before wkeys (w * m) (put .out) inside (v * m) m (times-fits v w m h)
+        ap (λ (l : List ℕ). nthPiece l m v) (put .keys) ∙ part-before wkeys (w * m) (put .out) inside (v * m) m (times-fits v w m h)
 
-    keys-here : nth wkeys′ m w ≡ put .out
+    keys-here : nthPiece wkeys′ m w ≡ put .out
     keys-here =
-        ap (λ (l : List ℕ). nth l m w) (put .keys) ∙ ap (part (written wkeys (w * m) (put .out)) (w * m)) (sym (put .size))
+        ap (λ (l : List ℕ). nthPiece l m w) (put .keys) ∙ ap (part (written wkeys (w * m) (put .out)) (w * m)) (sym (put .size))
         ∙ part-written wkeys (w * m) (put .out) inside
 
     external-before : (v : ℕ) → v < w → getD wexternals′ v 0 ≡ getD wexternals v 0
@@ -106,7 +106,7 @@ module _ (n K party : ℕ) (wires : List Wire) (contribution externals keys rows
     external-here : getD wexternals′ w 0 ≡ e
     external-here = ap (λ (l : List ℕ). getD l w 0) (put .externals) ∙ getD-set-same wexternals w e 0 (omega (arith, r .externalsSize))
 
-    pub reached-step : {zero′ from′ : ℕ} → e < modulusAt wires w → zero′ ≡ zero + (K + 1) * recordsOf wires w → from′ ≡ from + rowsOf wires w * m
+    pub reached-step : {zero′ from′ : ℕ} → e < modulusAt wires w → zero′ ≡ zero + (K + 1) * recordKeysOf wires w → from′ ≡ from + rowsOf wires w * m
         → Stands (w + 1) zero′ from′ wkeys′ wexternals′
     unfolding lower
     reached-step {zero′} {from′} h ez ef =
@@ -120,7 +120,7 @@ module _ (n K party : ℕ) (wires : List Wire) (contribution externals keys rows
           below = λ v l. below-at v (decLt v w) l;
         }
       where
-        wire-at : (v : ℕ) → Dec (v < w) → v < w + 1 → record { keys = nth wkeys′ m v; external = getD wexternals′ v 0; fits = true } ≡ final v
+        wire-at : (v : ℕ) → Dec (v < w) → v < w + 1 → record { keys = nthPiece wkeys′ m v; external = getD wexternals′ v 0; fits = true } ≡ final v
         wire-at v (yes l) k =
             ap₂ (λ (ks : List ℕ) (x : ℕ). record { keys = ks; external = x; fits = true }) (keys-before v l) (external-before v l) ∙ r .wire v l
         wire-at v (no l) k =
@@ -168,7 +168,7 @@ module _ (n K party : ℕ) (wires : List Wire) (contribution externals keys rows
         externalsSize = r .externalsSize;
         allKeys = λ _. (
             sym (blocks-nth (length wires) m wkeys (r .keysSize))
-            ∙ blocks-ext (length wires) (λ v. nth wkeys m v) (λ v. final v .keys) (λ v l. ap (λ (o : Opened). o .keys) (r .wire v (omega arith))));
+            ∙ blocks-ext (length wires) (λ v. nthPiece wkeys m v) (λ v. final v .keys) (λ v l. ap (λ (o : Opened). o .keys) (r .wire v (omega arith))));
         allExternals = λ _. (
             ext-getD 0 wexternals (map (λ (o : Opened). o .external) all)
             (r .externalsSize ∙ sym (length-map all (λ (o : Opened). o .external) ∙ opened-size))

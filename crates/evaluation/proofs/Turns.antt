@@ -10,9 +10,9 @@ use borrow.Author.Tests.{lt-ltb, le-ltb}
 use lib.Dec.{ltb}
 use lib.ListN.{length, getD, set, take}
 use lib.Seq.{length-take-le}
-use Rattle.lists.specs.Blocks.{part, nth, written}
+use Rattle.lists.specs.Blocks.{part, nthPiece, written}
 use Rattle.residue.specs.Residue.{add, sub, mul}
-use Rattle.residue.specs.Vector.{zip, addV, subV, mulV, keyV}
+use Rattle.residue.specs.Vector.{zipWith, addV, subV, mulV, keyV}
 use Rattle.residue.proofs.Vectors.{add-below, mul-below}
 use Rattle.words.specs.declared.gate.Owned.{Owned}
 use Rattle.words.specs.declared.gate.Pair.{Pair}
@@ -51,7 +51,7 @@ unfolding add mul
 once p x y = rw (one-mul y, add-mod-mod x y p)
 
 pub add-once : (p : ℕ) (xs ys : List ℕ) → addV p xs (mulV p 1 ys) ≡ addV p xs ys
-unfolding addV mulV zip
+unfolding addV mulV zipWith
 add-once p [] ys = refl
 add-once p (x ∷ xs) [] = refl
 add-once p (x ∷ xs) (y ∷ ys) = ap₂ (λ (z : ℕ) (zs : List ℕ). z ∷ zs) (once p x y) (add-once p xs ys)
@@ -68,19 +68,19 @@ made-plain {p} {keys} {external} {out} {r} h e f =
     record { fits = sym (lt-ltb r p (omega arith)); keys = λ _. e; external = λ _. f }
 
 pub made-given : (turn : Turn) (externals keys : List ℕ) {own out : List ℕ} → getD externals (turn .wire) 0 < turn .modulus
-    → own ≡ nth keys (turn .n * turn .k) (turn .wire) → out ≡ own → Made (turn .modulus) (given turn externals keys) out (getD externals (turn .wire) 0)
+    → own ≡ nthPiece keys (turn .n * turn .k) (turn .wire) → out ≡ own → Made (turn .modulus) (given turn externals keys) out (getD externals (turn .wire) 0)
 unfolding given
 made-given turn externals keys h e f = made-plain h (f ∙ e) refl
 
 pub made-sum : (p m : ℕ) (wkeys wexternals : List ℕ) (a b : ℕ) {ka kb out : List ℕ} {r : ℕ} → 1 < p
-    → ka ≡ nth wkeys m a → kb ≡ nth wkeys m b → out ≡ keyV p ka 1 kb → r ≡ add p (getD wexternals a 0) (getD wexternals b 0)
+    → ka ≡ nthPiece wkeys m a → kb ≡ nthPiece wkeys m b → out ≡ keyV p ka 1 kb → r ≡ add p (getD wexternals a 0) (getD wexternals b 0)
     → Made p (summed p (lower m wkeys wexternals a) (lower m wkeys wexternals b)) out r
 unfolding summed lower
 made-sum p m wkeys wexternals a b {ka} {kb} h ea eb e f =
     made-plain (add-below (omega arith) _ _) (e ∙ key-once p ka kb ∙ ap₂ (addV p) ea eb) f
 
 pub made-multiple : (p m c : ℕ) (wkeys wexternals : List ℕ) (a : ℕ) {ka mid out : List ℕ} {r : ℕ} → 1 < p
-    → ka ≡ nth wkeys m a → mid ≡ ka → out ≡ mulV p c mid → r ≡ mul p c (getD wexternals a 0)
+    → ka ≡ nthPiece wkeys m a → mid ≡ ka → out ≡ mulV p c mid → r ≡ mul p c (getD wexternals a 0)
     → Made p (multiplied p c (lower m wkeys wexternals a)) out r
 unfolding multiplied lower
 made-multiple p m c wkeys wexternals a h ea em e f =
@@ -136,7 +136,7 @@ made-free-multiple {p} look {out = out} {r = r} e m = subst (λ (g : Gate). Made
 -- ---- a wire that is searched for
 
 pub made-shown : (turn : Turn) (contribution all : List ℕ) {zero offset own : List ℕ} {r : ℕ}
-    → zero ≡ part contribution (turn .zero) (turn .k) → offset ≡ part contribution (turn .offset) (turn .k) → own ≡ nth all (turn .k) (turn .party)
+    → zero ≡ part contribution (turn .zero) (turn .k) → offset ≡ part contribution (turn .offset) (turn .k) → own ≡ nthPiece all (turn .k) (turn .party)
     → r ≡ multiplier (turn .modulus) zero offset own → r ≡ shown turn contribution all
 unfolding shown
 made-shown turn contribution all {own = own} e f g h =
@@ -157,42 +157,42 @@ module _ (turn : Turn) (contribution rows wkeys wexternals : List ℕ) where
   abbrev look : ℕ → Opened
   look = lower m wkeys wexternals
 
-  pub made-table : (p a : ℕ) {ka out : List ℕ} {r : ℕ} → ka ≡ nth wkeys m a
-      → out ≡ tableKeys (turn .n) (turn .k) (turn .wire) (turn .modulus) p ka (nth rows m (getD wexternals a 0))
+  pub made-table : (p a : ℕ) {ka out : List ℕ} {r : ℕ} → ka ≡ nthPiece wkeys m a
+      → out ≡ tableKeys (turn .n) (turn .k) (turn .wire) (turn .modulus) p ka (nthPiece rows m (getD wexternals a 0))
       → r ≡ shown turn contribution out → Made (turn .modulus) (byTable turn contribution rows p (look a)) out r
   unfolding byTable lower row
   made-table p a e f g =
       made-sought turn contribution
-      (f ∙ ap (λ (ks : List ℕ). tableKeys (turn .n) (turn .k) (turn .wire) (turn .modulus) p ks (nth rows m (getD wexternals a 0))) e) g
+      (f ∙ ap (λ (ks : List ℕ). tableKeys (turn .n) (turn .k) (turn .wire) (turn .modulus) p ks (nthPiece rows m (getD wexternals a 0))) e) g
 
-  pub made-product : (a b : ℕ) {ka kb out : List ℕ} {r : ℕ} → ka ≡ nth wkeys m a → kb ≡ nth wkeys m b
-      → out ≡ productKeys (turn .n) (turn .k) (turn .wire) (turn .modulus) ka kb (getD wexternals b 0) (nth rows m (getD wexternals a 0)) (nth rows m (turn .modulus + getD wexternals b 0))
+  pub made-product : (a b : ℕ) {ka kb out : List ℕ} {r : ℕ} → ka ≡ nthPiece wkeys m a → kb ≡ nthPiece wkeys m b
+      → out ≡ productKeys (turn .n) (turn .k) (turn .wire) (turn .modulus) ka kb (getD wexternals b 0) (nthPiece rows m (getD wexternals a 0)) (nthPiece rows m (turn .modulus + getD wexternals b 0))
       → r ≡ shown turn contribution out → Made (turn .modulus) (byProduct turn contribution rows (look a) (look b)) out r
   unfolding byProduct lower row
   made-product a b e h f g =
       made-sought turn contribution
-      (f ∙ ap₂ (λ (ks ls : List ℕ). productKeys (turn .n) (turn .k) (turn .wire) (turn .modulus) ks ls (getD wexternals b 0) (nth rows m (getD wexternals a 0)) (nth rows m (turn .modulus + getD wexternals b 0))) e h) g
+      (f ∙ ap₂ (λ (ks ls : List ℕ). productKeys (turn .n) (turn .k) (turn .wire) (turn .modulus) ks ls (getD wexternals b 0) (nthPiece rows m (getD wexternals a 0)) (nthPiece rows m (turn .modulus + getD wexternals b 0))) e h) g
 
-  pub made-held : (bit a b : ℕ) {kv ka kb out : List ℕ} {r : ℕ} → kv ≡ nth wkeys m bit → ka ≡ nth wkeys m a → kb ≡ nth wkeys m b
-      → out ≡ choiceKeys (turn .n) (turn .k) (turn .wire) (turn .modulus) (getD wexternals bit 0) kv (subV (turn .modulus) kb ka) (nth rows m (getD wexternals bit 0))
-      (nth rows m (2 + getD wexternals bit 0 * turn .modulus + sub (turn .modulus) (getD wexternals b 0) (getD wexternals a 0)))
+  pub made-held : (bit a b : ℕ) {kv ka kb out : List ℕ} {r : ℕ} → kv ≡ nthPiece wkeys m bit → ka ≡ nthPiece wkeys m a → kb ≡ nthPiece wkeys m b
+      → out ≡ choiceKeys (turn .n) (turn .k) (turn .wire) (turn .modulus) (getD wexternals bit 0) kv (subV (turn .modulus) kb ka) (nthPiece rows m (getD wexternals bit 0))
+      (nthPiece rows m (2 + getD wexternals bit 0 * turn .modulus + sub (turn .modulus) (getD wexternals b 0) (getD wexternals a 0)))
       → r ≡ shown turn contribution out → Made (turn .modulus) (heldBack turn contribution rows (look bit) (look a) (look b)) out r
   unfolding heldBack lower row
   made-held bit a b ev ea eb f g =
       made-sought turn contribution
-      (f ∙ ap₂ (λ (ks ls : List ℕ). choiceKeys (turn .n) (turn .k) (turn .wire) (turn .modulus) (getD wexternals bit 0) ks ls (nth rows m (getD wexternals bit 0))
-      (nth rows m (2 + getD wexternals bit 0 * turn .modulus + sub (turn .modulus) (getD wexternals b 0) (getD wexternals a 0))))
+      (f ∙ ap₂ (λ (ks ls : List ℕ). choiceKeys (turn .n) (turn .k) (turn .wire) (turn .modulus) (getD wexternals bit 0) ks ls (nthPiece rows m (getD wexternals bit 0))
+      (nthPiece rows m (2 + getD wexternals bit 0 * turn .modulus + sub (turn .modulus) (getD wexternals b 0) (getD wexternals a 0))))
       ev (ap₂ (subV (turn .modulus)) eb ea)) g
 
   module _ (bit a b : ℕ) {mid : List ℕ} {found : ℕ} (held : Made (turn .modulus) (heldBack turn contribution rows (look bit) (look a) (look b)) mid found) where
     pub made-choice : {out : List ℕ} {r : ℕ} → found < turn .modulus → r ≡ add (turn .modulus) found (getD wexternals a 0)
-        → out ≡ addV (turn .modulus) mid (nth wkeys m a) → Made (turn .modulus) (byChoice turn contribution rows (look bit) (look a) (look b)) out r
+        → out ≡ addV (turn .modulus) mid (nthPiece wkeys m a) → Made (turn .modulus) (byChoice turn contribution rows (look bit) (look a) (look b)) out r
     unfolding byChoice raised lower
     made-choice {out} {r} h e f =
         let small : r < turn .modulus = rw e (add-below (omega arith) _ _) in
         record {
           fits = held .fits ∙ lt-ltb found (turn .modulus) h ∙ sym (lt-ltb r (turn .modulus) small);
-          keys = λ _. (f ∙ ap (λ (ks : List ℕ). addV (turn .modulus) ks (nth wkeys m a)) (held .keys h));
+          keys = λ _. (f ∙ ap (λ (ks : List ℕ). addV (turn .modulus) ks (nthPiece wkeys m a)) (held .keys h));
           external = λ _. (e ∙ ap (λ (x : ℕ). add (turn .modulus) x (getD wexternals a 0)) (held .external h));
         }
 

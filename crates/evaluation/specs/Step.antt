@@ -7,7 +7,7 @@ use mathlib.Core.List.{List}
 use Prim.Native.Nat.{ℕ, _+_, _*_, _<_}
 use lib.Dec.{ltb}
 use lib.ListN.{getD}
-use Rattle.lists.specs.Blocks.{part, nth}
+use Rattle.lists.specs.Blocks.{part, nthPiece}
 use Rattle.residue.specs.Residue.{add, sub, mul}
 use Rattle.residue.specs.Vector.{addV, subV, mulV}
 use Rattle.search.specs.Search.{multiplier}
@@ -27,13 +27,13 @@ pub record Made (p : ℕ) (wire : Opened) (out : List ℕ) (r : ℕ) : Type 0 wh
 
 -- a wire below, as the two buffers hold it
 unfoldable pub lower : ℕ → List ℕ → List ℕ → ℕ → Opened
-lower m wkeys wexternals a = record { keys = nth wkeys m a; external = getD wexternals a 0; fits = true }
+lower m wkeys wexternals a = record { keys = nthPiece wkeys m a; external = getD wexternals a 0; fits = true }
 
 -- the external value that the party's own key shows, the modulus where none fits
 unfoldable pub shown : Turn → List ℕ → List ℕ → ℕ
 shown turn contribution all =
     multiplier (turn .modulus) (part contribution (turn .zero) (turn .k)) (part contribution (turn .offset) (turn .k))
-    (nth all (turn .k) (turn .party))
+    (nthPiece all (turn .k) (turn .party))
 
 unfoldable pub sought : Turn → List ℕ → List ℕ → Opened
 sought turn contribution all =
@@ -42,7 +42,7 @@ sought turn contribution all =
 -- an input
 unfoldable pub given : Turn → List ℕ → List ℕ → Opened
 given turn externals keys =
-    record { keys = nth keys (turn .n * turn .k) (turn .wire); external = getD externals (turn .wire) 0; fits = true }
+    record { keys = nthPiece keys (turn .n * turn .k) (turn .wire); external = getD externals (turn .wire) 0; fits = true }
 
 -- a free gate
 unfoldable pub summed : ℕ → Opened → Opened → Opened
@@ -62,7 +62,7 @@ raised p h a = record { keys = addV p (h .keys) (a .keys); external = add p (h .
 -- a gate with rows of its own
 module _ (turn : Turn) (contribution rows : List ℕ) where
   unfoldable pub row : ℕ → List ℕ
-  row r = nth rows (turn .n * turn .k) r
+  row r = nthPiece rows (turn .n * turn .k) r
 
   unfoldable pub byTable : ℕ → Opened → Opened
   byTable p a =

@@ -2,7 +2,7 @@
 ghost use mathlib.Core.Path.{_≡_};
 ghost use Prim.Native.Nat.{_+_, _*_, _≤_, _<_};
 ghost use lib.ListN.{length};
-ghost use Rattle.lists.specs.Blocks.{nth};
+ghost use Rattle.lists.specs.Blocks.{nthPiece};
 ghost use Rattle.residue.specs.Residue.{sub};
 ghost use Rattle.residue.specs.Vector.{addV, subV, AllBelow};
 ghost use Rattle.evaluation.specs.Gate.{bared, tableKeys, productKeys, chooserKeys, choiceKeys};
@@ -72,7 +72,7 @@ pub fn open_table(
 )
     requires { ⌜ Sizes n k × (Rows n k q (now rows) p × (ea < p)) ⌝ }
     requires { ⌜ Vector n k (now a) × Vector n k (now out) ⌝ }
-    ensures { λ _. ⌜ now (out .exit) ≡ tableKeys n k w q p (now (a .entry)) (nth (now (rows .entry)) (n * k) ea) ⌝ }
+    ensures { λ _. ⌜ now (out .exit) ≡ tableKeys n k w q p (now (a .entry)) (nthPiece (now (rows .entry)) (n * k) ea) ⌝ }
 {
     let row = nth_piece(rows, n * k, index(ea));
     bare(w, 0, n, k, q, p, a, row, out);
@@ -93,7 +93,7 @@ pub fn open_product(
 )
     requires { ⌜ Sizes n k × (Rows n k p (now rows) (2 * p) × ((ea < p) × (eb < p))) ⌝ }
     requires { ⌜ Vector n k (now a) × (Vector n k (now b) × Vector n k (now out)) ⌝ }
-    ensures { λ _. ⌜ now (out .exit) ≡ productKeys n k w p (now (a .entry)) (now (b .entry)) eb (nth (now (rows .entry)) (n * k) ea) (nth (now (rows .entry)) (n * k) (p + eb)) ⌝ }
+    ensures { λ _. ⌜ now (out .exit) ≡ productKeys n k w p (now (a .entry)) (now (b .entry)) eb (nthPiece (now (rows .entry)) (n * k) ea) (nthPiece (now (rows .entry)) (n * k) (p + eb)) ⌝ }
 {
     let m = n * k;
     let row = nth_piece(rows, m, index(ea));
@@ -129,7 +129,7 @@ fn open_chooser(
 // The row of the corrector that the bit's external value names. The correctors' rows stand behind the chooser's two, `p` rows each.
 fn corrector_row(rows: &[u8], m: usize, p: u8, bit: u8, alpha: u8) -> &[u8]
     requires { ⌜ (length (now rows) ≡ (2 * p + 2) * m) × ((bit < 2) × ((alpha < p) × (m ≤ 1024))) ⌝ }
-    ensures { λ r. ⌜ (now r ≡ nth (now (rows .entry)) m (2 + bit * p + alpha)) × (length (now r) ≡ m) ⌝ }
+    ensures { λ r. ⌜ (now r ≡ nthPiece (now (rows .entry)) m (2 + bit * p + alpha)) × (length (now r) ≡ m) ⌝ }
 {
     let width = index(p) * m;
     let from = 2 * m;
@@ -153,7 +153,7 @@ fn open_by(
 )
     requires { ⌜ Sizes n k × (Rows n k p (now rows) (2 * p + 2) × ((bit < 2) × (alpha < p))) ⌝ }
     requires { ⌜ Vector n k (now v) × (Vector n k (now d) × Vector n k (now out)) ⌝ }
-    ensures { λ _. ⌜ now (out .exit) ≡ choiceKeys n k w p bit (now (v .entry)) (now (d .entry)) (nth (now (rows .entry)) (n * k) bit) (nth (now (rows .entry)) (n * k) (2 + bit * p + alpha)) ⌝ }
+    ensures { λ _. ⌜ now (out .exit) ≡ choiceKeys n k w p bit (now (v .entry)) (now (d .entry)) (nthPiece (now (rows .entry)) (n * k) bit) (nthPiece (now (rows .entry)) (n * k) (2 + bit * p + alpha)) ⌝ }
 {
     let m = n * k;
     let row = nth_piece(rows, m, index(bit));
@@ -186,7 +186,7 @@ fn open_with(
     requires { ⌜ Sizes n k × (Rows n k p (now rows) (2 * p + 2) × ((bit < 2) × (alpha < p))) ⌝ }
     requires { ⌜ Vector n k (now v) × (Vector n k (now a) × (Vector n k (now b) × Vector n k (now out))) ⌝ }
     requires { ⌜ Vector n k (now d) ⌝ }
-    ensures { λ _. ⌜ now (out .exit) ≡ choiceKeys n k w p bit (now (v .entry)) (subV p (now (b .entry)) (now (a .entry))) (nth (now (rows .entry)) (n * k) bit) (nth (now (rows .entry)) (n * k) (2 + bit * p + alpha)) ⌝ }
+    ensures { λ _. ⌜ now (out .exit) ≡ choiceKeys n k w p bit (now (v .entry)) (subV p (now (b .entry)) (now (a .entry))) (nthPiece (now (rows .entry)) (n * k) bit) (nthPiece (now (rows .entry)) (n * k) (2 + bit * p + alpha)) ⌝ }
 {
     residue::difference(p, b, a, &mut *d);
     open_by(w, n, k, p, v, bit, &*d, alpha, rows, out);
@@ -210,7 +210,7 @@ pub fn open_choice(
 )
     requires { ⌜ Sizes n k × (Rows n k p (now rows) (2 * p + 2) × ((bit < 2) × ((ea < p) × (eb < p)))) ⌝ }
     requires { ⌜ Vector n k (now v) × (Vector n k (now a) × (Vector n k (now b) × Vector n k (now out))) ⌝ }
-    ensures { λ _. ⌜ now (out .exit) ≡ choiceKeys n k w p bit (now (v .entry)) (subV p (now (b .entry)) (now (a .entry))) (nth (now (rows .entry)) (n * k) bit) (nth (now (rows .entry)) (n * k) (2 + bit * p + sub p eb ea)) ⌝ }
+    ensures { λ _. ⌜ now (out .exit) ≡ choiceKeys n k w p bit (now (v .entry)) (subV p (now (b .entry)) (now (a .entry))) (nthPiece (now (rows .entry)) (n * k) bit) (nthPiece (now (rows .entry)) (n * k) (2 + bit * p + sub p eb ea)) ⌝ }
 {
     let m = n * k;
     let alpha = residue::sub(p, eb, ea);

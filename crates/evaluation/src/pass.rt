@@ -3,7 +3,7 @@ ghost use mathlib.Core.Path.{_≡_};
 ghost use Prim.Native.Nat.{_+_, _*_, _≤_, _<_};
 ghost use lib.ListN.{length, getD};
 ghost use Rattle.counts.specs.Recipe.{recipe};
-ghost use Rattle.counts.specs.Counts.{Room, rowsBy, recordsBy};
+ghost use Rattle.counts.specs.Counts.{Room, rowsBy, recordKeysBy};
 ghost use Rattle.counts.specs.Moduli.{moduliUsed};
 ghost use Rattle.session.specs.Held.{wiresIn};
 ghost use Rattle.session.specs.Sizes.{Sizes, Vector};
@@ -64,7 +64,7 @@ fn row_bytes(wire: Wire, moduli: &[u8], n: usize, k: usize) -> usize
 // The bytes of a wire's record.
 fn record_bytes(wire: Wire, k: usize) -> usize
     requires { ⌜ k ≤ 128 ⌝ }
-    ensures { λ r. ⌜ (r ≡ (k + 1) * recordsBy (recipe wire)) × (r ≤ 387) ⌝ }
+    ensures { λ r. ⌜ (r ≡ (k + 1) * recordKeysBy (recipe wire)) × (r ≤ 387) ⌝ }
 {
     let count = wide(record_count(wire));
     (k + 1) * count

@@ -4,7 +4,7 @@ ghost use Prim.Native.Nat.{_*_, _<_};
 ghost use lib.ListN.{getD};
 ghost use Rattle.residue.specs.Residue.{add};
 ghost use Rattle.residue.specs.Vector.{addV};
-ghost use Rattle.lists.specs.Blocks.{nth};
+ghost use Rattle.lists.specs.Blocks.{nthPiece};
 ghost use Rattle.session.specs.Sizes.{Vector};
 ghost use Rattle.evaluation.specs.Step.{Made, lower, byTable, byProduct, heldBack, byChoice, shown};
 ghost use Rattle.evaluation.specs.Ready.{Seated, Lower, TableReady, ProductReady, ChoiceReady};
@@ -130,7 +130,7 @@ fn held_back(
 fn raised(turn: Turn, a: u16, found: u8, wkeys: &[u8], wexternals: &[u8], out: &mut [u8]) -> u8
     requires { ⌜ Seated turn × (Vector (turn .n) (turn .k) (now out) × (found < turn .modulus)) ⌝ }
     requires { ⌜ Lower turn (turn .modulus) (now wkeys) (now wexternals) a ⌝ }
-    ensures { λ r. ⌜ (r ≡ add (turn .modulus) found (getD (now (wexternals .entry)) a 0)) × (now (out .exit) ≡ addV (turn .modulus) (now (out .entry)) (nth (now (wkeys .entry)) (turn .n * turn .k) a)) ⌝ }
+    ensures { λ r. ⌜ (r ≡ add (turn .modulus) found (getD (now (wexternals .entry)) a 0)) × (now (out .exit) ≡ addV (turn .modulus) (now (out .entry)) (nthPiece (now (wkeys .entry)) (turn .n * turn .k) a)) ⌝ }
 {
     let at = a as usize;
     let keys = nth_piece(wkeys, turn.n * turn.k, at);

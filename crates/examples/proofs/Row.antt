@@ -8,7 +8,7 @@ use Rattle.lists.specs.Blocks.{blocks, part, sumTo}
 use Rattle.lists.specs.Grown.{grown, extended}
 use Rattle.residue.specs.Prime.{isPrime, remaindersBelow}
 use Rattle.residue.specs.Residue.{add, sub, mul}
-use Rattle.residue.specs.Vector.{zip, addV, mulV, keyV}
+use Rattle.residue.specs.Vector.{zipWith, addV, mulV, keyV}
 use Rattle.keccak.specs.Keccak.{keccakF, rounds, round}
 use Rattle.keccak.specs.RoundConstants.{addLast, turn, register, rc, constantBit, roundConstant}
 use Rattle.shake.specs.Numbers.{littleEndian, firstNumbers, numbers, bytesOf}
@@ -38,5 +38,5 @@ rowZero : List ℕ
 rowZero = projectRow shakePad 2 1 circuit (readFile circuit .wires) (drawn 2 1 (readFile circuit .wires) contributions) 1 0 0
 
 row-computed : rowZero ≡ 243 ∷ 0 ∷ []
-unfolding rowZero circuit contributions readFile headed readFrom after ended readWord check isPrime remaindersBelow afterEntry blocks part sumTo grown extended add sub mul zip addV mulV keyV keccakF rounds round addLast turn register rc constantBit roundConstant littleEndian firstNumbers numbers bytesOf bitsOf messageBits number packed pad10*1 suffix suffixed paddedBits padded xored absorbBlock absorbBlocks zeroState absorbed laneBytes squeezeBlocks squeezed shake256 someBelow contributionSize offsetAt recordAt keyAt shareAt drawn zeroKey mask zeroKeysTo masksTo zeroKeyBy maskBy rowpad padInput shakePad padSum padRow projectMessage image under row projectRow
+unfolding rowZero circuit contributions readFile headed readFrom after ended readWord check isPrime remaindersBelow afterEntry blocks part sumTo grown extended add sub mul zipWith addV mulV keyV keccakF rounds round addLast turn register rc constantBit roundConstant littleEndian firstNumbers numbers bytesOf bitsOf messageBits number packed pad10*1 suffix suffixed paddedBits padded xored absorbBlock absorbBlocks zeroState absorbed laneBytes squeezeBlocks squeezed shake256 someBelow contributionSize offsetAt recordAt keyAt shareAt drawn zeroKey mask zeroKeysTo masksTo zeroKeyBy maskBy rowpad padInput shakePad padSum padRow projectMessage image under row projectRow
 row-computed = refl

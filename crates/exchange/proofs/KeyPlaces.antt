@@ -30,7 +30,7 @@ use Rattle.circuit.specs.Wires.{wireAt, modulusAt, isInput, inputsIn}
 use Rattle.circuit.specs.File.{readFile, Holds}
 use Rattle.circuit.specs.Accepted.{AcceptedCircuit}
 use Rattle.counts.specs.Recipe.{gateRecipe}
-use Rattle.counts.specs.Counts.{recordsBy, recordsOf, Counts}
+use Rattle.counts.specs.Counts.{recordKeysBy, recordKeysOf, Counts}
 use Rattle.counts.specs.Moduli.{usedBelow, moduliUsed}
 use Rattle.counts.proofs.Wires.{modulus-at}
 use Rattle.scheme.specs.Contribution.{offsetAt, recordAt, keyAt, contributionSize}
@@ -51,7 +51,7 @@ use Rattle.exchange.proofs.Ending.{stage-passed, stage-next, stage-refu
 -- ---- where an input's key stands
 
 -- the record of an input has one key
-pub one-key : (gate : Gate) → isInput gate ≡ true → recordsBy (gateRecipe gate) ≡ 1
+pub one-key : (gate : Gate) → isInput gate ≡ true → recordKeysBy (gateRecipe gate) ≡ 1
 one-key (Input g) e = refl
 one-key (Add g) e = let z : _≡_ {A = ℕ} 0 1 = cc in absurd (omega arith)
 one-key (Scale g) e = let z : _≡_ {A = ℕ} 0 1 = cc in absurd (omega arith)
@@ -60,9 +60,9 @@ one-key (Project g) e = let z : _≡_ {A = ℕ} 0 1 = cc in absurd (omega arith)
 one-key (Select g) e = let z : _≡_ {A = ℕ} 0 1 = cc in absurd (omega arith)
 
 -- so the records of the first wires, where they are inputs, follow each other at one distance
-input-place : (K : ℕ) (wires : List Wire) (n : ℕ) → ((v : ℕ) → v < n → recordsOf wires v ≡ 1) → (w : ℕ) → w ≤ n → keyAt K wires w 0 ≡ K * moduliUsed wires + (K + 1) * w
+input-place : (K : ℕ) (wires : List Wire) (n : ℕ) → ((v : ℕ) → v < n → recordKeysOf wires v ≡ 1) → (w : ℕ) → w ≤ n → keyAt K wires w 0 ≡ K * moduliUsed wires + (K + 1) * w
 unfolding keyAt recordAt
-input-place K wires n one w h = rw (sumTo-same w 1 (recordsOf wires) (λ v l. one v (omega arith)), mul-one w) (omega arith)
+input-place K wires n one w h = rw (sumTo-same w 1 (recordKeysOf wires) (λ v l. one v (omega arith)), mul-one w) (omega arith)
 
 -- what one party drew stands in its contribution
 module _ (K : ℕ) (wires : List Wire) (c : List ℕ) (e : length c ≡ contributionSize K wires) where

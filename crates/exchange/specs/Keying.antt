@@ -9,7 +9,7 @@ use Rattle.checks.specs.Checked.{Checked, andThen}
 use Rattle.words.specs.declared.gate.Wire.{Wire}
 use Rattle.circuit.specs.declared.Circuit.{Circuit}
 use Rattle.circuit.specs.Wires.{modulusAt, inputsIn}
-use Rattle.counts.specs.Counts.{recordsOf}
+use Rattle.counts.specs.Counts.{recordKeysOf}
 use Rattle.scheme.specs.Contribution.{contributionSize}
 use Rattle.scheme.specs.Draw.{drawn}
 use Rattle.session.specs.Session.{sessionChecked, partyChecked, ownersChecked, lengthsChecked, valuesChecked}
@@ -53,4 +53,4 @@ pub record KeysFit (circuit : Circuit) (K : ℕ) (contribution externals : List 
   pub size : bytes ≡ circuit .inputs * K
   pub positive : (w : ℕ) → w < circuit .inputs → 0 < modulusAt (wiresIn circuit) w
   pub byte : (w : ℕ) → w < circuit .inputs → modulusAt (wiresIn circuit) w < 256
-  pub recorded : (w : ℕ) → w < circuit .inputs → recordsOf (wiresIn circuit) w ≡ 1
+  pub recorded : (w : ℕ) → w < circuit .inputs → recordKeysOf (wiresIn circuit) w ≡ 1

@@ -4,7 +4,7 @@ use mathlib.Core.Path.{_≡_, sym, ap, subst}
 use mathlib.Core.List.{List}
 use Prim.Native.Nat.{ℕ, _*_}
 use lib.ListN.{getD}
-use Rattle.lists.specs.Blocks.{nth}
+use Rattle.lists.specs.Blocks.{nthPiece}
 use Rattle.rows.specs.Gate.{tableRows, productRows, chooserRows, correctorRows}
 use Rattle.garbling.specs.Source.{Operand}
 
@@ -27,8 +27,8 @@ corrector-same n K w p e₁ e₂ e₃ e₄ e₅ e₆ e₇ e₈ e₉ e₁₀ = cc
 pub operand-at : {n K : ℕ} {keys masks : List ℕ} {p i a : ℕ} → i ≡ a → Operand n K keys masks p a → Operand n K keys masks p i
 operand-at {n} {K} {keys} {masks} {p} e o = subst (λ (j : ℕ). Operand n K keys masks p j) (sym e) o
 
-pub key-of : (n K : ℕ) (keys : List ℕ) {i a : ℕ} → i ≡ a → nth keys (n * K) i ≡ nth keys (n * K) a
-key-of n K keys e = ap (λ (j : ℕ). nth keys (n * K) j) e
+pub key-of : (n K : ℕ) (keys : List ℕ) {i a : ℕ} → i ≡ a → nthPiece keys (n * K) i ≡ nthPiece keys (n * K) a
+key-of n K keys e = ap (λ (j : ℕ). nthPiece keys (n * K) j) e
 
 pub mask-of : (masks : List ℕ) {i a : ℕ} → i ≡ a → getD masks i 0 ≡ getD masks a 0
 mask-of masks e = ap (λ (j : ℕ). getD masks j 0) e

@@ -12,7 +12,7 @@ use Rattle.words.specs.declared.gate.Wire.{Wire}
 use Rattle.counts.specs.declared.recipe.Recipe.{Recipe}
 use Rattle.counts.specs.declared.recipe.Recipe.the-variants.{Drawn, Free, Table, Product, Choice}
 use Rattle.counts.specs.Recipe.{recipe}
-use Rattle.counts.specs.Counts.{recordsBy, rowsBy}
+use Rattle.counts.specs.Counts.{recordKeysBy, rowsBy}
 use Rattle.garbling.specs.Source.{tableOf, tableHere, productHere, choiceHere, rowsHere, Own, OverTable, OfPair, OfChoice, OfRecipe, Sourced}
 
 none : (xs : List ℕ) → length xs ≡ 0 → xs ≡ []
@@ -25,7 +25,7 @@ module _ {n K size at : ℕ} {contributions ranks keys masks file moduli : List 
   p = wire .modulus
 
   abbrev All : Recipe → Type 0
-  All q = Own n K size at (recordsBy q) p contributions ranks × (OfRecipe n K size ranks keys masks file moduli p (wire .gate) q × (length out ≡ rowsBy q (λ a. getD moduli a 0) p * (n * K)))
+  All q = Own n K size at (recordKeysBy q) p contributions ranks × (OfRecipe n K size ranks keys masks file moduli p (wire .gate) q × (length out ≡ rowsBy q (λ a. getD moduli a 0) p * (n * K)))
 
   known : {q : Recipe} → how ≡ q → All q
   known {q} h = subst (λ (q : Recipe). All q) (sym e ∙ h) (s .own, (s .operands, s .room))

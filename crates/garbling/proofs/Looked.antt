@@ -7,7 +7,7 @@ use mathlib.Core.List.{List, _++_, append-assoc}
 use Prim.Native.Nat.{ℕ, _+_, _-_, _*_, _/_, _%_, _≤_, _<_}
 use native.Mathlib.Omega.{arith}
 use lib.ListN.{length, getD, replicate, length-append, length-replicate}
-use Rattle.lists.specs.Blocks.{blocks, sumTo, tab, part, nth}
+use Rattle.lists.specs.Blocks.{blocks, sumTo, tab, part, nthPiece}
 use Rattle.lists.proofs.Sums.{times-fits}
 use Rattle.lists.proofs.Blocks.{length-blocks-same, length-tab, getD-tab}
 use Rattle.residue.specs.Residue.{sub}
@@ -27,7 +27,7 @@ use Rattle.circuit.specs.Accepted.GateFits.{input, add, scale, multiply, projec
 use Rattle.counts.specs.declared.recipe.Recipe.{Recipe}
 use Rattle.counts.specs.declared.recipe.Recipe.the-variants.{Drawn, Free, Table, Product, Choice}
 use Rattle.counts.specs.Recipe.{gateRecipe, recipe}
-use Rattle.counts.specs.Counts.{recordsBy, recordsOf, rowsBy, rowsOf}
+use Rattle.counts.specs.Counts.{recordKeysBy, recordKeysOf, rowsBy, rowsOf}
 use Rattle.counts.specs.Moduli.{used, usedBelow}
 use Rattle.counts.proofs.Wires.{wire-at, padded-modulus}
 use Rattle.session.specs.Held.{wiresIn}
@@ -103,13 +103,13 @@ module _ {file : List ℕ} {circuit : Circuit} {n K size : ℕ} {contributions :
   module _ (w : ℕ) {at : ℕ} (here : at ≡ recordAt K wires w) where
     key-is : (j : ℕ) → keysAt n K size contributions (at + K * j) ≡ drew .key w j
     unfolding keysAt drawn keyAt
-    key-is j = ap₂ (λ (s a : ℕ). blocks n (λ party. part (nth contributions s party) (a + K * j) K)) (r .each) here
+    key-is j = ap₂ (λ (s a : ℕ). blocks n (λ party. part (nthPiece contributions s party) (a + K * j) K)) (r .each) here
 
-    share-is : (m j : ℕ) → recordsOf wires w ≡ m → maskAt n size contributions (modulusAt wires w) (at + K * m + j) ≡ drew .mask w j
+    share-is : (m j : ℕ) → recordKeysOf wires w ≡ m → maskAt n size contributions (modulusAt wires w) (at + K * m + j) ≡ drew .mask w j
     unfolding maskAt drawn shareAt
     share-is m j e =
-        ap₂ (λ (s a : ℕ). sumTo n (λ party. getD (nth contributions s party) (a + K * m + j) 0) % modulusAt wires w) (r .each) here
-        ∙ ap (λ (i : ℕ). sumTo n (λ party. getD (nth contributions (contributionSize K wires) party) (recordAt K wires w + K * i + j) 0) % modulusAt wires w) (sym e)
+        ap₂ (λ (s a : ℕ). sumTo n (λ party. getD (nthPiece contributions s party) (a + K * m + j) 0) % modulusAt wires w) (r .each) here
+        ∙ ap (λ (i : ℕ). sumTo n (λ party. getD (nthPiece contributions (contributionSize K wires) party) (recordAt K wires w + K * i + j) 0) % modulusAt wires w) (sym e)
 
   module _ {ranks : List ℕ} (er : ranks ≡ tab 256 (usedBelow wires)) where
     pub ranks-long : length ranks ≡ 256
@@ -120,7 +120,7 @@ module _ {file : List ℕ} {circuit : Circuit} {n K size : ℕ} {contributions :
 
     offset-is : (p : ℕ) → p < 256 → keysAt n K size contributions (K * getD ranks p 0) ≡ drew .offset p
     unfolding keysAt drawn offsetAt
-    offset-is p h = ap₂ (λ (s k : ℕ). blocks n (λ party. part (nth contributions s party) (K * k) K)) (r .each) (rank-is p h)
+    offset-is p h = ap₂ (λ (s k : ℕ). blocks n (λ party. part (nthPiece contributions s party) (K * k) K)) (r .each) (rank-is p h)
 
     offsets-fit : (p : ℕ) → used wires p ≡ true → p < 256 → K * getD ranks p 0 + K ≤ size
     unfolding offsetAt
@@ -135,7 +135,7 @@ module _ {file : List ℕ} {circuit : Circuit} {n K size : ℕ} {contributions :
         })
 
   module _ {keys masks : List ℕ} (z : ZeroKeys circuit n K contributions keys) (m : Masks circuit n K contributions masks) where
-    zero-is : (a : ℕ) → a < length wires → nth keys (n * K) a ≡ zeroKey wires drew a
+    zero-is : (a : ℕ) → a < length wires → nthPiece keys (n * K) a ≡ zeroKey wires drew a
     zero-is a h = zero-keys-at r z a (omega (arith, made-is r))
 
     zero-there : (a : ℕ) → a < length wires → a * (n * K) + n * K ≤ length keys
@@ -208,13 +208,13 @@ module _ {file : List ℕ} {circuit : Circuit} {n K size : ℕ} {contributions :
         rows-by (multiply {gate} f) is =
             let a = lower (f .a .lower) in
             let b = lower (f .b .lower) in
-            let two : recordsOf wires w ≡ 2 = ap (λ (g : Gate). recordsBy (gateRecipe g)) is in
+            let two : recordKeysOf wires w ≡ 2 = ap (λ (g : Gate). recordKeysBy (gateRecipe g)) is in
             product-same n K w (modulusAt wires w) (offset-is er (modulusAt wires w) byte) (zero-is (gate .a) a) (mask-is (gate .a) a) (zero-is (gate .b) b) (mask-is (gate .b) b)
             (key-is w here 0) (key-is w here 1) (share-is w here 2 0 two) (share-is w here 2 1 two)
             ∙ product-is n K file wires drew w gate
         rows-by (project {gate} f) is =
             let a = lower (f .lower) in
-            let one : recordsOf wires w ≡ 1 = ap (λ (g : Gate). recordsBy (gateRecipe g)) is in
+            let one : recordKeysOf wires w ≡ 1 = ap (λ (g : Gate). recordKeysBy (gateRecipe g)) is in
             table-same n K w (λ v. bits (wordAt file (gate .table + v)) 7 0) (modulus-is (gate .a)) refl (zero-is (gate .a) a) (mask-is (gate .a) a)
             (ap (λ (o : ℕ). keysAt n K size contributions (K * getD ranks o 0)) (modulus-is (gate .a)) ∙ offset-is er (modulusAt wires (gate .a)) (r .accepted .fits (gate .a) a .byte))
             (key-is w here 0) (share-is w here 1 0 one) (offset-is er (modulusAt wires w) byte)
@@ -223,7 +223,7 @@ module _ {file : List ℕ} {circuit : Circuit} {n K size : ℕ} {contributions :
             let v = lower (f .lower) in
             let a = lower (f .a .lower) in
             let b = lower (f .b .lower) in
-            let three : recordsOf wires w ≡ 3 = ap (λ (g : Gate). recordsBy (gateRecipe g)) is in
+            let three : recordKeysOf wires w ≡ 3 = ap (λ (g : Gate). recordKeysBy (gateRecipe g)) is in
             let d = ap₂ (subV (modulusAt wires w)) (zero-is (gate .b) b) (zero-is (gate .a) a) in
             let x = ap₂ (sub (modulusAt wires w)) (mask-is (gate .b) b) (mask-is (gate .a) a) in
             ap₂ _++_

@@ -5,7 +5,7 @@ use mathlib.Core.Path.{_≡_}
 use mathlib.Core.List.{List, [], _++_}
 use Prim.Native.Nat.{ℕ, _+_, _*_, _≤_, _<_}
 use lib.ListN.{length, getD, take}
-use Rattle.lists.specs.Blocks.{nth}
+use Rattle.lists.specs.Blocks.{nthPiece}
 use Rattle.residue.specs.Residue.{sub}
 use Rattle.residue.specs.Vector.{subV}
 use Rattle.words.specs.Bits.{bits, wordAt}
@@ -17,7 +17,7 @@ use Rattle.words.specs.declared.gate.Wire.{Wire}
 use Rattle.counts.specs.declared.recipe.Recipe.{Recipe}
 use Rattle.counts.specs.declared.recipe.Recipe.the-variants.{Drawn, Free, Table, Product, Choice}
 use Rattle.counts.specs.Recipe.{recipe}
-use Rattle.counts.specs.Counts.{recordsBy, rowsBy}
+use Rattle.counts.specs.Counts.{recordKeysBy, rowsBy}
 use Rattle.rows.specs.Gate.{tableRows, productRows, chooserRows, correctorRows}
 use Rattle.zero.specs.Turn.{keysAt, maskAt}
 use Rattle.session.specs.Sizes.{Sizes}
@@ -54,7 +54,7 @@ module _ (n K size w at p : ℕ) (contributions ranks keys masks : List ℕ) whe
 
   -- zero keys and mask of a wire
   abbrev zero : ℕ → List ℕ
-  zero a = nth keys (n * K) a
+  zero a = nthPiece keys (n * K) a
 
   abbrev mask : ℕ → ℕ
   mask a = getD masks a 0
@@ -130,6 +130,6 @@ pub data OfRecipe (n K size : ℕ) (ranks keys masks file moduli : List ℕ) (p 
 
 -- all that a wire's rows rest on, with room for them
 pub record Sourced (n K size at : ℕ) (contributions ranks keys masks file moduli : List ℕ) (wire : Wire) (out : List ℕ) : Type 0 where
-  pub own : Own n K size at (recordsBy (recipe wire)) (wire .modulus) contributions ranks
+  pub own : Own n K size at (recordKeysBy (recipe wire)) (wire .modulus) contributions ranks
   pub operands : OfRecipe n K size ranks keys masks file moduli (wire .modulus) (wire .gate) (recipe wire)
   pub room : length out ≡ rowsBy (recipe wire) (λ a. getD moduli a 0) (wire .modulus) * (n * K)

@@ -9,7 +9,7 @@ use native.Mathlib.Decide.{le-ind}
 use native.Mathlib.Omega.{arith}
 use lib.ListN.{length, getD, take, drop, replicate, length-append, length-replicate, getD-replicate}
 use lib.Seq.{take-length, take-all, take-append-le, drop-at, ext-getD}
-use Rattle.lists.specs.Blocks.{blocks, tab, part, nth, sumTo, runs}
+use Rattle.lists.specs.Blocks.{blocks, tab, part, nthPiece, sumTo, runs}
 use Rattle.lists.proofs.Parts.{length-part, part-last, part-of-take, part-of-part, take-part, getD-part}
 use Rattle.lists.proofs.Sums.{times-fits, sumTo-fits, sumTo-const}
 
@@ -135,9 +135,9 @@ module _ {A : Type 0} where
   blocks-parts zero size xs = refl
   blocks-parts (suc n) size xs = rw (blocks-parts n size xs) (sym (take-part xs (sumTo n size) (size n)))
 
-  pub blocks-nth : (n s : ℕ) (xs : List A) → length xs ≡ n * s → blocks n (λ i. nth xs s i) ≡ xs
+  pub blocks-nth : (n s : ℕ) (xs : List A) → length xs ≡ n * s → blocks n (λ i. nthPiece xs s i) ≡ xs
   blocks-nth n s xs l =
-      blocks-ext n (λ i. nth xs s i) (λ i. part xs (sumTo i (λ _. s)) s) (λ i _. rw (sumTo-const i s))
+      blocks-ext n (λ i. nthPiece xs s i) (λ i. part xs (sumTo i (λ _. s)) s) (λ i _. rw (sumTo-const i s))
       ∙ blocks-parts n (λ _. s) xs
       ∙ take-all (sumTo n (λ _. s)) xs (omega (arith, sumTo-const n s))
 

@@ -19,8 +19,8 @@ module _ {A : Type 0} where
   part xs at size = take size (drop at xs)
 
   -- xs cut into parts of size elements: the i-th of them
-  abbrev pub nth : List A → ℕ → ℕ → List A
-  nth xs size i = part xs (i * size) size
+  abbrev pub nthPiece : List A → ℕ → ℕ → List A
+  nthPiece xs size i = part xs (i * size) size
 
   -- xs, with ys in the place of as many of its elements, from place at on
   unfoldable pub written : List A → ℕ → List A → List A

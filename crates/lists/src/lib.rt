@@ -6,7 +6,7 @@
 ghost use mathlib.Core.Path.{_≡_};
 ghost use Prim.Native.Nat.{_+_, _*_, _≤_};
 ghost use lib.ListN.{length, replicate};
-ghost use Rattle.lists.specs.Blocks.{part, nth, written};
+ghost use Rattle.lists.specs.Blocks.{part, nthPiece, written};
 
 // Copies `from` to `out`, which is as long.
 pub fn copy(out: &mut [u8], from: &[u8])
@@ -45,7 +45,7 @@ pub fn piece(s: &[u8], at: usize, n: usize) -> &[u8]
 // `s` cut into pieces of `k` bytes: the one with number `j`.
 pub fn nth_piece(s: &[u8], k: usize, j: usize) -> &[u8]
     requires { ⌜ j * k + k ≤ length (now s) ⌝ }
-    ensures { λ r. ⌜ (now r ≡ nth (now (s .entry)) k j) × (length (now r) ≡ k) ⌝ }
+    ensures { λ r. ⌜ (now r ≡ nthPiece (now (s .entry)) k j) × (length (now r) ≡ k) ⌝ }
 {
     piece(s, j * k, k)
 }

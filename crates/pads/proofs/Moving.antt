@@ -8,14 +8,14 @@ use native.Mathlib.Nat.{le-refl}
 use native.Mathlib.Numerals.{add-one}
 use native.Mathlib.Omega.{arith}
 use lib.ListN.{length, getD, take, drop, replicate, length-replicate}
-use Rattle.lists.specs.Blocks.{blocks, part, nth}
+use Rattle.lists.specs.Blocks.{blocks, part, nthPiece}
 use Rattle.lists.proofs.Blocks.{blocks-nth, length-blocks-same}
 use Rattle.lists.proofs.Parts.{part-range, length-part}
 use Rattle.lists.proofs.Steps.{Level, level-place, level-whole, steps-long, steps-call}
 use Rattle.lists.proofs.Sums.{times-fits}
 use Rattle.lists.proofs.Written.{lent}
 use Rattle.lists.proofs.Wrote.{wrote-behind}
-use Rattle.residue.specs.Vector.{zip, addV, subV, AllBelow}
+use Rattle.residue.specs.Vector.{zipWith, addV, subV, AllBelow}
 use Rattle.residue.proofs.Laws.{addV-assoc}
 use Rattle.residue.proofs.Parts.{addV-append, subV-append, below-take, below-drop}
 use Rattle.residue.proofs.Vectors.{addV-length, subV-length, addV-below, subV-below}
@@ -62,7 +62,7 @@ moved-append false q xs ys xs′ ys′ e = addV-append q xs ys xs′ ys′ e
 moved-append true q xs ys xs′ ys′ e = subV-append q xs ys xs′ ys′ e
 
 moved-none : (minus : Bool) (q : ℕ) → moved minus q [] [] ≡ []
-unfolding moved addV subV zip
+unfolding moved addV subV zipWith
 moved-none false q = refl
 moved-none true q = refl
 
@@ -90,7 +90,7 @@ module _ (minus : Bool) (q : ℕ) (under : Under) (keys : List ℕ) (receiver : 
   unfolding padSum
   senders-none a = sym (moved-zeros minus (omega arith) out₀ (a .below))
 
-  pads-next : (j : ℕ) → pads (j + 1) ≡ addV q (pads j) (shakePad q (length out₀) (padInput under receiver (nth keys (length out₀) j)))
+  pads-next : (j : ℕ) → pads (j + 1) ≡ addV q (pads j) (shakePad q (length out₀) (padInput under receiver (nthPiece keys (length out₀) j)))
   unfolding padSum
   pads-next j = rw add-one refl
 
@@ -101,10 +101,10 @@ module _ (minus : Bool) (q : ℕ) (under : Under) (keys : List ℕ) (receiver : 
     pub senders-asked : Asked q (length out₀) out₀ → Asked q (length out) out
     senders-asked a = record { modulus = a .modulus; short = omega (arith, senders-length); below = rw e (moved-below minus (omega arith) out₀ (pads j)) }
 
-    pub senders-more : {key out′ : List ℕ} → 1 < q → key ≡ nth keys (length out₀) j → out′ ≡ moved minus q out (shakePad q (length out) (padInput under receiver key))
+    pub senders-more : {key out′ : List ℕ} → 1 < q → key ≡ nthPiece keys (length out₀) j → out′ ≡ moved minus q out (shakePad q (length out) (padInput under receiver key))
         → out′ ≡ moved minus q out₀ (pads (j + 1))
     senders-more {key} {out′} h k t =
-        let pad : List ℕ = shakePad q (length out₀) (padInput under receiver (nth keys (length out₀) j)) in
+        let pad : List ℕ = shakePad q (length out₀) (padInput under receiver (nthPiece keys (length out₀) j)) in
         t
         ∙ ap (λ (m : ℕ). moved minus q out (shakePad q m (padInput under receiver key))) senders-length
         ∙ ap (λ (l : List ℕ). moved minus q out (shakePad q (length out₀) (padInput under receiver l))) k
@@ -116,7 +116,7 @@ module _ (minus : Bool) (q : ℕ) (under : Under) (keys : List ℕ) (receiver : 
 
 module _ (minus : Bool) (q : ℕ) (under : Under) (keys : List ℕ) (n K : ℕ) (out₀ : List ℕ) where
   abbrev entry : ℕ → List ℕ
-  entry i = moved minus q (nth out₀ K i) (padSum shakePad K q under keys i n)
+  entry i = moved minus q (nthPiece out₀ K i) (padSum shakePad K q under keys i n)
 
   -- the loop's invariant: the entries of the first i receivers are done
   abbrev pub Done : ℕ → ℕ → List ℕ → Type 0
@@ -124,7 +124,7 @@ module _ (minus : Bool) (q : ℕ) (under : Under) (keys : List ℕ) (n K : ℕ) 
 
   module _ {i at : ℕ} {out : List ℕ} (r : Done i at out) (h : i < n) where
     -- what is lent for the next receiver is still as it was
-    pub receiver-part : {to : ℕ} → to ≡ at + K → take (to - at) (drop at out) ≡ nth out₀ K i
+    pub receiver-part : {to : ℕ} → to ≡ at + K → take (to - at) (drop at out) ≡ nthPiece out₀ K i
     receiver-part {to} e =
         part-range out at to K e ∙ wrote-behind (r .wrote) at K (le-refl at) ∙ ap (λ (a : ℕ). part out₀ a K) (omega (arith, level-place r))
 
@@ -150,7 +150,7 @@ module _ (minus : Bool) (q : ℕ) (under : Under) (keys : List ℕ) (n K : ℕ) 
   unfolding padRow
   receivers-all {i} {at} {out} r h l =
       level-whole r h l
-      ∙ moved-blocks minus q K (λ i. nth out₀ K i) (λ i. padSum shakePad K q under keys i n) n
+      ∙ moved-blocks minus q K (λ i. nthPiece out₀ K i) (λ i. padSum shakePad K q under keys i n) n
       (λ i k. length-part out₀ (i * K) K (omega (arith, times-fits i n K k)))
       (λ i k. padSum-length shakePad K q (shakePad-length q K) under keys i n)
       ∙ ap (λ (x : List ℕ). moved minus q x (blocks n (λ i. padSum shakePad K q under keys i n))) (blocks-nth n K out₀ l)

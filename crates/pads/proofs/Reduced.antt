@@ -7,7 +7,7 @@ use Prim.Native.Nat.{ℕ, zero, suc, _+_, _*_, _%_, _≤_, _<_}
 use native.Mathlib.Nat.{not-suc-le-zero, le-of-suc-le-suc}
 use lib.ListN.{length, getD, set, take, drop, length-map}
 use lib.Seq.{take-at, length-take-le}
-use Rattle.residue.specs.Vector.{zip, addV, subV}
+use Rattle.residue.specs.Vector.{zipWith, addV, subV}
 use Rattle.residue.proofs.InPlace.{Turned, zip-turn}
 use Rattle.shake.specs.Numbers.{numbers}
 use Rattle.shake.specs.Shake.{shake256}
@@ -25,8 +25,8 @@ reduced-at q (x ∷ xs) zero h = refl
 reduced-at q (x ∷ xs) (suc i) h = reduced-at q xs i (le-of-suc-le-suc h)
 
 -- one turn of the loop that applies f to each entry and to the number beside it, reduced
-pub number-turn : (f : ℕ → ℕ → ℕ) (q : ℕ) (ns : List ℕ) {xs out : List ℕ} {i v : ℕ} → Turned (zip f xs (reduced q ns)) xs i out → length xs ≡ length ns → i < length ns
-    → v ≡ f (getD out i 0) (getD ns i 0 % q) → Turned (zip f xs (reduced q ns)) xs (i + 1) (set out i v)
+pub number-turn : (f : ℕ → ℕ → ℕ) (q : ℕ) (ns : List ℕ) {xs out : List ℕ} {i v : ℕ} → Turned (zipWith f xs (reduced q ns)) xs i out → length xs ≡ length ns → i < length ns
+    → v ≡ f (getD out i 0) (getD ns i 0 % q) → Turned (zipWith f xs (reduced q ns)) xs (i + 1) (set out i v)
 number-turn f q ns {xs} {out} {i} {v} t s h d =
     zip-turn f (reduced q ns) t (s ∙ sym (reduced-length q ns)) (rw (reduced-length q ns) h)
     (d ∙ ap (f (getD out i 0)) (sym (reduced-at q ns i h)))

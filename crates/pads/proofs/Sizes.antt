@@ -12,7 +12,7 @@ use Rattle.shake.specs.Shake.{shake256, squeezed, absorbed, absorbBlocks, absor
 use Rattle.shake.specs.Numbers.{numbers}
 use Rattle.shake.proofs.Squeezed.{squeezed-length}
 use Rattle.shake.proofs.Numbers.{numbers-length}
-use Rattle.lists.specs.Blocks.{blocks, nth}
+use Rattle.lists.specs.Blocks.{blocks, nthPiece}
 use Rattle.lists.proofs.Blocks.{length-blocks-same}
 use Rattle.residue.specs.Vector.{addV, AllBelow}
 use Rattle.residue.proofs.Vectors.{addV-length, addV-below}

@@ -3,7 +3,7 @@
 use mathlib.Core.List.{List, [], _∷_, _++_, map}
 use Prim.Native.Nat.{ℕ, zero, suc, _*_, _%_}
 use lib.ListN.{replicate}
-use Rattle.lists.specs.Blocks.{blocks, nth}
+use Rattle.lists.specs.Blocks.{blocks, nthPiece}
 use Rattle.residue.specs.Vector.{addV}
 use Rattle.shake.specs.Numbers.{numbers, bytesOf}
 use Rattle.shake.specs.Shake.{shake256}
@@ -36,7 +36,7 @@ module _ (pad : Pad) (K q : ℕ) (under : Under) (keys : List ℕ) where
   -- the pads of the first senders for a receiver, summed; sender j's key is part j of the keys
   unfoldable pub padSum : ℕ → ℕ → List ℕ
   padSum receiver zero = replicate K 0
-  padSum receiver (suc j) = addV q (padSum receiver j) (pad q K (padInput under receiver (nth keys K j)))
+  padSum receiver (suc j) = addV q (padSum receiver j) (pad q K (padInput under receiver (nthPiece keys K j)))
 
   -- the pads of all n senders for all n receivers
   unfoldable pub padRow : ℕ → List ℕ

@@ -8,7 +8,7 @@ use native.Mathlib.Nat.{le-antisymm, zero-add}
 use native.Mathlib.Decide.{decLt}
 use native.Mathlib.Omega.{arith}
 use lib.ListN.{length, take, drop}
-use Rattle.lists.specs.Blocks.{part, nth}
+use Rattle.lists.specs.Blocks.{part, nthPiece}
 use Rattle.lists.proofs.Parts.{part-range}
 use Rattle.lists.proofs.Sums.{times-fits}
 use Rattle.lists.proofs.Wrote.{wrote-behind}
@@ -41,7 +41,7 @@ all-passed (suc n) checks h = andThen-passed (all-passed n checks (λ i l. h i (
 
 -- the part that is lent next is as it was
 pub part-next : {out₀ : List ℕ} {i n s : ℕ} {f : ℕ → List ℕ} {at : ℕ} {out : List ℕ} → Level out₀ 0 i n s f at out → {to : ℕ} → to ≡ at + s
-    → take (to - at) (drop at out) ≡ nth out₀ s i
+    → take (to - at) (drop at out) ≡ nthPiece out₀ s i
 part-next {out₀} {i} {n} {s} {f} {at} {out} r {to} e =
     part-range out at to s e
     ∙ wrote-behind (r .wrote) at s (omega arith)

@@ -5,7 +5,7 @@ use mathlib.Core.List.{List}
 use Prim.Native.Nat.{ℕ, _+_, _*_, _≤_, _<_}
 use native.Mathlib.Omega.{arith}
 use lib.ListN.{length}
-use Rattle.lists.specs.Blocks.{part, nth}
+use Rattle.lists.specs.Blocks.{part, nthPiece}
 use Rattle.lists.proofs.Parts.{part-of-part}
 use Rattle.lists.proofs.Sums.{times-fits}
 
@@ -17,7 +17,7 @@ module _ (inputs k each n w party from : ℕ) (mine : List ℕ) (e : each ≡ in
   pub key-next : from + each ≤ length mine + length mine
   key-next = omega (arith, times-fits w inputs k h, times-fits party n each g)
 
-  pub key-there : part mine from k ≡ nth (nth mine each party) k w
+  pub key-there : part mine from k ≡ nthPiece (nthPiece mine each party) k w
   key-there =
       let at : from ≡ party * each + w * k = omega arith in
       ap (λ (i : ℕ). part mine i k) at

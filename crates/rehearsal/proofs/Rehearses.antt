@@ -4,7 +4,7 @@ use mathlib.Core.Path.{_≡_, refl, ap, _∙_}
 use mathlib.Core.List.{List}
 use Prim.Native.Nat.{ℕ, _+_, _*_, _<_}
 use lib.ListN.{length, getD}
-use Rattle.lists.specs.Blocks.{blocks, tab, nth}
+use Rattle.lists.specs.Blocks.{blocks, tab, nthPiece}
 use Rattle.lists.proofs.Blocks.{blocks-ext}
 use Rattle.checks.specs.declared.Answer.{Answer}
 use Rattle.checks.specs.declared.Answer.the-variants.{Accepted}
@@ -84,35 +84,35 @@ module _ {file : List ℕ} {n K : ℕ} {contributions values : List ℕ} {meter 
       (conditions .owners)
       ∙ ap (λ (masks : List ℕ). tab (inputsIn wires) (λ w. getD (ownAfter file n wires values masks (ownerAt wires w)) (placeAt wires w) 0)) masks-is
 
-  own-keys-is : (party : ℕ) → party < n → nth mine (inputsIn wires * K) party ≡ round.ownKeys shakePad file n K contributions values meter lent party
+  own-keys-is : (party : ℕ) → party < n → nthPiece mine (inputsIn wires * K) party ≡ round.ownKeys shakePad file n K contributions values meter lent party
   unfolding round.ownKeys round.contributionOf
   own-keys-is party h =
       keyed .own .part party h
-      ∙ ap (λ (xs : List ℕ). inputKeysAfter file n K party (nth contributions (contributionSize K wires) party) xs (nth mine₀ (inputsIn wires * K) party))
+      ∙ ap (λ (xs : List ℕ). inputKeysAfter file n K party (nthPiece contributions (contributionSize K wires) party) xs (nthPiece mine₀ (inputsIn wires * K) party))
       externals-is
 
   keys-is : keys ≡ round.keys shakePad file n K contributions values meter lent
   unfolding round.keys
   keys-is =
       keyed .keysIs
-      ∙ blocks-ext (inputsIn wires) (λ w. blocks n (λ party. nth (nth mine (inputsIn wires * K) party) K w))
-      (λ w. blocks n (λ party. nth (round.ownKeys shakePad file n K contributions values meter lent party) K w))
-      (λ w h. blocks-ext n (λ party. nth (nth mine (inputsIn wires * K) party) K w)
-      (λ party. nth (round.ownKeys shakePad file n K contributions values meter lent party) K w)
-      (λ party l. ap (λ (xs : List ℕ). nth xs K w) (own-keys-is party l)))
+      ∙ blocks-ext (inputsIn wires) (λ w. blocks n (λ party. nthPiece (nthPiece mine (inputsIn wires * K) party) K w))
+      (λ w. blocks n (λ party. nthPiece (round.ownKeys shakePad file n K contributions values meter lent party) K w))
+      (λ w h. blocks-ext n (λ party. nthPiece (nthPiece mine (inputsIn wires * K) party) K w)
+      (λ party. nthPiece (round.ownKeys shakePad file n K contributions values meter lent party) K w)
+      (λ party l. ap (λ (xs : List ℕ). nthPiece xs K w) (own-keys-is party l)))
 
   wire-keys-is : (party : ℕ) → party < n
-      → nth wkeys (length wires * (n * K)) party ≡ round.wireKeys shakePad file n K contributions values meter lent party
+      → nthPiece wkeys (length wires * (n * K)) party ≡ round.wireKeys shakePad file n K contributions values meter lent party
   unfolding round.wireKeys round.contributionOf
   wire-keys-is party h = finished .keysAre .part party h ∙ rw (externals-is, keys-is, rows-is)
 
   wire-externals-is : (party : ℕ) → party < n
-      → nth wexternals (length wires) party ≡ round.wireExternals shakePad file n K contributions values meter lent party
+      → nthPiece wexternals (length wires) party ≡ round.wireExternals shakePad file n K contributions values meter lent party
   unfolding round.wireExternals round.contributionOf
   wire-externals-is party h = finished .externalsAre .part party h ∙ rw (externals-is, keys-is, rows-is)
 
   figures-is : (party : ℕ) → party < n
-      → nth results (length (readFile file .outputs)) party ≡ round.figures shakePad file n K contributions values meter lent party
+      → nthPiece results (length (readFile file .outputs)) party ≡ round.figures shakePad file n K contributions values meter lent party
   unfolding round.figures
   figures-is party h = finished .resultsAre .part party h ∙ rw (wire-externals-is party h, outs-is)
 
@@ -155,7 +155,7 @@ module _ {file : List ℕ} {n K : ℕ} {contributions values : List ℕ} {meter 
       record {
         accepts = followed-accepted c begins (followed-accepted b hands (followed-accepted a ends (evaluates m)));
         counted = counted;
-        keys = λ party w each h made l. ap (λ (xs : List ℕ). nth (nth xs (n * K) w) K each) (wire-keys-is party h) ∙ promise .keys party w each h made l;
+        keys = λ party w each h made l. ap (λ (xs : List ℕ). nthPiece (nthPiece xs (n * K) w) K each) (wire-keys-is party h) ∙ promise .keys party w each h made l;
         externals = λ party w h made. ap (λ (xs : List ℕ). getD xs w 0) (wire-externals-is party h) ∙ promise .externals party w h made;
         decoded = λ party h. figures-is party h ∙ promise .decoded party h;
         plainDecoded = plain-decoded e;

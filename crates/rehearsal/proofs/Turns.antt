@@ -5,7 +5,7 @@ use mathlib.Core.List.{List}
 use Prim.Native.Nat.{ℕ, _+_, _-_, _*_, _≤_, _<_}
 use native.Mathlib.Omega.{arith}
 use lib.ListN.{length, take, drop}
-use Rattle.lists.specs.Blocks.{part, nth}
+use Rattle.lists.specs.Blocks.{part, nthPiece}
 use Rattle.lists.proofs.Sums.{times-next}
 use Rattle.lists.proofs.Written.{lent}
 use Rattle.lists.proofs.Steps.{Level, level-start, steps-long, steps-call}
@@ -21,17 +21,17 @@ use Rattle.rehearsal.specs.All.{allOf}
 use Rattle.rehearsal.proofs.InTurn.{turn-start, turn-next, part-next, read-next, met-all, sized-next}
 
 -- a part of what is only read, by its place
-own-part : (xs : List ℕ) {ys : List ℕ} {from : ℕ} (s i : ℕ) → ys ≡ part xs from s → from ≡ i * s → ys ≡ nth xs s i
+own-part : (xs : List ℕ) {ys : List ℕ} {from : ℕ} (s i : ℕ) → ys ≡ part xs from s → from ≡ i * s → ys ≡ nthPiece xs s i
 own-part xs {ys} {from} s i e k = e ∙ ap (λ (at : ℕ). part xs at s) k
 
 -- ---- input keys
 
 module _ (file : List ℕ) (n K : ℕ) (contributions : List ℕ) (size : ℕ) (externals : List ℕ) (each : ℕ) (mine₀ : List ℕ) where
   abbrev pub keysChecks : ℕ → Checked
-  keysChecks party = inputKeysChecked file n K party (nth contributions size party) externals (nth mine₀ each party)
+  keysChecks party = inputKeysChecked file n K party (nthPiece contributions size party) externals (nthPiece mine₀ each party)
 
   abbrev pub keysWritten : ℕ → List ℕ
-  keysWritten party = inputKeysAfter file n K party (nth contributions size party) externals (nth mine₀ each party)
+  keysWritten party = inputKeysAfter file n K party (nthPiece contributions size party) externals (nthPiece mine₀ each party)
 
   pub record KeysTo (party from at : ℕ) (answer : Answer) (mine : List ℕ) : Type 0 where
     pub place : from ≡ party * size
@@ -61,8 +61,8 @@ module _ {file : List ℕ} {n K : ℕ} {contributions : List ℕ} {size : ℕ} {
         → both ≡ followed answer next
         → KeysTo file n K contributions size externals each mine₀ (party + 1) (from + size) (at + each) both (lent at (at + each) mine ys)
     keys-next {own} {ys} {next} {both} o l m e b =
-        let o′ : own ≡ nth contributions size party = own-part contributions size party o (r .place) in
-        let p : take (at + each - at) (drop at mine) ≡ nth mine₀ each party = part-next (r .level) refl in
+        let o′ : own ≡ nthPiece contributions size party = own-part contributions size party o (r .place) in
+        let p : take (at + each - at) (drop at mine) ≡ nthPiece mine₀ each party = part-next (r .level) refl in
         let z : ys ≡ keysWritten file n K contributions size externals each mine₀ party =
         e ∙ ap₂ (λ (a b : List ℕ). inputKeysAfter file n K party a externals b) o′ p in
         record {
@@ -84,14 +84,14 @@ module _ {file : List ℕ} {n K : ℕ} {contributions : List ℕ} {size : ℕ} {
 
 module _ (file : List ℕ) (n K : ℕ) (contributions : List ℕ) (size : ℕ) (externals keys rows : List ℕ) (wide : ℕ) (wkeys₀ : List ℕ) (long : ℕ) (wexts₀ : List ℕ) where
   abbrev pub openChecks : ℕ → Checked
-  openChecks party = openChecked shakePad file n K party (nth contributions size party) externals keys rows (nth wkeys₀ wide party) (nth wexts₀ long party)
+  openChecks party = openChecked shakePad file n K party (nthPiece contributions size party) externals keys rows (nthPiece wkeys₀ wide party) (nthPiece wexts₀ long party)
 
   abbrev pub openedKeys : ℕ → List ℕ
-  openedKeys party = openKeys shakePad file n K party (nth contributions size party) externals keys rows (nth wkeys₀ wide party) (nth wexts₀ long party)
+  openedKeys party = openKeys shakePad file n K party (nthPiece contributions size party) externals keys rows (nthPiece wkeys₀ wide party) (nthPiece wexts₀ long party)
 
   abbrev pub openedExternals : ℕ → List ℕ
   openedExternals party =
-      openExternals shakePad file n K party (nth contributions size party) externals keys rows (nth wkeys₀ wide party) (nth wexts₀ long party)
+      openExternals shakePad file n K party (nthPiece contributions size party) externals keys rows (nthPiece wkeys₀ wide party) (nthPiece wexts₀ long party)
 
   pub record OpenTo (party from at place : ℕ) (answer : Answer) (wkeys wexts : List ℕ) : Type 0 where
     pub start : from ≡ party * size
@@ -134,15 +134,15 @@ module _ {file : List ℕ} {n K : ℕ} {contributions : List ℕ} {size : ℕ} {
         → OpenTo file n K contributions size externals keys rows wide wkeys₀ long wexts₀ (party + 1) (from + size) (at + wide) (place + long) both
         (lent at (at + wide) wkeys ys) (lent place (place + long) wexts zs)
     open-next {own} {ys} {zs} {next} {both} o ly lz m ey ez b =
-        let o′ : own ≡ nth contributions size party = own-part contributions size party o (r .start) in
-        let p : keysPart ≡ nth wkeys₀ wide party = part-next (r .keysLevel) refl in
-        let q : extsPart ≡ nth wexts₀ long party = part-next (r .extsLevel) refl in
+        let o′ : own ≡ nthPiece contributions size party = own-part contributions size party o (r .start) in
+        let p : keysPart ≡ nthPiece wkeys₀ wide party = part-next (r .keysLevel) refl in
+        let q : extsPart ≡ nthPiece wexts₀ long party = part-next (r .extsLevel) refl in
         let y : ys ≡ openedKeys file n K contributions size externals keys rows wide wkeys₀ long wexts₀ party =
         ey ∙ ap (λ (a : List ℕ). openKeys shakePad file n K party a externals keys rows keysPart extsPart) o′
-        ∙ ap₂ (λ (a b : List ℕ). openKeys shakePad file n K party (nth contributions size party) externals keys rows a b) p q in
+        ∙ ap₂ (λ (a b : List ℕ). openKeys shakePad file n K party (nthPiece contributions size party) externals keys rows a b) p q in
         let z : zs ≡ openedExternals file n K contributions size externals keys rows wide wkeys₀ long wexts₀ party =
         ez ∙ ap (λ (a : List ℕ). openExternals shakePad file n K party a externals keys rows keysPart extsPart) o′
-        ∙ ap₂ (λ (a b : List ℕ). openExternals shakePad file n K party (nth contributions size party) externals keys rows a b) p q in
+        ∙ ap₂ (λ (a b : List ℕ). openExternals shakePad file n K party (nthPiece contributions size party) externals keys rows a b) p q in
         record {
           start = omega (arith, r .start, times-next party size);
           keysLevel = steps-call (r .keysLevel) h refl ly y;
@@ -152,7 +152,7 @@ module _ {file : List ℕ} {n K : ℕ} {contributions : List ℕ} {size : ℕ} {
           met =
               turn-next (openChecks file n K contributions size externals keys rows wide wkeys₀ long wexts₀) party (r .met) m
               (ap (λ (a : List ℕ). openChecked shakePad file n K party a externals keys rows keysPart extsPart) o′
-              ∙ ap₂ (λ (a b : List ℕ). openChecked shakePad file n K party (nth contributions size party) externals keys rows a b) p q)
+              ∙ ap₂ (λ (a b : List ℕ). openChecked shakePad file n K party (nthPiece contributions size party) externals keys rows a b) p q)
               b;
         }
 
@@ -165,10 +165,10 @@ module _ {file : List ℕ} {n K : ℕ} {contributions : List ℕ} {size : ℕ} {
 
 module _ (file : List ℕ) (n : ℕ) (externals : List ℕ) (long : ℕ) (masks : List ℕ) (each : ℕ) (results₀ : List ℕ) where
   abbrev pub decodeChecks : ℕ → Checked
-  decodeChecks party = decodeChecked file (nth externals long party) masks (nth results₀ each party)
+  decodeChecks party = decodeChecked file (nthPiece externals long party) masks (nthPiece results₀ each party)
 
   abbrev pub decodedBytes : ℕ → List ℕ
-  decodedBytes party = decodeAfter file (nth externals long party) masks (nth results₀ each party)
+  decodedBytes party = decodeAfter file (nthPiece externals long party) masks (nthPiece results₀ each party)
 
   pub record DecodeTo (party from at : ℕ) (answer : Answer) (results : List ℕ) : Type 0 where
     pub place : from ≡ party * long
@@ -198,8 +198,8 @@ module _ {file : List ℕ} {n : ℕ} {externals : List ℕ} {long : ℕ} {masks 
         → both ≡ followed answer next
         → DecodeTo file n externals long masks each results₀ (party + 1) (from + long) (at + each) both (lent at (at + each) results ys)
     decode-next {own} {ys} {next} {both} o l m e b =
-        let o′ : own ≡ nth externals long party = own-part externals long party o (r .place) in
-        let p : take (at + each - at) (drop at results) ≡ nth results₀ each party = part-next (r .level) refl in
+        let o′ : own ≡ nthPiece externals long party = own-part externals long party o (r .place) in
+        let p : take (at + each - at) (drop at results) ≡ nthPiece results₀ each party = part-next (r .level) refl in
         let z : ys ≡ decodedBytes file n externals long masks each results₀ party =
         e ∙ ap₂ (λ (a b : List ℕ). decodeAfter file a masks b) o′ p in
         record {

@@ -5,7 +5,7 @@ use mathlib.Core.Bool.{cond}
 use mathlib.Core.List.{List, map}
 use Prim.Native.Nat.{ℕ, zero, suc}
 use lib.ListN.{length, getD, take, replicate}
-use Rattle.lists.specs.Blocks.{blocks, tab, nth, sumTo}
+use Rattle.lists.specs.Blocks.{blocks, tab, nthPiece, sumTo}
 use Rattle.words.specs.declared.gate.Wire.{Wire}
 use Rattle.circuit.specs.Wires.{wireAt}
 use Rattle.counts.specs.Counts.{mark, ownedBy}
@@ -25,7 +25,7 @@ scattered party wires mine before =
 
 -- keys that lie party by party, by input and then party
 abbrev pub keysByInput : ℕ → ℕ → ℕ → ℕ → List ℕ → List ℕ
-keysByInput n K inputs each mine = blocks inputs (λ w. blocks n (λ party. nth (nth mine each party) K w))
+keysByInput n K inputs each mine = blocks inputs (λ w. blocks n (λ party. nthPiece (nthPiece mine each party) K w))
 
 -- a party's own of all inputs' bytes
 abbrev pub ownList : ℕ → List Wire → List ℕ → List ℕ

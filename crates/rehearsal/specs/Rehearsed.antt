@@ -4,7 +4,7 @@ use mathlib.Core.Path.{_≡_}
 use mathlib.Core.List.{List}
 use Prim.Native.Nat.{ℕ, _+_, _*_, _<_}
 use lib.ListN.{length, getD, replicate}
-use Rattle.lists.specs.Blocks.{nth}
+use Rattle.lists.specs.Blocks.{nthPiece}
 use Rattle.residue.specs.Residue.{add}
 use Rattle.residue.specs.Vector.{keyV}
 use Rattle.checks.specs.declared.Answer.{Answer}
@@ -35,10 +35,10 @@ module _ (file : List ℕ) (n K : ℕ) where
         inputMasks = inputMasks;
         outputMasks = outputMasks;
         externals = λ party. replicate (length (ownInputs party wires)) 0;
-        inputKeys = λ party. nth mine (inputsIn wires * K) party;
-        wireKeys = λ party. nth wkeys (length wires * (n * K)) party;
-        wireExternals = λ party. nth wexternals (length wires) party;
-        results = λ party. nth results (length outputs) party;
+        inputKeys = λ party. nthPiece mine (inputsIn wires * K) party;
+        wireKeys = λ party. nthPiece wkeys (length wires * (n * K)) party;
+        wireExternals = λ party. nthPiece wexternals (length wires) party;
+        results = λ party. nthPiece results (length outputs) party;
         plain = figures;
       }
 
@@ -59,14 +59,14 @@ module _ (file : List ℕ) (n K : ℕ) where
     pub counted : raised ≡ meter + rowsIn wires
     -- "At every seat and on every wire, the key opened for each seat is that seat's zero key plus (value plus mask) times its offset"
     pub keys : (party w each : ℕ) → party < n → w < length wires → each < n
-        → nth (nth (nth wkeys (length wires * (n * K)) party) (n * K) w) K each
-        ≡ keyV (modulusAt wires w) (zeroKey wires (drawn 1 K wires (nth contributions (contributionSize K wires) each)) w)
+        → nthPiece (nthPiece (nthPiece wkeys (length wires * (n * K)) party) (n * K) w) K each
+        ≡ keyV (modulusAt wires w) (zeroKey wires (drawn 1 K wires (nthPiece contributions (contributionSize K wires) each)) w)
         (add (modulusAt wires w) (getD (plainValues file wires values) w 0) (mask wires (drawn n K wires contributions) w))
-        (drawn 1 K wires (nth contributions (contributionSize K wires) each) .offset (modulusAt wires w))
+        (drawn 1 K wires (nthPiece contributions (contributionSize K wires) each) .offset (modulusAt wires w))
     -- "the external byte is value plus mask modulo that prime"
     pub externals : (party w : ℕ) → party < n → w < length wires
-        → getD (nth wexternals (length wires) party) w 0
+        → getD (nthPiece wexternals (length wires) party) w 0
         ≡ add (modulusAt wires w) (getD (plainValues file wires values) w 0) (mask wires (drawn n K wires contributions) w)
     -- "each seat's decoded outputs, and plain evaluation's, are byte for byte the plain circuit's"
-    pub decoded : (party : ℕ) → party < n → nth results (length outputs) party ≡ plainOutputs file wires outputs values
+    pub decoded : (party : ℕ) → party < n → nthPiece results (length outputs) party ≡ plainOutputs file wires outputs values
     pub plainDecoded : figures ≡ plainOutputs file wires outputs values

@@ -4,7 +4,7 @@
 use mathlib.Core.Path.{_≡_}
 use mathlib.Core.List.{List}
 use Prim.Native.Nat.{ℕ}
-use Rattle.lists.specs.Blocks.{nth}
+use Rattle.lists.specs.Blocks.{nthPiece}
 use Rattle.checks.specs.declared.Answer.{Answer}
 use Rattle.checks.specs.Checked.{Meets, andThen}
 use Rattle.words.specs.declared.gate.Wire.{Wire}
@@ -29,19 +29,19 @@ pub record Prepared (file : List ℕ) (wires : List Wire) (n K : ℕ) (contribut
 -- at each party its input keys, and all of them by input, then party
 pub record Keyed (file : List ℕ) (n K : ℕ) (contributions : List ℕ) (size : ℕ) (externals : List ℕ) (inputs each : ℕ) (mine₀ : List ℕ) (answer : Answer)
     (mine keys : List ℕ) : Type 0 where
-  pub met : Meets (allOf n (λ party. inputKeysChecked file n K party (nth contributions size party) externals (nth mine₀ each party))) answer
-  pub own : Parts n each (λ party. inputKeysAfter file n K party (nth contributions size party) externals (nth mine₀ each party)) mine
+  pub met : Meets (allOf n (λ party. inputKeysChecked file n K party (nthPiece contributions size party) externals (nthPiece mine₀ each party))) answer
+  pub own : Parts n each (λ party. inputKeysAfter file n K party (nthPiece contributions size party) externals (nthPiece mine₀ each party)) mine
   pub keysIs : keys ≡ keysByInput n K inputs each mine
 
 -- at each party opening, then decoding
 pub record Finished (file : List ℕ) (n K : ℕ) (contributions : List ℕ) (size : ℕ) (externals keys rows masks : List ℕ) (wide long each : ℕ)
     (wkeys₀ wexternals₀ results₀ : List ℕ) (answer : Answer) (wkeys wexternals results : List ℕ) : Type 0 where
   pub met : Meets (andThen
-      (allOf n (λ party. openChecked shakePad file n K party (nth contributions size party) externals keys rows (nth wkeys₀ wide party) (nth wexternals₀ long party)))
-      (allOf n (λ party. decodeChecked file (nth wexternals long party) masks (nth results₀ each party)))) answer
+      (allOf n (λ party. openChecked shakePad file n K party (nthPiece contributions size party) externals keys rows (nthPiece wkeys₀ wide party) (nthPiece wexternals₀ long party)))
+      (allOf n (λ party. decodeChecked file (nthPiece wexternals long party) masks (nthPiece results₀ each party)))) answer
   pub keysAre : Parts n wide
-      (λ party. openKeys shakePad file n K party (nth contributions size party) externals keys rows (nth wkeys₀ wide party) (nth wexternals₀ long party)) wkeys
+      (λ party. openKeys shakePad file n K party (nthPiece contributions size party) externals keys rows (nthPiece wkeys₀ wide party) (nthPiece wexternals₀ long party)) wkeys
   pub externalsAre : Parts n long
-      (λ party. openExternals shakePad file n K party (nth contributions size party) externals keys rows (nth wkeys₀ wide party) (nth wexternals₀ long party))
+      (λ party. openExternals shakePad file n K party (nthPiece contributions size party) externals keys rows (nthPiece wkeys₀ wide party) (nthPiece wexternals₀ long party))
       wexternals
-  pub resultsAre : Parts n each (λ party. decodeAfter file (nth wexternals long party) masks (nth results₀ each party)) results
+  pub resultsAre : Parts n each (λ party. decodeAfter file (nthPiece wexternals long party) masks (nthPiece results₀ each party)) results

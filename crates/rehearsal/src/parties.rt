@@ -2,7 +2,7 @@
 ghost use mathlib.Core.Path.{_≡_};
 ghost use Prim.Native.Nat.{_*_};
 ghost use lib.ListN.{length};
-ghost use Rattle.lists.specs.Blocks.{nth};
+ghost use Rattle.lists.specs.Blocks.{nthPiece};
 ghost use Rattle.checks.specs.Checked.{Meets};
 ghost use Rattle.pads.specs.Pad.{shakePad};
 ghost use Rattle.round.specs.InputKeys.{inputKeysChecked, inputKeysAfter};
@@ -28,8 +28,8 @@ pub fn keys_of_all(
     mine: &mut [u8],
 ) -> Answer
     requires { ⌜ (length (now contributions) ≡ n * size) × (length (now mine) ≡ n * each) ⌝ }
-    ensures { λ r. ⌜ Meets (allOf n (λ party. inputKeysChecked (now (file .entry)) n k party (nth (now (contributions .entry)) size party) (now (externals .entry)) (nth (now (mine .entry)) each party))) r
-        × Parts n each (λ party. inputKeysAfter (now (file .entry)) n k party (nth (now (contributions .entry)) size party) (now (externals .entry)) (nth (now (mine .entry)) each party)) (now (mine .exit)) ⌝ }
+    ensures { λ r. ⌜ Meets (allOf n (λ party. inputKeysChecked (now (file .entry)) n k party (nthPiece (now (contributions .entry)) size party) (now (externals .entry)) (nthPiece (now (mine .entry)) each party))) r
+        × Parts n each (λ party. inputKeysAfter (now (file .entry)) n k party (nthPiece (now (contributions .entry)) size party) (now (externals .entry)) (nthPiece (now (mine .entry)) each party)) (now (mine .exit)) ⌝ }
 {
     let mut answer = Answer::Accepted;
     let mut from = 0;
@@ -72,9 +72,9 @@ pub fn open_all(
     wexternals: &mut [u8],
 ) -> Answer
     requires { ⌜ (length (now contributions) ≡ n * size) × ((length (now wkeys) ≡ n * wide) × (length (now wexternals) ≡ n * long)) ⌝ }
-    ensures { λ r. ⌜ Meets (allOf n (λ party. openChecked shakePad (now (file .entry)) n k party (nth (now (contributions .entry)) size party) (now (externals .entry)) (now (keys .entry)) (now (rows .entry)) (nth (now (wkeys .entry)) wide party) (nth (now (wexternals .entry)) long party))) r
-        × (Parts n wide (λ party. openKeys shakePad (now (file .entry)) n k party (nth (now (contributions .entry)) size party) (now (externals .entry)) (now (keys .entry)) (now (rows .entry)) (nth (now (wkeys .entry)) wide party) (nth (now (wexternals .entry)) long party)) (now (wkeys .exit))
-        × Parts n long (λ party. openExternals shakePad (now (file .entry)) n k party (nth (now (contributions .entry)) size party) (now (externals .entry)) (now (keys .entry)) (now (rows .entry)) (nth (now (wkeys .entry)) wide party) (nth (now (wexternals .entry)) long party)) (now (wexternals .exit))) ⌝ }
+    ensures { λ r. ⌜ Meets (allOf n (λ party. openChecked shakePad (now (file .entry)) n k party (nthPiece (now (contributions .entry)) size party) (now (externals .entry)) (now (keys .entry)) (now (rows .entry)) (nthPiece (now (wkeys .entry)) wide party) (nthPiece (now (wexternals .entry)) long party))) r
+        × (Parts n wide (λ party. openKeys shakePad (now (file .entry)) n k party (nthPiece (now (contributions .entry)) size party) (now (externals .entry)) (now (keys .entry)) (now (rows .entry)) (nthPiece (now (wkeys .entry)) wide party) (nthPiece (now (wexternals .entry)) long party)) (now (wkeys .exit))
+        × Parts n long (λ party. openExternals shakePad (now (file .entry)) n k party (nthPiece (now (contributions .entry)) size party) (now (externals .entry)) (now (keys .entry)) (now (rows .entry)) (nthPiece (now (wkeys .entry)) wide party) (nthPiece (now (wexternals .entry)) long party)) (now (wexternals .exit))) ⌝ }
 {
     let mut answer = Answer::Accepted;
     let mut from = 0;
@@ -119,8 +119,8 @@ pub fn decode_all(
     results: &mut [u8],
 ) -> Answer
     requires { ⌜ (length (now externals) ≡ n * long) × (length (now results) ≡ n * each) ⌝ }
-    ensures { λ r. ⌜ Meets (allOf n (λ party. decodeChecked (now (file .entry)) (nth (now (externals .entry)) long party) (now (masks .entry)) (nth (now (results .entry)) each party))) r
-        × Parts n each (λ party. decodeAfter (now (file .entry)) (nth (now (externals .entry)) long party) (now (masks .entry)) (nth (now (results .entry)) each party)) (now (results .exit)) ⌝ }
+    ensures { λ r. ⌜ Meets (allOf n (λ party. decodeChecked (now (file .entry)) (nthPiece (now (externals .entry)) long party) (now (masks .entry)) (nthPiece (now (results .entry)) each party))) r
+        × Parts n each (λ party. decodeAfter (now (file .entry)) (nthPiece (now (externals .entry)) long party) (now (masks .entry)) (nthPiece (now (results .entry)) each party)) (now (results .exit)) ⌝ }
 {
     let mut answer = Answer::Accepted;
     let mut from = 0;

@@ -8,7 +8,7 @@ use native.Mathlib.Nat.{not-suc-le-zero, eq-or-lt-of-le, le-refl}
 use native.Mathlib.Omega.{arith}
 use lib.ListN.{length, getD, set, length-set}
 use lib.Seq.{getD-set-same, getD-set-other, ext-getD}
-use Rattle.residue.specs.Vector.{zip}
+use Rattle.residue.specs.Vector.{zipWith}
 use Rattle.residue.proofs.Vectors.{zip-at}
 
 pub record Turned (target start : List ℕ) (i : ℕ) (out : List ℕ) : Type 0 where
@@ -36,8 +36,8 @@ turned-all {target} {start} {out} {i} t s h =
     ext-getD 0 out target (t .size ∙ sym s) (λ k l. t .past k (omega (arith, t .size)))
 
 -- one turn of a loop that applies f to each entry and to the one beside it in ys
-pub zip-turn : (f : ℕ → ℕ → ℕ) (ys : List ℕ) {xs out : List ℕ} {i r : ℕ} → Turned (zip f xs ys) xs i out → length xs ≡ length ys → i < length ys
-    → r ≡ f (getD out i 0) (getD ys i 0) → Turned (zip f xs ys) xs (i + 1) (set out i r)
+pub zip-turn : (f : ℕ → ℕ → ℕ) (ys : List ℕ) {xs out : List ℕ} {i r : ℕ} → Turned (zipWith f xs ys) xs i out → length xs ≡ length ys → i < length ys
+    → r ≡ f (getD out i 0) (getD ys i 0) → Turned (zipWith f xs ys) xs (i + 1) (set out i r)
 zip-turn f ys {xs} {out} {i} {r} t s h e =
     turned-more t (omega arith) r
     (e ∙ ap (λ (x : ℕ). f x (getD ys i 0)) (t .ahead i (le-refl i)) ∙ sym (zip-at f xs ys s i (omega arith)))

@@ -8,30 +8,30 @@ use native.Mathlib.Omega.{arith}
 use lib.ListN.{length, getD, take, drop, length-take, length-drop}
 use lib.Seq.{getD-take, getD-drop}
 use Rattle.residue.specs.Residue.{add, sub, mul}
-use Rattle.residue.specs.Vector.{zip, addV, subV, mulV, keyV, AllBelow}
+use Rattle.residue.specs.Vector.{zipWith, addV, subV, mulV, keyV, AllBelow}
 use Rattle.residue.proofs.Vectors.{mulV-length}
 
-zip-nil : (f : ℕ → ℕ → ℕ) (xs : List ℕ) → zip f xs [] ≡ []
-unfolding zip
+zip-nil : (f : ℕ → ℕ → ℕ) (xs : List ℕ) → zipWith f xs [] ≡ []
+unfolding zipWith
 zip-nil f [] = refl
 zip-nil f (x ∷ xs) = refl
 
-zip-take : (f : ℕ → ℕ → ℕ) (n : ℕ) (xs ys : List ℕ) → take n (zip f xs ys) ≡ zip f (take n xs) (take n ys)
-unfolding zip
+zip-take : (f : ℕ → ℕ → ℕ) (n : ℕ) (xs ys : List ℕ) → take n (zipWith f xs ys) ≡ zipWith f (take n xs) (take n ys)
+unfolding zipWith
 zip-take f zero xs ys = refl
 zip-take f (suc n) [] ys = refl
 zip-take f (suc n) (x ∷ xs) [] = refl
 zip-take f (suc n) (x ∷ xs) (y ∷ ys) = ap (λ (l : List ℕ). f x y ∷ l) (zip-take f n xs ys)
 
-zip-drop : (f : ℕ → ℕ → ℕ) (n : ℕ) (xs ys : List ℕ) → drop n (zip f xs ys) ≡ zip f (drop n xs) (drop n ys)
-unfolding zip
+zip-drop : (f : ℕ → ℕ → ℕ) (n : ℕ) (xs ys : List ℕ) → drop n (zipWith f xs ys) ≡ zipWith f (drop n xs) (drop n ys)
+unfolding zipWith
 zip-drop f zero xs ys = refl
 zip-drop f (suc n) [] ys = refl
 zip-drop f (suc n) (x ∷ xs) [] = rw (zip-nil f (drop n xs))
 zip-drop f (suc n) (x ∷ xs) (y ∷ ys) = zip-drop f n xs ys
 
-zip-append : (f : ℕ → ℕ → ℕ) (xs ys xs′ ys′ : List ℕ) → length xs ≡ length ys → zip f (xs ++ xs′) (ys ++ ys′) ≡ zip f xs ys ++ zip f xs′ ys′
-unfolding zip
+zip-append : (f : ℕ → ℕ → ℕ) (xs ys xs′ ys′ : List ℕ) → length xs ≡ length ys → zipWith f (xs ++ xs′) (ys ++ ys′) ≡ zipWith f xs ys ++ zipWith f xs′ ys′
+unfolding zipWith
 zip-append f [] [] xs′ ys′ e = refl
 zip-append f [] (y ∷ ys) xs′ ys′ e = absurd (omega arith)
 zip-append f (x ∷ xs) [] xs′ ys′ e = absurd (omega arith)

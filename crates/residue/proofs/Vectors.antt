@@ -7,26 +7,26 @@ use native.Mathlib.Nat.{le-of-suc-le-suc, not-suc-le-zero, mod-lt, suc-inj, zero
 use native.Mathlib.Omega.{arith}
 use lib.ListN.{length, getD, length-map}
 use Rattle.residue.specs.Residue.{add, sub, mul}
-use Rattle.residue.specs.Vector.{zip, addV, subV, mulV, keyV, AllBelow}
+use Rattle.residue.specs.Vector.{zipWith, addV, subV, mulV, keyV, AllBelow}
 use Rattle.residue.proofs.Reduced.{add-multiple}
 
-zip-length : (f : ℕ → ℕ → ℕ) (xs ys : List ℕ) → length xs ≡ length ys → length (zip f xs ys) ≡ length xs
-unfolding zip
+zip-length : (f : ℕ → ℕ → ℕ) (xs ys : List ℕ) → length xs ≡ length ys → length (zipWith f xs ys) ≡ length xs
+unfolding zipWith
 zip-length f [] ys e = refl
 zip-length f (x ∷ xs) [] e = absurd (omega arith)
 zip-length f (x ∷ xs) (y ∷ ys) e = ap suc (zip-length f xs ys (suc-inj e))
 
 pub zip-at : (f : ℕ → ℕ → ℕ) (xs ys : List ℕ) → length xs ≡ length ys → (i : ℕ) → i < length xs
-    → getD (zip f xs ys) i 0 ≡ f (getD xs i 0) (getD ys i 0)
-unfolding zip
+    → getD (zipWith f xs ys) i 0 ≡ f (getD xs i 0) (getD ys i 0)
+unfolding zipWith
 zip-at f [] ys e i h = absurd (not-suc-le-zero h)
 zip-at f (x ∷ xs) [] e i h = absurd (omega arith)
 zip-at f (x ∷ xs) (y ∷ ys) e zero h = refl
 zip-at f (x ∷ xs) (y ∷ ys) e (suc i) h = zip-at f xs ys (suc-inj e) i (le-of-suc-le-suc h)
 
-zip-below : (f : ℕ → ℕ → ℕ) (p : ℕ) → ((a b : ℕ) → f a b < p) → (xs ys : List ℕ) (i : ℕ) → i < length (zip f xs ys)
-    → getD (zip f xs ys) i 0 < p
-unfolding zip
+zip-below : (f : ℕ → ℕ → ℕ) (p : ℕ) → ((a b : ℕ) → f a b < p) → (xs ys : List ℕ) (i : ℕ) → i < length (zipWith f xs ys)
+    → getD (zipWith f xs ys) i 0 < p
+unfolding zipWith
 zip-below f p t [] ys i h = absurd (not-suc-le-zero h)
 zip-below f p t (x ∷ xs) [] i h = absurd (not-suc-le-zero h)
 zip-below f p t (x ∷ xs) (y ∷ ys) zero h = t x y

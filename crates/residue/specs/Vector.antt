@@ -7,16 +7,16 @@ use lib.ListN.{length, getD}
 use Rattle.residue.specs.Residue.{add, sub, mul}
 
 -- the operation f on the entries of two lists, place by place, as far as the shorter goes
-unfoldable pub zip : (ℕ → ℕ → ℕ) → List ℕ → List ℕ → List ℕ
-zip f [] ys = []
-zip f (x ∷ xs) [] = []
-zip f (x ∷ xs) (y ∷ ys) = f x y ∷ zip f xs ys
+unfoldable pub zipWith : (ℕ → ℕ → ℕ) → List ℕ → List ℕ → List ℕ
+zipWith f [] ys = []
+zipWith f (x ∷ xs) [] = []
+zipWith f (x ∷ xs) (y ∷ ys) = f x y ∷ zipWith f xs ys
 
 unfoldable pub addV : ℕ → List ℕ → List ℕ → List ℕ
-addV p xs ys = zip (add p) xs ys
+addV p xs ys = zipWith (add p) xs ys
 
 unfoldable pub subV : ℕ → List ℕ → List ℕ → List ℕ
-subV p xs ys = zip (sub p) xs ys
+subV p xs ys = zipWith (sub p) xs ys
 
 unfoldable pub mulV : ℕ → ℕ → List ℕ → List ℕ
 mulV p c xs = map (mul p c) xs

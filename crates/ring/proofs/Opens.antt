@@ -10,7 +10,7 @@ use native.Mathlib.Omega.{arith}
 use borrow.Author.Tests.{lt-ltb}
 use lib.ListN.{length, getD, replicate, take}
 use lib.Seq.{length-take-le}
-use Rattle.lists.specs.Blocks.{blocks, nth}
+use Rattle.lists.specs.Blocks.{blocks, nthPiece}
 use Rattle.lists.specs.First.{first}
 use Rattle.lists.proofs.Blocks.{length-blocks-same, part-blocks-same}
 use Rattle.residue.specs.Vector.{keyV}
@@ -31,7 +31,7 @@ use Rattle.circuit.specs.declared.Reading.{Reading}
 use Rattle.circuit.specs.Wires.{wireAt, modulusAt, inputsIn}
 use Rattle.circuit.specs.File.{readFile, Holds}
 use Rattle.circuit.specs.Accepted.{AcceptedCircuit}
-use Rattle.counts.specs.Counts.{rowsIn, recordsOf, Counts}
+use Rattle.counts.specs.Counts.{rowsIn, recordKeysOf, Counts}
 use Rattle.pads.specs.Pad.{shakePad}
 use Rattle.search.specs.Search.{same}
 use Rattle.scheme.specs.Contribution.{contributionSize}
@@ -155,7 +155,7 @@ module _ {file : List ℕ} {circuit : Circuit} {n K party : ℕ} {contribution e
   inside : (w : ℕ) → w < circuit .inputs → w < length wires
   inside w l = omega (arith, inputs-made (g .held), made-is (g .held))
 
-  recorded : (w : ℕ) → w < circuit .inputs → recordsOf wires w ≡ 1
+  recorded : (w : ℕ) → w < circuit .inputs → recordKeysOf wires w ≡ 1
   recorded w l = one-key (wireAt wires w .gate) (g .accepted .inputsFirst w (inside w l) ∙ lt-ltb w (inputsIn wires) (omega (arith, count)))
 
   pub few-inputs : circuit .inputs ≤ 1024
@@ -203,14 +203,14 @@ module _ {file : List ℕ} {circuit : Circuit} {n K party : ℕ} {contribution e
   work-cut work e = length-take-le (circuit .inputs * K) work (omega (arith, own-room))
 
   pub wrong-is : {own : List ℕ} {r : ℕ} → own ≡ keysOf K (wiresIn circuit) contribution externals
-      → r ≡ first (circuit .inputs) (λ w. not (same (nth keys K (w * n + party)) (nth own K w)))
+      → r ≡ first (circuit .inputs) (λ w. not (same (nthPiece keys K (w * n + party)) (nthPiece own K w)))
       → r ≡ first (inputsIn (wiresIn circuit)) (otherKey n K (wiresIn circuit) contribution externals keys rows party)
   wrong-is {own} {r} e f =
       f
-      ∙ ap (λ (i : ℕ). first i (λ w. not (same (nth keys K (w * n + party)) (nth own K w)))) count
-      ∙ first-ext (inputsIn wires) (λ w. not (same (nth keys K (w * n + party)) (nth own K w))) (otherKey n K wires contribution externals keys rows party)
-      (λ w l. ap (λ (x : List ℕ). not (same (nth keys K (w * n + party)) x))
-      (ap (λ (x : List ℕ). nth x K w) e ∙ part-blocks-same (inputsIn wires) K keyOf own-length w l))
+      ∙ ap (λ (i : ℕ). first i (λ w. not (same (nthPiece keys K (w * n + party)) (nthPiece own K w)))) count
+      ∙ first-ext (inputsIn wires) (λ w. not (same (nthPiece keys K (w * n + party)) (nthPiece own K w))) (otherKey n K wires contribution externals keys rows party)
+      (λ w l. ap (λ (x : List ℕ). not (same (nthPiece keys K (w * n + party)) x))
+      (ap (λ (x : List ℕ). nthPiece x K w) e ∙ part-blocks-same (inputsIn wires) K keyOf own-length w l))
 
   -- ---- 20
 

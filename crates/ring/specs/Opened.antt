@@ -5,7 +5,7 @@ use mathlib.Core.Bool.{Bool, not}
 use mathlib.Core.List.{List, [], _∷_}
 use Prim.Native.Nat.{ℕ, _+_, _*_, _≤_, _<_}
 use lib.ListN.{length, getD}
-use Rattle.lists.specs.Blocks.{nth}
+use Rattle.lists.specs.Blocks.{nthPiece}
 use Rattle.checks.specs.declared.Refusal.the-variants.{WrongInputKey, NoMultiplier}
 use Rattle.checks.specs.Checked.{Checked, andThen, noneBad}
 use Rattle.words.specs.declared.gate.Wire.{Wire}
@@ -50,7 +50,7 @@ module _ (n K : ℕ) (wires : List Wire) (contribution externals keys rows : Lis
 
   -- 19
   abbrev pub otherKey : ℕ → ℕ → Bool
-  otherKey party w = not (same (nth keys K (w * n + party)) (inputKey wires (drawn 1 K wires contribution) externals w))
+  otherKey party w = not (same (nthPiece keys K (w * n + party)) (inputKey wires (drawn 1 K wires contribution) externals w))
 
   abbrev pub ownKeysChecked : ℕ → Checked
   ownKeysChecked party = noneBad (inputsIn wires) (otherKey party) WrongInputKey

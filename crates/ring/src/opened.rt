@@ -3,7 +3,7 @@ ghost use mathlib.Core.Path.{_≡_};
 ghost use mathlib.Core.Bool.{not};
 ghost use Prim.Native.Nat.{_+_, _*_, _≤_, _<_};
 ghost use lib.ListN.{length, replicate};
-ghost use Rattle.lists.specs.Blocks.{nth};
+ghost use Rattle.lists.specs.Blocks.{nthPiece};
 ghost use Rattle.lists.specs.First.{first};
 ghost use Rattle.search.specs.Search.{same};
 ghost use Rattle.checks.specs.Checked.{Meets, andThen, afterwards};
@@ -182,7 +182,7 @@ fn open_asked(
 // The lowest input on which the party's key is not its own of `own`; their number where there is none.
 fn first_other(n: usize, k: usize, party: usize, inputs: usize, keys: &[u8], own: &[u8]) -> usize
     requires { ⌜ Compared n k party inputs (now keys) (now own) ⌝ }
-    ensures { λ r. ⌜ r ≡ first inputs (λ w. not (same (nth (now (keys .entry)) k (w * n + party)) (nth (now (own .entry)) k w))) ⌝ }
+    ensures { λ r. ⌜ r ≡ first inputs (λ w. not (same (nthPiece (now (keys .entry)) k (w * n + party)) (nthPiece (now (own .entry)) k w))) ⌝ }
 {
     let mut w = 0;
     while w < inputs {

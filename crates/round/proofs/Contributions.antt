@@ -6,7 +6,7 @@ use mathlib.Core.List.{List, [], _∷_}
 use Prim.Native.Nat.{ℕ, zero, suc, _*_, _<_}
 use native.Mathlib.Omega.{arith}
 use lib.ListN.{length}
-use Rattle.lists.specs.Blocks.{blocks, part, nth}
+use Rattle.lists.specs.Blocks.{blocks, part, nthPiece}
 use Rattle.lists.proofs.Blocks.{length-blocks-same}
 use Rattle.residue.specs.Vector.{NotZero}
 use Rattle.checks.specs.declared.Refusal.the-variants.{ContributionTooLarge, ZeroOffset}
@@ -62,10 +62,10 @@ and-false false b e h = cc
 module _ (n K : ℕ) (wires : List Wire) (contributions : List ℕ) where
   -- party s's offset of modulus p, as it stands in the contributions
   abbrev offsetOf : ℕ → ℕ → List ℕ
-  offsetOf p s = part (nth contributions (contributionSize K wires) s) (offsetAt K wires p) K
+  offsetOf p s = part (nthPiece contributions (contributionSize K wires) s) (offsetAt K wires p) K
 
   pub offsets-not-zero : offsetsChecked n K wires contributions ≡ passed → (p s : ℕ) → p < 256 → used wires p ≡ true → s < n
-      → allZero (part (nth contributions (contributionSize K wires) s) (offsetAt K wires p) K) ≡ false
+      → allZero (part (nthPiece contributions (contributionSize K wires) s) (offsetAt K wires p) K) ≡ false
   unfolding offsetsChecked zeroOffset
   offsets-not-zero e p s h t l =
       someBelow-none n (λ s. allZero (offsetOf p s))
@@ -74,7 +74,7 @@ module _ (n K : ℕ) (wires : List Wire) (contributions : List ℕ) where
       s l
 
   pub offsets-passed : ((p s : ℕ) → p < 256 → used wires p ≡ true → s < n
-      → allZero (part (nth contributions (contributionSize K wires) s) (offsetAt K wires p) K) ≡ false)
+      → allZero (part (nthPiece contributions (contributionSize K wires) s) (offsetAt K wires p) K) ≡ false)
       → offsetsChecked n K wires contributions ≡ passed
   unfolding offsetsChecked zeroOffset
   offsets-passed fine =
@@ -87,25 +87,25 @@ module _ (n K : ℕ) (wires : List Wire) (contributions : List ℕ) where
 -- ---- what passes for all parties passes for party s alone, and its offsets are not zero
 
 module _ (n K : ℕ) (wires : List Wire) (contributions : List ℕ) (s : ℕ) (party : s < n) where
-  pub own-contribution-passed : Contributed n K wires contributions → contributionsChecked 1 K wires (nth contributions (contributionSize K wires) s) ≡ passed
+  pub own-contribution-passed : Contributed n K wires contributions → contributionsChecked 1 K wires (nthPiece contributions (contributionSize K wires) s) ≡ passed
   own-contribution-passed r =
-      contributions-passed 1 K wires (nth contributions (contributionSize K wires) s) (contributed-own r s party)
+      contributions-passed 1 K wires (nthPiece contributions (contributionSize K wires) s) (contributed-own r s party)
 
   module _ (long : length contributions ≡ n * contributionSize K wires) (fine : offsetsChecked n K wires contributions ≡ passed) where
-    pub own-offsets-passed : offsetsChecked 1 K wires (nth contributions (contributionSize K wires) s) ≡ passed
+    pub own-offsets-passed : offsetsChecked 1 K wires (nthPiece contributions (contributionSize K wires) s) ≡ passed
     own-offsets-passed =
-        offsets-passed 1 K wires (nth contributions (contributionSize K wires) s)
+        offsets-passed 1 K wires (nthPiece contributions (contributionSize K wires) s)
         (λ p t h u l. (
         let z : t ≡ 0 = omega arith in
         rw (
           z,
-          nth-whole (nth contributions (contributionSize K wires) s) (contributionSize K wires)
+          nth-whole (nthPiece contributions (contributionSize K wires) s) (contributionSize K wires)
               (length-nth n (contributionSize K wires) contributions long s party),
         )
         (offsets-not-zero n K wires contributions fine p s h u party)))
 
-    pub own-offset-not-zero : (p : ℕ) → used wires p ≡ true → p < 256 → NotZero (drawn 1 K wires (nth contributions (contributionSize K wires) s) .offset p)
+    pub own-offset-not-zero : (p : ℕ) → used wires p ≡ true → p < 256 → NotZero (drawn 1 K wires (nthPiece contributions (contributionSize K wires) s) .offset p)
     own-offset-not-zero p t h =
         rw (own-offset n K wires contributions long p t h s party, offset-nth n K wires contributions long p t h s party)
-        (not-zero (part (nth contributions (contributionSize K wires) s) (offsetAt K wires p) K)
+        (not-zero (part (nthPiece contributions (contributionSize K wires) s) (offsetAt K wires p) K)
         (offsets-not-zero n K wires contributions fine p s h t party))

@@ -12,7 +12,7 @@ use Rattle.lists.specs.First.{firstFrom, first}
 use Rattle.shake.specs.Numbers.{bytesOf}
 use Rattle.residue.specs.Prime.{remaindersBelow, isPrime}
 use Rattle.residue.specs.Residue.{add, mul}
-use Rattle.checks.specs.Checked.{unless, noneBad, refusedSome, noneBadSomewhere}
+use Rattle.checks.specs.Checked.{unless, noneBad, unlessFree, noneBadFree}
 use Rattle.checks.specs.Checked.Checked.{passed}
 use Rattle.words.specs.Reading.{check, afterEntry, readWord}
 use Rattle.circuit.specs.Wires.{modulusAt, inputsIn}
@@ -52,7 +52,7 @@ unfolding contributions contributionSize wires sumTo someBelow
 size = refl
 
 bytes : contributionsChecked 2 1 wires contributions ≡ passed
-unfolding contributionsChecked bytesChecked noneBadSomewhere refusedSome first firstFrom blocks contributions contributionModuli wires someBelow
+unfolding contributionsChecked bytesChecked noneBadFree unlessFree first firstFrom blocks contributions contributionModuli wires someBelow
 bytes = refl
 
 offsets : offsetsChecked 2 1 wires contributions ≡ passed

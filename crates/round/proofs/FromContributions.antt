@@ -5,7 +5,7 @@ use mathlib.Core.List.{List}
 use Prim.Native.Nat.{ℕ, _≤_, _<_}
 use native.Mathlib.Omega.{arith}
 use lib.ListN.{length}
-use Rattle.lists.specs.Blocks.{nth}
+use Rattle.lists.specs.Blocks.{nthPiece}
 use Rattle.residue.proofs.Moduli.{isPrime→Prime}
 use Rattle.checks.specs.Checked.Checked.{passed}
 use Rattle.words.specs.declared.gate.Wire.{Wire}
@@ -31,7 +31,7 @@ module _ {n K : ℕ} {file : List ℕ} {wires : List Wire} {outputs contribution
         mask-below n K wires contributions w j (omega (arith, isPrime→Prime (modulusAt wires w) (accepted .fits w h .prime) .two));
   }
 
-  pub ownPart : offsetsChecked n K wires contributions ≡ passed → (s : ℕ) → s < n → OwnPart n K s wires (drawn n K wires contributions) (drawn 1 K wires (nth contributions (contributionSize K wires) s))
+  pub ownPart : offsetsChecked n K wires contributions ≡ passed → (s : ℕ) → s < n → OwnPart n K s wires (drawn n K wires contributions) (drawn 1 K wires (nthPiece contributions (contributionSize K wires) s))
   ownPart fine s l = record {
     party = l;
     key = λ w h k. own-key n K wires contributions (r .size) w 0 h k s l;

@@ -15,7 +15,7 @@ use Rattle.circuit.specs.Wires.{wireAt, modulusAt, isInput, inputsIn}
 use Rattle.circuit.specs.Accepted.{AcceptedCircuit}
 use Rattle.circuit.proofs.More.{inputs-le}
 use Rattle.counts.specs.Recipe.{gateRecipe}
-use Rattle.counts.specs.Counts.{ownedBy, recordsOf}
+use Rattle.counts.specs.Counts.{ownedBy, recordKeysOf}
 use Rattle.scheme.specs.Draw.{Draw}
 use Rattle.scheme.specs.Zero.{zeroKeyBy, zeroKey}
 use Rattle.round.specs.Round.{ownerOf, ownerAt}
@@ -39,7 +39,7 @@ module _ {file : List ℕ} {wires : List Wire} {outputs : List ℕ} (circuit : A
   pub input-owned : ownedBy (ownerAt wires w) (wireAt wires w .gate) ≡ true
   input-owned = ap (λ (g : Gate). ownedBy (ownerOf g) g) (gate .1) ∙ eq-eqb (gate .0 .owner) (gate .0 .owner) refl
 
-  pub input-recorded : 0 < recordsOf wires w
+  pub input-recorded : 0 < recordKeysOf wires w
   input-recorded = rw (gate .1) (omega arith)
 
   pub input-zeroKey : (draw : Draw) → zeroKey wires draw w ≡ draw .key w 0

@@ -6,7 +6,7 @@ use mathlib.Core.List.{List}
 use Prim.Native.Nat.{ℕ, _+_, _*_, _<_}
 use native.Mathlib.Omega.{arith}
 use lib.ListN.{length, getD}
-use Rattle.lists.specs.Blocks.{blocks, part, nth}
+use Rattle.lists.specs.Blocks.{blocks, part, nthPiece}
 use Rattle.lists.proofs.Sums.{times-fits}
 use Rattle.lists.proofs.Parts.{part-of-part}
 use Rattle.lists.proofs.Blocks.{length-blocks-same, blocks-ext, part-blocks-same, blocks-nth}
@@ -79,27 +79,27 @@ module _ {pad : Pad} {file : List ℕ} {n K : ℕ} {contributions values : List 
       })
 
   -- a party's key is its part of all parties' keys
-  pub inputKey-is : (party w : ℕ) → party < n → w < inputsIn wires → inputKey wires (own party) inputs w ≡ nth (key w) K party
+  pub inputKey-is : (party w : ℕ) → party < n → w < inputsIn wires → inputKey wires (own party) inputs w ≡ nthPiece (key w) K party
   unfolding inputKey
   inputKey-is party w h l =
       let made = input-made (start .accepted) w l in
       ap₂ (λ (k D : List ℕ). keyV (modulusAt wires w) k (getD inputs w 0) D)
-      (own-part start party h .key w made (input-recorded (start .accepted) w l) ∙ ap (λ (k : List ℕ). nth k K party) (sym (input-zeroKey (start .accepted) w l draw)))
+      (own-part start party h .key w made (input-recorded (start .accepted) w l) ∙ ap (λ (k : List ℕ). nthPiece k K party) (sym (input-zeroKey (start .accepted) w l draw)))
       (own-part start party h .offset w made)
       ∙ sym (key-part (modulusAt wires w) K party (zeroKey wires draw w) (getD inputs w 0) (draw .offset (modulusAt wires w)))
 
   own-keys : (party : ℕ) → party < n
-      → ownKeys pad file n K contributions values meter lent party ≡ blocks (inputsIn wires) (λ w. nth (key w) K party)
+      → ownKeys pad file n K contributions values meter lent party ≡ blocks (inputsIn wires) (λ w. nthPiece (key w) K party)
   unfolding ownKeys inputKeysAfter inputKeys
   own-keys party h =
       afterwards-passed (has-keys party h) _ _
-      ∙ blocks-ext (inputsIn wires) _ (λ w. nth (key w) K party) (λ w l. inputKey-is party w h l)
+      ∙ blocks-ext (inputsIn wires) _ (λ w. nthPiece (key w) K party) (λ w l. inputKey-is party w h l)
 
   own-key : (party w : ℕ) → party < n → w < inputsIn wires
-      → nth (ownKeys pad file n K contributions values meter lent party) K w ≡ nth (key w) K party
+      → nthPiece (ownKeys pad file n K contributions values meter lent party) K w ≡ nthPiece (key w) K party
   own-key party w h l =
-      ap (λ (xs : List ℕ). nth xs K w) (own-keys party h)
-      ∙ part-blocks-same (inputsIn wires) K (λ v. nth (key v) K party) (λ v m. part-size n K party (key v) h (key-size v m)) w l
+      ap (λ (xs : List ℕ). nthPiece xs K w) (own-keys party h)
+      ∙ part-blocks-same (inputsIn wires) K (λ v. nthPiece (key v) K party) (λ v m. part-size n K party (key v) h (key-size v m)) w l
 
   -- ---- all parties' keys
 
@@ -107,13 +107,13 @@ module _ {pad : Pad} {file : List ℕ} {n K : ℕ} {contributions values : List 
   unfolding keys
   keys-are =
       blocks-ext (inputsIn wires) _ key
-      (λ w l. blocks-ext n _ (λ party. nth (key w) K party) (λ party h. own-key party w h l) ∙ blocks-nth n K (key w) (key-size w l))
+      (λ w l. blocks-ext n _ (λ party. nthPiece (key w) K party) (λ party h. own-key party w h l) ∙ blocks-nth n K (key w) (key-size w l))
 
   pub keys-size : length (keys pad file n K contributions values meter lent) ≡ inputsIn wires * (n * K)
   keys-size = ap length keys-are ∙ length-blocks-same (inputsIn wires) (n * K) key key-size
 
-  pub keys-at : (w : ℕ) → w < inputsIn wires → nth (keys pad file n K contributions values meter lent) (n * K) w ≡ key w
-  keys-at w h = ap (λ (xs : List ℕ). nth xs (n * K) w) keys-are ∙ part-blocks-same (inputsIn wires) (n * K) key key-size w h
+  pub keys-at : (w : ℕ) → w < inputsIn wires → nthPiece (keys pad file n K contributions values meter lent) (n * K) w ≡ key w
+  keys-at w h = ap (λ (xs : List ℕ). nthPiece xs (n * K) w) keys-are ∙ part-blocks-same (inputsIn wires) (n * K) key key-size w h
 
   pub keys-pass : keysChecked n K wires (keys pad file n K contributions values meter lent) ≡ passed
   keys-pass =
@@ -122,11 +122,11 @@ module _ {pad : Pad} {file : List ℕ} {n K : ℕ} {contributions values : List 
 
   -- a party's own key among all of them
   pub key-among : (party w : ℕ) → party < n → w < inputsIn wires
-      → nth (keys pad file n K contributions values meter lent) K (w * n + party) ≡ inputKey wires (own party) inputs w
+      → nthPiece (keys pad file n K contributions values meter lent) K (w * n + party) ≡ inputKey wires (own party) inputs w
   key-among party w h l =
       let all = keys pad file n K contributions values meter lent in
       let place : (w * n + party) * K ≡ w * (n * K) + party * K = omega arith in
       ap (λ (at : ℕ). part all at K) place
       ∙ sym (part-of-part all (w * (n * K)) (n * K) (party * K) K (times-fits party n K h))
-      ∙ ap (λ (xs : List ℕ). nth xs K party) (keys-at w l)
+      ∙ ap (λ (xs : List ℕ). nthPiece xs K party) (keys-at w l)
       ∙ sym (inputKey-is party w h l)

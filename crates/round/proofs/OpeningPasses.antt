@@ -5,7 +5,7 @@ use mathlib.Core.Bool.{not}
 use mathlib.Core.List.{List}
 use Prim.Native.Nat.{ℕ, _+_, _*_, _<_}
 use lib.ListN.{length, getD}
-use Rattle.lists.specs.Blocks.{nth}
+use Rattle.lists.specs.Blocks.{nthPiece}
 use Rattle.checks.specs.declared.Refusal.the-variants.{WrongInputKey}
 use Rattle.checks.specs.declared.Answer.the-variants.{Accepted}
 use Rattle.checks.specs.Checked.Checked.{passed}
@@ -44,7 +44,7 @@ pub record OpeningFits (file : List ℕ) (n K party : ℕ) (contribution externa
   pub keysBelow : keysChecked n K (readFile file .wires) keys ≡ passed
   pub rowsBelow : rowsChecked n K (readFile file .wires) rows ≡ passed
   pub ownKey : (w : ℕ) → w < inputsIn (readFile file .wires)
-      → nth keys K (w * n + party) ≡ inputKey (readFile file .wires) (drawn 1 K (readFile file .wires) contribution) externals w
+      → nthPiece keys K (w * n + party) ≡ inputKey (readFile file .wires) (drawn 1 K (readFile file .wires) contribution) externals w
 
 pub opening-passed : (pad : Pad) {file : List ℕ} {n K party : ℕ} {contribution externals keys rows wkeys wexternals : List ℕ}
     → OpeningFits file n K party contribution externals keys rows wkeys wexternals

@@ -8,7 +8,7 @@ use Prim.Native.Nat.{ℕ, _*_, _<_}
 use native.Mathlib.Nat.{mul-comm}
 use native.Mathlib.Omega.{arith}
 use lib.ListN.{length, getD}
-use Rattle.lists.specs.Blocks.{blocks, nth}
+use Rattle.lists.specs.Blocks.{blocks, nthPiece}
 use Rattle.lists.proofs.Sums.{sumTo-ext, sumTo-times}
 use Rattle.lists.proofs.Blocks.{length-blocks}
 use Rattle.residue.specs.Residue.{add}
@@ -191,19 +191,19 @@ module _ {pad : Pad} {file : List ℕ} {n K : ℕ} {contributions values : List 
         (rightly w made .size ∙ sym (start .drew .well .offsetSize w made))
         ∙ rightly w made .size
 
-    opened-keys : (w : ℕ) → w < length wires → nth (wireKeys pad file n K contributions values meter lent party) (n * K) w ≡ key w
+    opened-keys : (w : ℕ) → w < length wires → nthPiece (wireKeys pad file n K contributions values meter lent party) (n * K) w ≡ key w
     opened-keys w made =
-        ap (λ (l : List ℕ). nth l (n * K) w) keys-are
+        ap (λ (l : List ℕ). nthPiece l (n * K) w) keys-are
         ∙ keys-of pad n K party wires (own party) inputs inputKeys garbled key-size w made
         ∙ rightly w made .keys
 
     -- the key opened for each party is made of what that party drew
     pub opened-key : (w each : ℕ) → w < length wires → each < n
-        → nth (nth (wireKeys pad file n K contributions values meter lent party) (n * K) w) K each
+        → nthPiece (nthPiece (wireKeys pad file n K contributions values meter lent party) (n * K) w) K each
         ≡ keyV (modulusAt wires w) (zeroKey wires (own each) w) (add (modulusAt wires w) (value w) (mask wires draw w))
         (own each .offset (modulusAt wires w))
     opened-key w each made l =
-        ap (λ (xs : List ℕ). nth xs K each) (opened-keys w made)
+        ap (λ (xs : List ℕ). nthPiece xs K each) (opened-keys w made)
         ∙ key-part (modulusAt wires w) K each (zeroKey wires draw w) _ (draw .offset (modulusAt wires w))
         ∙ ap₂ (λ (k D : List ℕ). keyV (modulusAt wires w) k (add (modulusAt wires w) (value w) (mask wires draw w)) D)
         (zeroKey-part (start .accepted) (own-part start each l) w made)

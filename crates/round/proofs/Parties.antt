@@ -5,7 +5,7 @@ use mathlib.Core.List.{List}
 use Prim.Native.Nat.{ℕ, _*_, _<_}
 use native.Mathlib.Omega.{arith}
 use lib.ListN.{length, take}
-use Rattle.lists.specs.Blocks.{part, nth}
+use Rattle.lists.specs.Blocks.{part, nthPiece}
 use Rattle.residue.specs.Vector.{addV, mulV}
 use Rattle.residue.proofs.Parts.{addV-take, addV-drop, mulV-take, mulV-drop}
 use Rattle.words.specs.declared.gate.Gate.{Gate}
@@ -14,29 +14,29 @@ use Rattle.circuit.specs.Wires.{wireAt, modulusAt}
 use Rattle.circuit.specs.Accepted.{GateFits, AcceptedCircuit}
 use Rattle.circuit.specs.Accepted.GateFits.{input, add, scale, multiply, project, select}
 use Rattle.counts.specs.Recipe.{gateRecipe}
-use Rattle.counts.specs.Counts.{recordsBy}
+use Rattle.counts.specs.Counts.{recordKeysBy}
 use Rattle.scheme.specs.Draw.{Draw}
 use Rattle.scheme.specs.Zero.{freelyV, zeroKeyBy, zeroKey}
 use Rattle.scheme.specs.Drawn.{OwnPart}
 use Rattle.scheme.proofs.Steps.{by-lower, zeroKey-step}
 
-sum-part : (p K s : ℕ) (xs ys : List ℕ) → nth (addV p xs ys) K s ≡ addV p (nth xs K s) (nth ys K s)
+sum-part : (p K s : ℕ) (xs ys : List ℕ) → nthPiece (addV p xs ys) K s ≡ addV p (nthPiece xs K s) (nthPiece ys K s)
 unfolding part
 sum-part p K s xs ys = ap (take K) (addV-drop p (s * K) xs ys) ∙ addV-take p K _ _
 
-multiple-part : (p K s c : ℕ) (xs : List ℕ) → nth (mulV p c xs) K s ≡ mulV p c (nth xs K s)
+multiple-part : (p K s c : ℕ) (xs : List ℕ) → nthPiece (mulV p c xs) K s ≡ mulV p c (nthPiece xs K s)
 unfolding part
 multiple-part p K s c xs = ap (take K) (mulV-drop p (s * K) c xs) ∙ mulV-take p K c _
 
 module _ {file : List ℕ} {wires : List Wire} {outputs : List ℕ} (accepted : AcceptedCircuit file wires outputs) {n K s : ℕ} {draw own : Draw}
     (party : OwnPart n K s wires draw own) where
   -- what a gate with a record drew
-  recorded : (w : ℕ) {gate : Gate} → w < length wires → wireAt wires w .gate ≡ gate → 0 < recordsBy (gateRecipe gate) → nth (draw .key w 0) K s ≡ own .key w 0
+  recorded : (w : ℕ) {gate : Gate} → w < length wires → wireAt wires w .gate ≡ gate → 0 < recordKeysBy (gateRecipe gate) → nthPiece (draw .key w 0) K s ≡ own .key w 0
   recorded w made is h = sym (party .key w made (rw is h))
 
   step : (w p : ℕ) {gate : Gate} → w < length wires → GateFits file wires w gate → wireAt wires w .gate ≡ gate
-      → ((a : ℕ) → a < w → nth (zeroKey wires draw a) K s ≡ zeroKey wires own a)
-      → nth (zeroKeyBy draw w p gate (gateRecipe gate) (zeroKey wires draw)) K s ≡ zeroKeyBy own w p gate (gateRecipe gate) (zeroKey wires own)
+      → ((a : ℕ) → a < w → nthPiece (zeroKey wires draw a) K s ≡ zeroKey wires own a)
+      → nthPiece (zeroKeyBy draw w p gate (gateRecipe gate) (zeroKey wires draw)) K s ≡ zeroKeyBy own w p gate (gateRecipe gate) (zeroKey wires own)
   unfolding zeroKeyBy freelyV
   step w p made (input fits) is lower = recorded w made is (omega arith)
   step w p made (add {gate} fits) is lower =
@@ -47,8 +47,8 @@ module _ {file : List ℕ} {wires : List Wire} {outputs : List ℕ} (accepted : 
   step w p made (select {gate} fits) is lower =
       sum-part p K s _ _ ∙ ap₂ (addV p) (recorded w made is (omega arith)) (lower (gate .a) (fits .a .lower))
 
-  pub zeroKey-part : (w : ℕ) → w < length wires → nth (zeroKey wires draw w) K s ≡ zeroKey wires own w
-  zeroKey-part = by-lower (λ w. w < length wires → nth (zeroKey wires draw w) K s ≡ zeroKey wires own w) (λ w lower made.
-      ap (λ (k : List ℕ). nth k K s) (zeroKey-step accepted w made draw)
+  pub zeroKey-part : (w : ℕ) → w < length wires → nthPiece (zeroKey wires draw w) K s ≡ zeroKey wires own w
+  zeroKey-part = by-lower (λ w. w < length wires → nthPiece (zeroKey wires draw w) K s ≡ zeroKey wires own w) (λ w lower made.
+      ap (λ (k : List ℕ). nthPiece k K s) (zeroKey-step accepted w made draw)
       ∙ step w (modulusAt wires w) made (accepted .fits w made .gate) refl (λ a l. lower a l (omega arith))
       ∙ sym (zeroKey-step accepted w made own))

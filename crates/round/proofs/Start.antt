@@ -5,7 +5,7 @@ use mathlib.Core.Path.{_≡_}
 use mathlib.Core.List.{List}
 use Prim.Native.Nat.{ℕ, _<_}
 use lib.ListN.{length, getD}
-use Rattle.lists.specs.Blocks.{nth}
+use Rattle.lists.specs.Blocks.{nthPiece}
 use Rattle.checks.specs.Checked.Checked.{passed}
 use Rattle.words.specs.declared.gate.Wire.{Wire}
 use Rattle.circuit.specs.Wires.{inputsIn}
@@ -26,11 +26,11 @@ use Rattle.round.specs.Claim.{Conditions}
 pub record Drew (n K : ℕ) (wires : List Wire) (contributions : List ℕ) : Type 0 where
   pub well : WellDrawn n K wires (drawn n K wires contributions)
   pub own : (party : ℕ) → party < n
-      → OwnPart n K party wires (drawn n K wires contributions) (drawn 1 K wires (nth contributions (contributionSize K wires) party))
-  pub size : (party : ℕ) → party < n → length (nth contributions (contributionSize K wires) party) ≡ contributionSize K wires
+      → OwnPart n K party wires (drawn n K wires contributions) (drawn 1 K wires (nthPiece contributions (contributionSize K wires) party))
+  pub size : (party : ℕ) → party < n → length (nthPiece contributions (contributionSize K wires) party) ≡ contributionSize K wires
   pub all : Contributed n K wires contributions
-  pub alone : (party : ℕ) → party < n → Contributed 1 K wires (nth contributions (contributionSize K wires) party)
-  pub offsets : (party : ℕ) → party < n → offsetsChecked 1 K wires (nth contributions (contributionSize K wires) party) ≡ passed
+  pub alone : (party : ℕ) → party < n → Contributed 1 K wires (nthPiece contributions (contributionSize K wires) party)
+  pub offsets : (party : ℕ) → party < n → offsetsChecked 1 K wires (nthPiece contributions (contributionSize K wires) party) ≡ passed
 
 -- a party's own inputs are inputs, and an input stands at its place among its owner's
 pub record Gathers (wires : List Wire) : Type 0 where

@@ -4,7 +4,7 @@ use mathlib.Core.Path.{_≡_, _∙_}
 use mathlib.Core.List.{List}
 use Prim.Native.Nat.{ℕ, _*_, _<_}
 use lib.ListN.{length, getD, length-map, List·getD-map}
-use Rattle.lists.specs.Blocks.{nth}
+use Rattle.lists.specs.Blocks.{nthPiece}
 use Rattle.lists.proofs.Blocks.{part-blocks-same}
 use Rattle.lists.proofs.Grown.{length-grown}
 use Rattle.words.specs.declared.gate.Wire.{Wire}
@@ -17,7 +17,7 @@ module _ (pad : Pad) (n K s : ℕ) (wires : List Wire) (own : Draw) (inputs keys
   wire w = getD (opened pad n K s wires own inputs keys rows) w nothing
 
   pub keys-of : ((w : ℕ) → w < length wires → length (wire w .keys) ≡ n * K) → (w : ℕ) → w < length wires
-      → nth (wireKeys pad n K s wires own inputs keys rows) (n * K) w ≡ wire w .keys
+      → nthPiece (wireKeys pad n K s wires own inputs keys rows) (n * K) w ≡ wire w .keys
   unfolding wireKeys
   keys-of size w h = part-blocks-same (length wires) (n * K) (λ v. wire v .keys) size w h
 

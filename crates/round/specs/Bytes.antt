@@ -5,10 +5,10 @@ use mathlib.Core.List.{List, [], _∷_}
 use Prim.Native.Nat.{ℕ, _+_, _*_}
 use lib.Dec.{eqb}
 use lib.ListN.{length, getD}
-use Rattle.lists.specs.Blocks.{blocks, runs, part, nth}
+use Rattle.lists.specs.Blocks.{blocks, runs, part, nthPiece}
 use Rattle.checks.specs.declared.Refusal.{Refusal}
 use Rattle.checks.specs.declared.Refusal.the-variants.{ContributionTooLarge, ZeroOffset, KeyOrRowTooLarge}
-use Rattle.checks.specs.Checked.{Checked, noneBad, noneBadSomewhere, andThen}
+use Rattle.checks.specs.Checked.{Checked, noneBad, noneBadFree, andThen}
 use Rattle.words.specs.declared.gate.Wire.{Wire}
 use Rattle.circuit.specs.Wires.{modulusAt, inputsIn}
 use Rattle.counts.specs.Counts.{rowsOf}
@@ -18,7 +18,7 @@ use Rattle.session.specs.Session.{tooLarge}
 
 -- each byte against its modulus; the place of a bad one is free
 unfoldable pub bytesChecked : List ℕ → List ℕ → Refusal → Checked
-bytesChecked xs moduli reason = noneBadSomewhere (length xs) (tooLarge xs (λ i. getD moduli i 0)) reason
+bytesChecked xs moduli reason = noneBadFree (length xs) (tooLarge xs (λ i. getD moduli i 0)) reason
 
 unfoldable pub allZero : List ℕ → Bool
 allZero [] = true
@@ -33,7 +33,7 @@ module _ (n K : ℕ) (wires : List Wire) where
   -- 17: no party's offset of a modulus in use is zero
   unfoldable pub zeroOffset : List ℕ → ℕ → Bool
   zeroOffset contributions p =
-      used wires p && someBelow n (λ party. allZero (part (nth contributions (contributionSize K wires) party) (offsetAt K wires p) K))
+      used wires p && someBelow n (λ party. allZero (part (nthPiece contributions (contributionSize K wires) party) (offsetAt K wires p) K))
 
   unfoldable pub offsetsChecked : List ℕ → Checked
   offsetsChecked contributions = noneBad 256 (zeroOffset contributions) ZeroOffset

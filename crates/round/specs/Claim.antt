@@ -5,7 +5,7 @@ use mathlib.Core.Path.{_≡_}
 use mathlib.Core.List.{List}
 use Prim.Native.Nat.{ℕ, _+_, _*_, _≤_, _<_}
 use lib.ListN.{length, getD}
-use Rattle.lists.specs.Blocks.{nth}
+use Rattle.lists.specs.Blocks.{nthPiece}
 use Rattle.residue.specs.Residue.{add}
 use Rattle.residue.specs.Vector.{keyV}
 use Rattle.checks.specs.declared.Answer.the-variants.{Accepted}
@@ -69,7 +69,7 @@ pub record Promise (pad : Pad) (file : List ℕ) (n K : ℕ) (contributions valu
   -- "At every seat and on every wire, the key opened for each seat is that seat's zero key plus (value plus mask) times its offset, modulo the
   -- wire's prime, the value being the plain circuit's"
   pub keys : (party w each : ℕ) → party < n → w < length (readFile file .wires) → each < n
-      → nth (nth (wireKeys pad file n K contributions values meter lent party) (n * K) w) K each
+      → nthPiece (nthPiece (wireKeys pad file n K contributions values meter lent party) (n * K) w) K each
       ≡ keyV (modulusAt (readFile file .wires) w)
       (zeroKey (readFile file .wires)
       (drawn 1 K (readFile file .wires) (contributionOf pad file n K contributions values meter lent each)) w)

@@ -5,7 +5,7 @@ use mathlib.Core.Bool.{Bool, true, false, not}
 use mathlib.Core.List.{List, [], _∷_}
 use Prim.Native.Nat.{ℕ, _+_, _*_}
 use lib.ListN.{length, getD, replicate}
-use Rattle.lists.specs.Blocks.{blocks, nth}
+use Rattle.lists.specs.Blocks.{blocks, nthPiece}
 use Rattle.checks.specs.declared.Refusal.the-variants.{WrongInputKey, NoMultiplier}
 use Rattle.checks.specs.Checked.{Checked, andThen, noneBad, afterwards}
 use Rattle.words.specs.declared.gate.Wire.{Wire}
@@ -30,7 +30,7 @@ module _ (pad : Pad) (file : List ℕ) (n K party : ℕ) (contribution externals
 
   -- 19: the party's own key on each input is zero key plus external value times offset
   unfoldable pub inputKeyWrong : ℕ → Bool
-  inputKeyWrong w = not (same (nth keys K (w * n + party)) (inputKey wires own externals w))
+  inputKeyWrong w = not (same (nthPiece keys K (w * n + party)) (inputKey wires own externals w))
 
   -- what is checked before any gate
   unfoldable pub beforeOpening : Checked

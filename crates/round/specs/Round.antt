@@ -5,7 +5,7 @@ use mathlib.Core.Bool.{Bool}
 use mathlib.Core.List.{List, map}
 use Prim.Native.Nat.{ℕ}
 use lib.ListN.{length, getD}
-use Rattle.lists.specs.Blocks.{blocks, tab, nth, sumTo}
+use Rattle.lists.specs.Blocks.{blocks, tab, nthPiece, sumTo}
 use Rattle.checks.specs.Checked.{Checked}
 use Rattle.words.specs.declared.gate.Gate.{Gate}
 use Rattle.words.specs.declared.gate.Gate.the-variants.{Input, Add, Scale, Multiply, Project, Select}
@@ -55,7 +55,7 @@ module _ (pad : Pad) (file : List ℕ) (n K : ℕ) (contributions values : List 
 
   -- party's contribution
   unfoldable pub contributionOf : ℕ → List ℕ
-  contributionOf party = nth contributions (contributionSize K wires) party
+  contributionOf party = nthPiece contributions (contributionSize K wires) party
 
   -- garbling, from all contributions
   unfoldable pub garbling : Checked
@@ -93,7 +93,7 @@ module _ (pad : Pad) (file : List ℕ) (n K : ℕ) (contributions values : List 
 
   -- all those keys: input, then party
   unfoldable pub keys : List ℕ
-  keys = blocks (inputsIn wires) (λ w. blocks n (λ party. nth (ownKeys party) K w))
+  keys = blocks (inputsIn wires) (λ w. blocks n (λ party. nthPiece (ownKeys party) K w))
 
   -- at each party, opening, from the same external values, all those keys and garbling's rows
   unfoldable pub opening : ℕ → Checked

@@ -21,7 +21,7 @@ use Rattle.circuit.specs.Wires.{wireAt, modulusAt, isInput, inputsIn}
 use Rattle.circuit.specs.Accepted.{GateFits, AcceptedCircuit}
 use Rattle.circuit.specs.Accepted.GateFits.{input, add, scale, multiply, project, select}
 use Rattle.counts.specs.Recipe.{gateRecipe, recipe}
-use Rattle.counts.specs.Counts.{recordsBy, recordsOf}
+use Rattle.counts.specs.Counts.{recordKeysBy, recordKeysOf}
 use Rattle.plain.specs.Plain.{chosenBy, plainBy, plainValues}
 use Rattle.scheme.specs.Draw.{Draw}
 use Rattle.scheme.specs.Zero.{freely, freelyV, zeroKeyBy, maskBy, zeroKey, mask}
@@ -44,11 +44,11 @@ module _ {file : List ℕ} {wires : List Wire} {outputs : List ℕ} (accepted : 
 
   module _ {n K : ℕ} {draw : Draw} (drawn : WellDrawn n K wires draw) where
     -- what a gate of known kind has drawn
-    pub key-size : {gate : Gate} (w j : ℕ) → w < length wires → wireAt wires w .gate ≡ gate → j < recordsBy (gateRecipe gate)
+    pub key-size : {gate : Gate} (w j : ℕ) → w < length wires → wireAt wires w .gate ≡ gate → j < recordKeysBy (gateRecipe gate)
         → length (draw .key w j) ≡ n * K
     key-size w j made is h = drawn .keySize w j made (rw is h)
 
-    pub mask-small : {gate : Gate} (w j : ℕ) → w < length wires → wireAt wires w .gate ≡ gate → j < recordsBy (gateRecipe gate)
+    pub mask-small : {gate : Gate} (w j : ℕ) → w < length wires → wireAt wires w .gate ≡ gate → j < recordKeysBy (gateRecipe gate)
         → draw .mask w j < modulusAt wires w
     mask-small w j made is h = drawn .maskBelow w j made (rw is h)
 

@@ -13,7 +13,7 @@ use Rattle.lists.proofs.Sums.{sumTo-times}
 use Rattle.lists.proofs.Blocks.{length-runs, getD-runs}
 use Rattle.words.specs.declared.gate.Wire.{Wire}
 use Rattle.circuit.specs.Wires.{modulusAt}
-use Rattle.counts.specs.Counts.{mark, recordsOf, recordsIn}
+use Rattle.counts.specs.Counts.{mark, recordKeysOf, recordKeysIn}
 use Rattle.counts.specs.Moduli.{used, usedBelow, moduliUsed}
 use Rattle.scheme.specs.Contribution.{offsetAt, recordAt, keyAt, shareAt, contributionSize, contributionModuli}
 use Rattle.scheme.proofs.Places.{offset-past, key-in-record, share-in-record}
@@ -24,14 +24,14 @@ module _ (K : ℕ) (wires : List Wire) where
   ofOffsets = runs 256 (λ p. K * mark (used wires p)) (λ p. p)
 
   abbrev ofRecords : List ℕ
-  ofRecords = runs (length wires) (λ w. (K + 1) * recordsOf wires w) (modulusAt wires)
+  ofRecords = runs (length wires) (λ w. (K + 1) * recordKeysOf wires w) (modulusAt wires)
 
   offsets-length : length ofOffsets ≡ K * moduliUsed wires
   offsets-length = length-runs 256 (λ p. K * mark (used wires p)) (λ p. p) ∙ sumTo-times 256 K (λ p. mark (used wires p))
 
-  records-length : length ofRecords ≡ (K + 1) * recordsIn wires
+  records-length : length ofRecords ≡ (K + 1) * recordKeysIn wires
   records-length =
-      length-runs (length wires) (λ w. (K + 1) * recordsOf wires w) (modulusAt wires) ∙ sumTo-times (length wires) (K + 1) (recordsOf wires)
+      length-runs (length wires) (λ w. (K + 1) * recordKeysOf wires w) (modulusAt wires) ∙ sumTo-times (length wires) (K + 1) (recordKeysOf wires)
 
   pub length-contributionModuli : length (contributionModuli K wires) ≡ contributionSize K wires
   unfolding contributionModuli contributionSize
@@ -48,25 +48,25 @@ module _ (K : ℕ) (wires : List Wire) where
 
   -- ---- records
 
-  pub record-modulus : (w i d : ℕ) → w < length wires → i < (K + 1) * recordsOf wires w → getD (contributionModuli K wires) (recordAt K wires w + i) d ≡ modulusAt wires w
+  pub record-modulus : (w i d : ℕ) → w < length wires → i < (K + 1) * recordKeysOf wires w → getD (contributionModuli K wires) (recordAt K wires w + i) d ≡ modulusAt wires w
   unfolding contributionModuli recordAt
   record-modulus w i d h l =
       ap (λ (at : ℕ). getD (ofOffsets ++ ofRecords) at d)
-      (add-assoc (K * moduliUsed wires) ((K + 1) * sumTo w (recordsOf wires)) i
-      ∙ ap (λ (at : ℕ). at + ((K + 1) * sumTo w (recordsOf wires) + i)) (sym offsets-length))
-      ∙ getD-append-add ofOffsets ofRecords ((K + 1) * sumTo w (recordsOf wires) + i) d
-      ∙ ap (λ (at : ℕ). getD ofRecords (at + i) d) (sym (sumTo-times w (K + 1) (recordsOf wires)))
-      ∙ getD-runs (length wires) (λ v. (K + 1) * recordsOf wires v) (modulusAt wires) w i d h l
+      (add-assoc (K * moduliUsed wires) ((K + 1) * sumTo w (recordKeysOf wires)) i
+      ∙ ap (λ (at : ℕ). at + ((K + 1) * sumTo w (recordKeysOf wires) + i)) (sym offsets-length))
+      ∙ getD-append-add ofOffsets ofRecords ((K + 1) * sumTo w (recordKeysOf wires) + i) d
+      ∙ ap (λ (at : ℕ). getD ofRecords (at + i) d) (sym (sumTo-times w (K + 1) (recordKeysOf wires)))
+      ∙ getD-runs (length wires) (λ v. (K + 1) * recordKeysOf wires v) (modulusAt wires) w i d h l
 
   -- a byte of key j, and share j
-  pub key-modulus : (w j i d : ℕ) → w < length wires → j < recordsOf wires w → i < K → getD (contributionModuli K wires) (keyAt K wires w j + i) d ≡ modulusAt wires w
+  pub key-modulus : (w j i d : ℕ) → w < length wires → j < recordKeysOf wires w → i < K → getD (contributionModuli K wires) (keyAt K wires w j + i) d ≡ modulusAt wires w
   unfolding keyAt
   key-modulus w j i d h k l =
       ap (λ (at : ℕ). getD (contributionModuli K wires) at d) (add-assoc (recordAt K wires w) (K * j) i)
       ∙ record-modulus w (K * j + i) d h (omega (arith, key-in-record K wires w j k))
 
-  pub share-modulus : (w j d : ℕ) → w < length wires → j < recordsOf wires w → getD (contributionModuli K wires) (shareAt K wires w j) d ≡ modulusAt wires w
+  pub share-modulus : (w j d : ℕ) → w < length wires → j < recordKeysOf wires w → getD (contributionModuli K wires) (shareAt K wires w j) d ≡ modulusAt wires w
   unfolding shareAt
   share-modulus w j d h k =
-      ap (λ (at : ℕ). getD (contributionModuli K wires) at d) (add-assoc (recordAt K wires w) (K * recordsOf wires w) j)
-      ∙ record-modulus w (K * recordsOf wires w + j) d h (omega (arith, share-in-record K wires w j k))
+      ap (λ (at : ℕ). getD (contributionModuli K wires) at d) (add-assoc (recordAt K wires w) (K * recordKeysOf wires w) j)
+      ∙ record-modulus w (K * recordKeysOf wires w + j) d h (omega (arith, share-in-record K wires w j k))

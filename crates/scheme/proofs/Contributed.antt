@@ -7,13 +7,13 @@ use Prim.Native.Nat.{ℕ, _+_, _*_, _<_}
 use native.Mathlib.Nat.{zero-mul, one-mul}
 use native.Mathlib.Omega.{arith}
 use lib.ListN.{length, getD}
-use Rattle.lists.specs.Blocks.{part, nth}
+use Rattle.lists.specs.Blocks.{part, nthPiece}
 use Rattle.lists.proofs.Parts.{length-part, part-whole}
 use Rattle.lists.proofs.Sums.{times-fits}
 use Rattle.residue.specs.Vector.{AllBelow}
 use Rattle.words.specs.declared.gate.Wire.{Wire}
 use Rattle.circuit.specs.Wires.{modulusAt}
-use Rattle.counts.specs.Counts.{recordsOf}
+use Rattle.counts.specs.Counts.{recordKeysOf}
 use Rattle.counts.specs.Moduli.{used}
 use Rattle.scheme.specs.Contribution.{offsetAt, keyAt, shareAt, contributionSize, contributionModuli}
 use Rattle.scheme.proofs.Places.{offset-fits, key-fits, share-fits}
@@ -23,13 +23,13 @@ use Rattle.scheme.proofs.EachBelow.{EachBelow, below-part}
 -- n contributions, one after another, each as long as it must be and with its bytes below their moduli
 pub record Contributed (n K : ℕ) (wires : List Wire) (contributions : List ℕ) : Type 0 where
   pub size : length contributions ≡ n * contributionSize K wires
-  pub party : (s : ℕ) → s < n → EachBelow (nth contributions (contributionSize K wires) s) (contributionModuli K wires)
+  pub party : (s : ℕ) → s < n → EachBelow (nthPiece contributions (contributionSize K wires) s) (contributionModuli K wires)
 
-pub length-nth : (n s : ℕ) (xs : List ℕ) → length xs ≡ n * s → (i : ℕ) → i < n → length (nth xs s i) ≡ s
+pub length-nth : (n s : ℕ) (xs : List ℕ) → length xs ≡ n * s → (i : ℕ) → i < n → length (nthPiece xs s i) ≡ s
 length-nth n s xs e i h = length-part xs (i * s) s (omega (arith, times-fits i n s h))
 
 -- a single part is the whole
-pub nth-whole : (xs : List ℕ) (s : ℕ) → length xs ≡ s → nth xs s 0 ≡ xs
+pub nth-whole : (xs : List ℕ) (s : ℕ) → length xs ≡ s → nthPiece xs s 0 ≡ xs
 nth-whole xs s e = ap (λ (at : ℕ). part xs at s) (zero-mul s) ∙ part-whole xs s (omega arith)
 
 -- ---- one party's contribution
@@ -41,22 +41,22 @@ module _ (K : ℕ) (wires : List Wire) (c : List ℕ) (u : EachBelow c (contribu
       below-part p c (offsetAt K wires p) K (omega arith)
       (λ i l. rw (offset-modulus K wires p i 0 t h l) at (u .entry (offsetAt K wires p + i) (omega arith)))
 
-  pub key-bytes : (w j : ℕ) → w < length wires → j < recordsOf wires w → AllBelow (modulusAt wires w) (part c (keyAt K wires w j) K)
+  pub key-bytes : (w j : ℕ) → w < length wires → j < recordKeysOf wires w → AllBelow (modulusAt wires w) (part c (keyAt K wires w j) K)
   key-bytes w j h k =
       let fits = key-fits K wires w j k h in
       below-part (modulusAt wires w) c (keyAt K wires w j) K (omega arith)
       (λ i l. rw (key-modulus K wires w j i 0 h k l) at (u .entry (keyAt K wires w j + i) (omega arith)))
 
-  pub share-byte : (w j : ℕ) → w < length wires → j < recordsOf wires w → getD c (shareAt K wires w j) 0 < modulusAt wires w
+  pub share-byte : (w j : ℕ) → w < length wires → j < recordKeysOf wires w → getD c (shareAt K wires w j) 0 < modulusAt wires w
   share-byte w j h k =
       let fits = share-fits K wires w j k h in
       rw (share-modulus K wires w j 0 h k) at (u .entry (shareAt K wires w j) (omega arith))
 
 -- a party's contribution is one by itself
 pub contributed-own : {n K : ℕ} {wires : List Wire} {contributions : List ℕ} → Contributed n K wires contributions → (s : ℕ) → s < n
-    → Contributed 1 K wires (nth contributions (contributionSize K wires) s)
+    → Contributed 1 K wires (nthPiece contributions (contributionSize K wires) s)
 contributed-own {n} {K} {wires} {contributions} r s h =
-    let c : List ℕ = nth contributions (contributionSize K wires) s in
+    let c : List ℕ = nthPiece contributions (contributionSize K wires) s in
     let long : length c ≡ contributionSize K wires = length-nth n (contributionSize K wires) contributions (r .size) s h in
     record {
       size = long ∙ sym (one-mul (contributionSize K wires));

@@ -8,7 +8,7 @@ use native.Mathlib.Decide.{decLt}
 use native.Mathlib.Omega.{arith}
 use lib.ListN.{length, getD, replicate, length-append, length-replicate, getD-replicate, List·getD-append}
 use lib.Seq.{getD-append-add}
-use Rattle.lists.specs.Blocks.{blocks, part, nth, runs}
+use Rattle.lists.specs.Blocks.{blocks, part, nthPiece, runs}
 use Rattle.lists.proofs.Parts.{length-part, getD-part}
 use Rattle.lists.proofs.Sums.{times-fits}
 use Rattle.lists.proofs.Blocks.{length-blocks-same, part-blocks-same, blocks-nth}
@@ -55,13 +55,13 @@ each-part {xs} {ms} u at n h = record {
 }
 
 -- equal blocks of a list, each against the same moduli, and back
-pub each-nth : {n s : ℕ} {xs ms : List ℕ} → length ms ≡ s → EachBelow xs (blocks n (λ _. ms)) → (i : ℕ) → i < n → EachBelow (nth xs s i) ms
+pub each-nth : {n s : ℕ} {xs ms : List ℕ} → length ms ≡ s → EachBelow xs (blocks n (λ _. ms)) → (i : ℕ) → i < n → EachBelow (nthPiece xs s i) ms
 each-nth {n} {s} {xs} {ms} e u i h =
     rw (part-blocks-same n s (λ _. ms) (λ _ _. e) i h) at
     (each-part u (i * s) s (omega (arith, times-fits i n s h, length-blocks-same n s (λ _. ms) (λ _ _. e))))
 
-pub nth-each : (n s : ℕ) {xs ms : List ℕ} → length xs ≡ n * s → ((i : ℕ) → i < n → EachBelow (nth xs s i) ms) → EachBelow xs (blocks n (λ _. ms))
-nth-each n s {xs} {ms} e u = rw (blocks-nth n s xs e) at (each-blocks n (λ i. nth xs s i) (λ _. ms) u)
+pub nth-each : (n s : ℕ) {xs ms : List ℕ} → length xs ≡ n * s → ((i : ℕ) → i < n → EachBelow (nthPiece xs s i) ms) → EachBelow xs (blocks n (λ _. ms))
+nth-each n s {xs} {ms} e u = rw (blocks-nth n s xs e) at (each-blocks n (λ i. nthPiece xs s i) (λ _. ms) u)
 
 -- ---- all entries below one modulus
 

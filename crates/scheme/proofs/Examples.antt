@@ -8,7 +8,7 @@ use mathlib.Core.List.{List, [], _∷_, _++_}
 use Prim.Native.Nat.{ℕ}
 use Rattle.lists.specs.First.{first, firstFrom}
 use Rattle.residue.specs.Residue.{add, sub, mul}
-use Rattle.residue.specs.Vector.{zip, addV, subV, mulV, keyV}
+use Rattle.residue.specs.Vector.{zipWith, addV, subV, mulV, keyV}
 use Rattle.words.specs.declared.gate.Gate.{Gate}
 use Rattle.words.specs.declared.gate.Gate.the-variants.{Scale}
 use Rattle.counts.specs.Counts.{rowsBy}
@@ -96,5 +96,5 @@ cases = wire ∷ scaled ∷ product 4 ∷ product 1 ∷ bitOne ∷ bitZero ∷ r
 pub table : cases
     ≡ (2 ∷ 0 ∷ []) ∷ (2 ∷ 1 ∷ []) ∷ (1 ∷ 2 ∷ 3 ∷ 2 ∷ []) ∷ (1 ∷ 4 ∷ 0 ∷ 3 ∷ []) ∷ (0 ∷ 2 ∷ 0 ∷ 4 ∷ []) ∷ (1 ∷ 0 ∷ 3 ∷ 2 ∷ [])
     ∷ (502 ∷ 6 ∷ 2 ∷ []) ∷ []
-unfolding cases wire scaled byThree product message₀ message₁ opened bitOne bitZero afterH h₀ h₁ differenceKey differenceMask differenceExternal rows add sub mul zip addV subV mulV keyV freely productMessage₀ productMessage₁ chooserMessage₀ chooserMessage₁ correctorMessage₀ correctorMessage₁ multiplier same first firstFrom
+unfolding cases wire scaled byThree product message₀ message₁ opened bitOne bitZero afterH h₀ h₁ differenceKey differenceMask differenceExternal rows add sub mul zipWith addV subV mulV keyV freely productMessage₀ productMessage₁ chooserMessage₀ chooserMessage₁ correctorMessage₀ correctorMessage₁ multiplier same first firstFrom
 table = refl

@@ -8,7 +8,7 @@ use native.Mathlib.Omega.{arith}
 use lib.Dec.{eqb, ltb}
 use lib.ListN.{length, getD}
 use borrow.Author.Tests.{lt-ltb}
-use Rattle.lists.specs.Blocks.{nth, sumTo}
+use Rattle.lists.specs.Blocks.{nthPiece, sumTo}
 use Rattle.residue.specs.Residue.{add, sub, mul}
 use Rattle.residue.specs.Vector.{addV, subV, mulV, keyV, AllBelow}
 use Rattle.residue.proofs.Laws.{sub-add}
@@ -25,7 +25,7 @@ use Rattle.circuit.specs.Wires.{wireAt, modulusAt}
 use Rattle.circuit.specs.Accepted.{GateFits, PairFits, ProjectionFits, ChoiceFits, Alike}
 use Rattle.circuit.specs.Accepted.GateFits.{input, scale, multiply, project, select}
 use Rattle.counts.specs.Recipe.{gateRecipe, recipe}
-use Rattle.counts.specs.Counts.{rowsOf, recordsOf, recordsBy}
+use Rattle.counts.specs.Counts.{rowsOf, recordKeysOf, recordKeysBy}
 use Rattle.plain.specs.Plain.{chosenBy, plainBy, plainValues}
 use Rattle.scheme.specs.Draw.{Draw}
 use Rattle.scheme.specs.Zero.{freely, freelyV, zeroKeyBy, maskBy, zeroKey, mask}
@@ -64,11 +64,11 @@ module _ {pad : Pad} {n K s : ℕ} {file : List ℕ} {wires : List Wire} {output
 
   -- a row of garbling, opened under the keys that it was garbled under, is its message
   off : (q : ℕ) → 0 < q → (place : Under) (opening garbling : List ℕ) (r r′ : ℕ) {xs : List ℕ} → Message q (n * K) xs → opening ≡ garbling → r ≡ r′
-      → nth (garbledRows pad n K file wires draw) (n * K) r′ ≡ row pad n K file wires draw q place garbling xs
+      → nthPiece (garbledRows pad n K file wires draw) (n * K) r′ ≡ row pad n K file wires draw q place garbling xs
       → unpadded pad n K s wires own inputs keys rows q place opening r ≡ xs
   unfolding unpadded row
   off q h place opening garbling r r′ fits e f g =
-      ap₂ (λ (x u : List ℕ). subV q x (padRow pad K q place u n)) (ap₂ (λ (l : List ℕ) (i : ℕ). nth l (n * K) i) (round .garbled) f ∙ g) e
+      ap₂ (λ (x u : List ℕ). subV q x (padRow pad K q place u n)) (ap₂ (λ (l : List ℕ) (i : ℕ). nthPiece l (n * K) i) (round .garbled) f ∙ g) e
       ∙ unpadded-is (round .pads) n K q h place garbling fits
 
   module _ (w : ℕ) (made : w < length wires) where
@@ -86,11 +86,11 @@ module _ {pad : Pad} {n K s : ℕ} {file : List ℕ} {wires : List Wire} {output
 
     -- ---- the search
 
-    found-is : 0 < recordsOf wires w → (e : ℕ) → e < p → found pad n K s wires own inputs keys rows w (keyV p (draw .key w 0) e D) ≡ e
+    found-is : 0 < recordKeysOf wires w → (e : ℕ) → e < p → found pad n K s wires own inputs keys rows w (keyV p (draw .key w 0) e D) ≡ e
     unfolding found ownKey
     found-is has e h =
-        let k : own .key w 0 ≡ nth (draw .key w 0) K s = round .party .key w made has in
-        let d : own .offset p ≡ nth D K s = round .party .offset w made in
+        let k : own .key w 0 ≡ nthPiece (draw .key w 0) K s = round .party .key w made has in
+        let d : own .offset p ≡ nthPiece D K s = round .party .offset w made in
         let k-size = part-size n K s (draw .key w 0) (round .party .party) (round .drawn .keySize w 0 made has) in
         let d-size = part-size n K s D (round .party .party) offset-size in
         ap (multiplier p (own .key w 0) (own .offset p))
@@ -100,7 +100,7 @@ module _ {pad : Pad} {n K s : ℕ} {file : List ℕ} {wires : List Wire} {output
         (subst⁻¹ (AllBelow p) d (part-below p K s D (round .drawn .offsetBelow w made)))
         (round .party .notZero w made) e h
 
-    searched-rightly : {gate : Gate} → wireAt wires w .gate ≡ gate → 0 < recordsBy (gateRecipe gate) → (all : List ℕ) (v : ℕ) → v < p
+    searched-rightly : {gate : Gate} → wireAt wires w .gate ≡ gate → 0 < recordKeysBy (gateRecipe gate) → (all : List ℕ) (v : ℕ) → v < p
         → all ≡ keyV p (draw .key w 0) (add p v (draw .mask w 0)) D
         → Rightly p (n * K) v (draw .mask w 0) (draw .key w 0) D (searched pad n K s wires own inputs keys rows w all)
     unfolding searched

@@ -5,7 +5,7 @@ use mathlib.Core.List.{List}
 use Prim.Native.Nat.{ℕ, zero, suc, _*_, _<_}
 use native.Mathlib.Omega.{arith}
 use lib.ListN.{length, replicate, length-replicate}
-use Rattle.lists.specs.Blocks.{nth}
+use Rattle.lists.specs.Blocks.{nthPiece}
 use Rattle.lists.proofs.Blocks.{length-blocks-same}
 use Rattle.residue.specs.Vector.{addV, subV}
 use Rattle.residue.proofs.Laws.{subV-addV}
@@ -19,7 +19,7 @@ module _ {pad : Pad} (pads : PadSize pad) (n K q : ℕ) (positive : 0 < q) (plac
   unfolding padSum
   padSum-size receiver zero = length-replicate K 0
   padSum-size receiver (suc j) =
-      addV-length q _ _ (padSum-size receiver j ∙ sym (pads .size q K (padInput place receiver (nth keys K j)) positive)) ∙ padSum-size receiver j
+      addV-length q _ _ (padSum-size receiver j ∙ sym (pads .size q K (padInput place receiver (nthPiece keys K j)) positive)) ∙ padSum-size receiver j
 
   padRow-size : length (padRow pad K q place keys n) ≡ n * K
   unfolding padRow

@@ -10,7 +10,7 @@ use lib.ListN.{length}
 use Rattle.lists.specs.Blocks.{sumTo}
 use Rattle.lists.proofs.Sums.{sumTo-fits}
 use Rattle.words.specs.declared.gate.Wire.{Wire}
-use Rattle.counts.specs.Counts.{recordsOf, recordsIn}
+use Rattle.counts.specs.Counts.{recordKeysOf, recordKeysIn}
 use Rattle.counts.specs.Moduli.{used, usedBelow}
 use Rattle.scheme.specs.Contribution.{offsetAt, recordAt, keyAt, shareAt, contributionSize}
 use Rattle.scheme.proofs.Used.{usedBelow-past}
@@ -30,12 +30,12 @@ module _ (K : ℕ) (wires : List Wire) where
 
   -- ---- records
 
-  pub record-fits : (w : ℕ) → w < length wires → recordAt K wires w + (K + 1) * recordsOf wires w ≤ contributionSize K wires
+  pub record-fits : (w : ℕ) → w < length wires → recordAt K wires w + (K + 1) * recordKeysOf wires w ≤ contributionSize K wires
   unfolding recordAt contributionSize
   record-fits w h =
-      let most : (K + 1) * (sumTo w (recordsOf wires) + recordsOf wires w) ≤ (K + 1) * recordsIn wires =
-      mul-le-mul-left (K + 1) (sumTo-fits w (length wires) (recordsOf wires) h) in
-      omega (arith, mul-add (K + 1) (sumTo w (recordsOf wires)) (recordsOf wires w))
+      let most : (K + 1) * (sumTo w (recordKeysOf wires) + recordKeysOf wires w) ≤ (K + 1) * recordKeysIn wires =
+      mul-le-mul-left (K + 1) (sumTo-fits w (length wires) (recordKeysOf wires) h) in
+      omega (arith, mul-add (K + 1) (sumTo w (recordKeysOf wires)) (recordKeysOf wires w))
 
   -- within a record of m keys: key j of them ends before the shares, and share j is inside
   key-inside : (m j : ℕ) → j < m → K * j + K ≤ (K + 1) * m
@@ -46,14 +46,14 @@ module _ (K : ℕ) (wires : List Wire) where
   share-inside : (m j : ℕ) → j < m → K * m + j < (K + 1) * m
   share-inside m j h = omega (arith, add-mul K 1 m)
 
-  module _ (w j : ℕ) (h : j < recordsOf wires w) where
-    pub key-in-record : keyAt K wires w j + K ≤ recordAt K wires w + (K + 1) * recordsOf wires w
+  module _ (w j : ℕ) (h : j < recordKeysOf wires w) where
+    pub key-in-record : keyAt K wires w j + K ≤ recordAt K wires w + (K + 1) * recordKeysOf wires w
     unfolding keyAt
-    key-in-record = omega (arith, key-inside (recordsOf wires w) j h)
+    key-in-record = omega (arith, key-inside (recordKeysOf wires w) j h)
 
-    pub share-in-record : shareAt K wires w j < recordAt K wires w + (K + 1) * recordsOf wires w
+    pub share-in-record : shareAt K wires w j < recordAt K wires w + (K + 1) * recordKeysOf wires w
     unfolding shareAt
-    share-in-record = omega (arith, share-inside (recordsOf wires w) j h)
+    share-in-record = omega (arith, share-inside (recordKeysOf wires w) j h)
 
     pub key-fits : w < length wires → keyAt K wires w j + K ≤ contributionSize K wires
     key-fits l = le-trans key-in-record (record-fits w l)

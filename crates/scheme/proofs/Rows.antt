@@ -6,7 +6,7 @@ use mathlib.Core.List.{List, _++_}
 use Prim.Native.Nat.{ℕ, _+_, _*_, _≤_, _<_}
 use native.Mathlib.Omega.{arith}
 use lib.ListN.{length, getD, length-append}
-use Rattle.lists.specs.Blocks.{blocks, part, nth, sumTo}
+use Rattle.lists.specs.Blocks.{blocks, part, nthPiece, sumTo}
 use Rattle.lists.proofs.Sums.{times-fits, sumTo-times}
 use Rattle.lists.proofs.Parts.{part-whole, part-left, part-right, part-last, part-of-part}
 use Rattle.lists.proofs.Blocks.{length-blocks-same, part-blocks, part-blocks-same}
@@ -35,15 +35,15 @@ use Rattle.scheme.proofs.Padded.{padded-size}
 
 -- ---- rows of one size, one after another
 
-nth-left : (xs ys : List ℕ) (m s r : ℕ) → length xs ≡ m * s → r < m → nth (xs ++ ys) s r ≡ nth xs s r
+nth-left : (xs ys : List ℕ) (m s r : ℕ) → length xs ≡ m * s → r < m → nthPiece (xs ++ ys) s r ≡ nthPiece xs s r
 nth-left xs ys m s r e h = part-left xs ys (r * s) s (omega (arith, times-fits r m s h))
 
-nth-right : (xs ys : List ℕ) (m s r : ℕ) → length xs ≡ m * s → nth (xs ++ ys) s (m + r) ≡ nth ys s r
+nth-right : (xs ys : List ℕ) (m s r : ℕ) → length xs ≡ m * s → nthPiece (xs ++ ys) s (m + r) ≡ nthPiece ys s r
 nth-right xs ys m s r e =
     let place : (m + r) * s ≡ length xs + r * s = omega arith in
     ap (λ (at : ℕ). part (xs ++ ys) at s) place ∙ part-right xs ys (r * s) s
 
-nth-only : (xs : List ℕ) (s : ℕ) → length xs ≡ s → nth xs s 0 ≡ xs
+nth-only : (xs : List ℕ) (s : ℕ) → length xs ≡ s → nthPiece xs s 0 ≡ xs
 nth-only xs s e =
     let place : 0 * s ≡ 0 = omega arith in
     ap (λ (at : ℕ). part xs at s) place ∙ part-whole xs s (omega arith)
@@ -198,8 +198,8 @@ module _ {pad : Pad} (pads : PadSize pad) {file : List ℕ} {wires : List Wire} 
 
   nth-row : {gate : Gate} (w r : ℕ) → w < length wires → wireAt wires w .gate ≡ gate
       → r < rowsBy (gateRecipe gate) (modulusAt wires) (modulusAt wires w)
-      → nth (garbledRows pad n K file wires draw) (n * K) (rowsBefore w + r)
-      ≡ nth (gateRows pad n K file wires draw w (gateRecipe gate)) (n * K) r
+      → nthPiece (garbledRows pad n K file wires draw) (n * K) (rowsBefore w + r)
+      ≡ nthPiece (gateRows pad n K file wires draw w (gateRecipe gate)) (n * K) r
   unfolding garbledRows
   nth-row {gate} w r made is h =
       ap (λ (at : ℕ). part all at (n * K)) place
@@ -207,7 +207,7 @@ module _ {pad : Pad} (pads : PadSize pad) {file : List ℕ} {wires : List Wire} 
       ∙ ap (λ (l : List ℕ). part l (r * (n * K)) (n * K))
       (part-blocks (length wires) (λ v. gateRows pad n K file wires draw v (recipe (wireAt wires v))) size
       (λ v l. gate-size v l (accepted .fits v l .gate) refl) w made)
-      ∙ ap (λ (g : Gate). nth (gateRows pad n K file wires draw w (gateRecipe g)) (n * K) r) is
+      ∙ ap (λ (g : Gate). nthPiece (gateRows pad n K file wires draw w (gateRecipe g)) (n * K) r) is
     where
       size : ℕ → ℕ
       size v = n * K * rowsOf wires v
@@ -226,7 +226,7 @@ module _ {pad : Pad} (pads : PadSize pad) {file : List ℕ} {wires : List Wire} 
 
   module _ (w : ℕ) (made : w < length wires) where
     pub project-row : {gate : Projection} → wireAt wires w .gate ≡ Project gate → (α : ℕ) → α < modulusAt wires (gate .a)
-        → nth (garbledRows pad n K file wires draw) (n * K) (rowsBefore w + α) ≡ projectRow pad n K file wires draw w (gate .a) α
+        → nthPiece (garbledRows pad n K file wires draw) (n * K) (rowsBefore w + α) ≡ projectRow pad n K file wires draw w (gate .a) α
     unfolding gateRows
     project-row {gate} is α h =
         nth-row w α made is h
@@ -242,7 +242,7 @@ module _ {pad : Pad} (pads : PadSize pad) {file : List ℕ} {wires : List Wire} 
       rows₀-size : length (blocks (modulusAt wires w) rows₀) ≡ modulusAt wires w * (n * K)
       rows₀-size = length-blocks-same (modulusAt wires w) (n * K) rows₀ (λ i _. productRow₀-size w made fits is i)
 
-      pub product-row₀ : (α : ℕ) → α < modulusAt wires w → nth (garbledRows pad n K file wires draw) (n * K) (rowsBefore w + α) ≡ rows₀ α
+      pub product-row₀ : (α : ℕ) → α < modulusAt wires w → nthPiece (garbledRows pad n K file wires draw) (n * K) (rowsBefore w + α) ≡ rows₀ α
       unfolding gateRows
       product-row₀ α h =
           nth-row w α made is (omega arith)
@@ -250,7 +250,7 @@ module _ {pad : Pad} (pads : PadSize pad) {file : List ℕ} {wires : List Wire} 
           ∙ part-blocks-same (modulusAt wires w) (n * K) rows₀ (λ i _. productRow₀-size w made fits is i) α h
 
       pub product-row₁ : (β : ℕ) → β < modulusAt wires w
-          → nth (garbledRows pad n K file wires draw) (n * K) (rowsBefore w + (modulusAt wires w + β)) ≡ rows₁ β
+          → nthPiece (garbledRows pad n K file wires draw) (n * K) (rowsBefore w + (modulusAt wires w + β)) ≡ rows₁ β
       unfolding gateRows
       product-row₁ β h =
           nth-row w (modulusAt wires w + β) made is (omega arith)
@@ -268,20 +268,20 @@ module _ {pad : Pad} (pads : PadSize pad) {file : List ℕ} {wires : List Wire} 
       correctors₁ = correctorRow₁ pad n K file wires draw w (gate .bit) (gate .a) (gate .b)
 
       front : (e : ℕ) → e < 2 + modulusAt wires w
-          → nth (garbledRows pad n K file wires draw) (n * K) (rowsBefore w + e)
-          ≡ nth (choosers ++ blocks (modulusAt wires w) correctors₀) (n * K) e
+          → nthPiece (garbledRows pad n K file wires draw) (n * K) (rowsBefore w + e)
+          ≡ nthPiece (choosers ++ blocks (modulusAt wires w) correctors₀) (n * K) e
       unfolding gateRows
       front e h =
           nth-row w e made is (omega arith)
           ∙ nth-left (choosers ++ blocks (modulusAt wires w) correctors₀) (blocks (modulusAt wires w) correctors₁) (2 + modulusAt wires w) (n * K) e
           (correctors₀-size w made fits is) h
 
-      chooser : (e : ℕ) → e < 2 → nth (garbledRows pad n K file wires draw) (n * K) (rowsBefore w + e) ≡ nth choosers (n * K) e
+      chooser : (e : ℕ) → e < 2 → nthPiece (garbledRows pad n K file wires draw) (n * K) (rowsBefore w + e) ≡ nthPiece choosers (n * K) e
       chooser e h =
           front e (omega arith)
           ∙ nth-left choosers (blocks (modulusAt wires w) correctors₀) 2 (n * K) e (chooserRows-size w made fits is) h
 
-      pub chooser-row₀ : nth (garbledRows pad n K file wires draw) (n * K) (rowsBefore w + 0)
+      pub chooser-row₀ : nthPiece (garbledRows pad n K file wires draw) (n * K) (rowsBefore w + 0)
           ≡ chooserRow pad n K file wires draw w (gate .bit) 0 (chooserMessage₀ (modulusAt wires w) (draw .offset (modulusAt wires w)) (draw .key w 1) (draw .mask w 1))
       unfolding chooserRows
       chooser-row₀ =
@@ -290,7 +290,7 @@ module _ {pad : Pad} (pads : PadSize pad) {file : List ℕ} {wires : List Wire} 
           ∙ nth-left (chooserRow pad n K file wires draw w (gate .bit) 0 _) _ 1 (n * K) 0 (omega arith) (omega arith)
           ∙ nth-only _ (n * K) size
 
-      pub chooser-row₁ : nth (garbledRows pad n K file wires draw) (n * K) (rowsBefore w + 1)
+      pub chooser-row₁ : nthPiece (garbledRows pad n K file wires draw) (n * K) (rowsBefore w + 1)
           ≡ chooserRow pad n K file wires draw w (gate .bit) 1
           (chooserMessage₁ (modulusAt wires w) (draw .offset (modulusAt wires w)) (draw .key w 2) (draw .mask w 2)
           (differenceKey pad n K file wires draw w (gate .a) (gate .b)) (differenceMask pad n K file wires draw w (gate .a) (gate .b)))
@@ -302,14 +302,14 @@ module _ {pad : Pad} (pads : PadSize pad) {file : List ℕ} {wires : List Wire} 
           (chooserRow-size w made fits is 1 (chooser₁-fits w made fits is (draw .mask w 2) _))
 
       pub corrector-row₀ : (α : ℕ) → α < modulusAt wires w
-          → nth (garbledRows pad n K file wires draw) (n * K) (rowsBefore w + (2 + α)) ≡ correctors₀ α
+          → nthPiece (garbledRows pad n K file wires draw) (n * K) (rowsBefore w + (2 + α)) ≡ correctors₀ α
       corrector-row₀ α h =
           front (2 + α) (omega arith)
           ∙ nth-right choosers (blocks (modulusAt wires w) correctors₀) 2 (n * K) α (chooserRows-size w made fits is)
           ∙ part-blocks-same (modulusAt wires w) (n * K) correctors₀ (λ i _. correctorRow₀-size w made fits is i) α h
 
       pub corrector-row₁ : (α : ℕ) → α < modulusAt wires w
-          → nth (garbledRows pad n K file wires draw) (n * K) (rowsBefore w + (2 + modulusAt wires w + α)) ≡ correctors₁ α
+          → nthPiece (garbledRows pad n K file wires draw) (n * K) (rowsBefore w + (2 + modulusAt wires w + α)) ≡ correctors₁ α
       unfolding gateRows
       corrector-row₁ α h =
           nth-row w (2 + modulusAt wires w + α) made is (omega arith)

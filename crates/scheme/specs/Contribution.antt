@@ -8,7 +8,7 @@ use lib.ListN.{length}
 use Rattle.lists.specs.Blocks.{sumTo, blocks, runs}
 use Rattle.words.specs.declared.gate.Wire.{Wire}
 use Rattle.circuit.specs.Wires.{modulusAt}
-use Rattle.counts.specs.Counts.{mark, recordsOf, recordsIn}
+use Rattle.counts.specs.Counts.{mark, recordKeysOf, recordKeysIn}
 use Rattle.counts.specs.Moduli.{used, usedBelow, moduliUsed}
 
 -- K is the key length
@@ -19,7 +19,7 @@ module _ (K : ℕ) (wires : List Wire) where
 
   -- where the record of wire w starts
   unfoldable pub recordAt : ℕ → ℕ
-  recordAt w = K * moduliUsed wires + (K + 1) * sumTo w (recordsOf wires)
+  recordAt w = K * moduliUsed wires + (K + 1) * sumTo w (recordKeysOf wires)
 
   -- where key j of the record starts: 0 the zero key, 1 and 2 the first parts
   unfoldable pub keyAt : ℕ → ℕ → ℕ
@@ -27,14 +27,14 @@ module _ (K : ℕ) (wires : List Wire) where
 
   -- where mask share j stands
   unfoldable pub shareAt : ℕ → ℕ → ℕ
-  shareAt w j = recordAt w + K * recordsOf wires w + j
+  shareAt w j = recordAt w + K * recordKeysOf wires w + j
 
   -- K·Q + (K + 1)·(I + P + 2M + 3S) bytes
   unfoldable pub contributionSize : ℕ
-  contributionSize = K * moduliUsed wires + (K + 1) * recordsIn wires
+  contributionSize = K * moduliUsed wires + (K + 1) * recordKeysIn wires
 
   -- the modulus that each byte of a contribution is below: an offset's own, a record's that of its wire
   unfoldable pub contributionModuli : List ℕ
   contributionModuli =
       runs 256 (λ p. K * mark (used wires p)) (λ p. p)
-      ++ runs (length wires) (λ w. (K + 1) * recordsOf wires w) (modulusAt wires)
+      ++ runs (length wires) (λ w. (K + 1) * recordKeysOf wires w) (modulusAt wires)

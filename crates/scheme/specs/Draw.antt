@@ -4,7 +4,7 @@
 use mathlib.Core.List.{List}
 use Prim.Native.Nat.{ℕ, _+_, _%_}
 use lib.ListN.{getD}
-use Rattle.lists.specs.Blocks.{sumTo, blocks, part, nth}
+use Rattle.lists.specs.Blocks.{sumTo, blocks, part, nthPiece}
 use Rattle.words.specs.declared.gate.Wire.{Wire}
 use Rattle.circuit.specs.Wires.{modulusAt}
 use Rattle.scheme.specs.Contribution.{offsetAt, keyAt, shareAt, contributionSize}
@@ -20,7 +20,7 @@ pub record Draw : Type 0 where
 -- what n parties drew, from their contributions one after another
 unfoldable pub drawn : ℕ → ℕ → List Wire → List ℕ → Draw
 drawn n K wires contributions =
-    let of : ℕ → List ℕ = λ party. nth contributions (contributionSize K wires) party in
+    let of : ℕ → List ℕ = λ party. nthPiece contributions (contributionSize K wires) party in
     record {
       offset = λ p. blocks n (λ party. part (of party) (offsetAt K wires p) K);
       key = λ w j. blocks n (λ party. part (of party) (keyAt K wires w j) K);

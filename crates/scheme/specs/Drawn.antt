@@ -5,11 +5,11 @@ use mathlib.Core.Path.{_≡_}
 use mathlib.Core.List.{List}
 use Prim.Native.Nat.{ℕ, _*_, _<_}
 use lib.ListN.{length}
-use Rattle.lists.specs.Blocks.{nth}
+use Rattle.lists.specs.Blocks.{nthPiece}
 use Rattle.residue.specs.Vector.{AllBelow, NotZero}
 use Rattle.words.specs.declared.gate.Wire.{Wire}
 use Rattle.circuit.specs.Wires.{modulusAt}
-use Rattle.counts.specs.Counts.{recordsOf}
+use Rattle.counts.specs.Counts.{recordKeysOf}
 use Rattle.scheme.specs.Draw.{Draw}
 use Rattle.pads.specs.Pad.{Pad}
 
@@ -21,12 +21,12 @@ pub record PadSize (pad : Pad) : Type 0 where
 pub record WellDrawn (n K : ℕ) (wires : List Wire) (draw : Draw) : Type 0 where
   pub offsetSize : (w : ℕ) → w < length wires → length (draw .offset (modulusAt wires w)) ≡ n * K
   pub offsetBelow : (w : ℕ) → w < length wires → AllBelow (modulusAt wires w) (draw .offset (modulusAt wires w))
-  pub keySize : (w j : ℕ) → w < length wires → j < recordsOf wires w → length (draw .key w j) ≡ n * K
-  pub maskBelow : (w j : ℕ) → w < length wires → j < recordsOf wires w → draw .mask w j < modulusAt wires w
+  pub keySize : (w j : ℕ) → w < length wires → j < recordKeysOf wires w → length (draw .key w j) ≡ n * K
+  pub maskBelow : (w j : ℕ) → w < length wires → j < recordKeysOf wires w → draw .mask w j < modulusAt wires w
 
 -- what party s drew itself: its part of each zero key that stands in a record, and of each offset, which is not zero
 pub record OwnPart (n K s : ℕ) (wires : List Wire) (draw own : Draw) : Type 0 where
   pub party : s < n
-  pub key : (w : ℕ) → w < length wires → 0 < recordsOf wires w → own .key w 0 ≡ nth (draw .key w 0) K s
-  pub offset : (w : ℕ) → w < length wires → own .offset (modulusAt wires w) ≡ nth (draw .offset (modulusAt wires w)) K s
+  pub key : (w : ℕ) → w < length wires → 0 < recordKeysOf wires w → own .key w 0 ≡ nthPiece (draw .key w 0) K s
+  pub offset : (w : ℕ) → w < length wires → own .offset (modulusAt wires w) ≡ nthPiece (draw .offset (modulusAt wires w)) K s
   pub notZero : (w : ℕ) → w < length wires → NotZero (own .offset (modulusAt wires w))

@@ -5,7 +5,7 @@ use mathlib.Core.Bool.{true}
 use mathlib.Core.List.{List}
 use Prim.Native.Nat.{ℕ, _*_, _<_}
 use lib.ListN.{length, getD}
-use Rattle.lists.specs.Blocks.{nth}
+use Rattle.lists.specs.Blocks.{nthPiece}
 use Rattle.residue.specs.Residue.{add}
 use Rattle.residue.specs.Vector.{keyV}
 use Rattle.words.specs.declared.gate.Wire.{Wire}
@@ -25,7 +25,7 @@ pub record GivenInputs (n K : ℕ) (wires : List Wire) (draw : Draw) (values inp
   pub external : (w : ℕ) → w < inputsIn wires → getD inputs w 0 ≡ add (modulusAt wires w) (getD values w 0) (mask wires draw w)
   pub key : (w : ℕ)
       → w < inputsIn wires
-      → nth keys (n * K) w ≡ keyV (modulusAt wires w) (zeroKey wires draw w) (getD inputs w 0) (draw .offset (modulusAt wires w))
+      → nthPiece keys (n * K) w ≡ keyV (modulusAt wires w) (zeroKey wires draw w) (getD inputs w 0) (draw .offset (modulusAt wires w))
 
 -- what evaluation at party s is given: an accepted circuit, what was drawn, the inputs, and the garbled rows
 pub record Round (pad : Pad) (n K s : ℕ) (file : List ℕ) (wires : List Wire) (outputs : List ℕ) (draw own : Draw) (values inputs keys rows : List ℕ) : Type 0 where

@@ -5,7 +5,7 @@ use mathlib.Core.List.{List, [], _∷_, _++_, map}
 use Prim.Native.Nat.{ℕ, zero, suc, _+_, _*_}
 use lib.Dec.{eqb, ltb}
 use lib.ListN.{length, getD}
-use Rattle.lists.specs.Blocks.{sumTo, blocks, nth}
+use Rattle.lists.specs.Blocks.{sumTo, blocks, nthPiece}
 use Rattle.lists.specs.Grown.{grown}
 use Rattle.residue.specs.Residue.{add, sub}
 use Rattle.residue.specs.Vector.{addV, subV, mulV}
@@ -36,7 +36,7 @@ nothing = record { keys = []; external = 0; fits = false }
 module _ (pad : Pad) (n K s : ℕ) (wires : List Wire) (own : Draw) (inputs keys rows : List ℕ) where
   -- row r without the pads of the senders' keys that it is opened under
   unfoldable pub unpadded : ℕ → Under → List ℕ → ℕ → List ℕ
-  unpadded q place under r = subV q (nth rows (n * K) r) (padRow pad K q place under n)
+  unpadded q place under r = subV q (nthPiece rows (n * K) r) (padRow pad K q place under n)
 
   -- the first row of wire w
   unfoldable pub rowAt : ℕ → ℕ
@@ -44,7 +44,7 @@ module _ (pad : Pad) (n K s : ℕ) (wires : List Wire) (own : Draw) (inputs keys
 
   -- s's own key, for which the multiplier is searched
   unfoldable pub ownKey : List ℕ → List ℕ
-  ownKey all = nth all K s
+  ownKey all = nthPiece all K s
 
   unfoldable pub found : ℕ → List ℕ → ℕ
   found w all =
@@ -56,7 +56,7 @@ module _ (pad : Pad) (n K s : ℕ) (wires : List Wire) (own : Draw) (inputs keys
 
   -- an input's keys and external value are given
   unfoldable pub openInput : ℕ → Opened
-  openInput w = record { keys = nth keys (n * K) w; external = getD inputs w 0; fits = true }
+  openInput w = record { keys = nthPiece keys (n * K) w; external = getD inputs w 0; fits = true }
 
   unfoldable pub openFree : ℕ → Gate → (ℕ → Opened) → Opened
   openFree p gate look =

@@ -14,7 +14,7 @@ use Rattle.words.specs.declared.gate.Wire.{Wire}
 use Rattle.circuit.specs.Wires.{wireAt}
 use Rattle.circuit.specs.declared.Circuit.{Circuit}
 use Rattle.counts.proofs.Counting.{records-at}
-use Rattle.counts.specs.Counts.{recordsBy, recordsOf}
+use Rattle.counts.specs.Counts.{recordKeysBy, recordKeysOf}
 use Rattle.counts.specs.Moduli.{moduliUsed}
 use Rattle.counts.specs.Recipe.{recipe}
 use Rattle.session.specs.Held.{wiresIn}
@@ -34,17 +34,17 @@ nothing-more a b e = rw (e, mul-zero b, add-zero a)
 module _ (K : ℕ) (wires : List Wire) where
   pub record-first : recordAt K wires 0 ≡ K * moduliUsed wires
   unfolding recordAt
-  record-first = nothing-more (K * moduliUsed wires) (K + 1) (sum-none (recordsOf wires))
+  record-first = nothing-more (K * moduliUsed wires) (K + 1) (sum-none (recordKeysOf wires))
 
-  pub record-next : (w : ℕ) → recordAt K wires (w + 1) ≡ recordAt K wires w + (K + 1) * recordsOf wires w
+  pub record-next : (w : ℕ) → recordAt K wires (w + 1) ≡ recordAt K wires w + (K + 1) * recordKeysOf wires w
   unfolding recordAt
-  record-next w = rw (sumTo-next w (recordsOf wires)) (omega (arith, mul-add (K + 1) (sumTo w (recordsOf wires)) (recordsOf wires w)))
+  record-next w = rw (sumTo-next w (recordKeysOf wires)) (omega (arith, mul-add (K + 1) (sumTo w (recordKeysOf wires)) (recordKeysOf wires w)))
 
   pub key-place : (w j : ℕ) → keyAt K wires w j ≡ recordAt K wires w + K * j
   unfolding keyAt
   key-place w j = refl
 
-  pub share-place : (w j : ℕ) → shareAt K wires w j ≡ recordAt K wires w + K * recordsOf wires w + j
+  pub share-place : (w j : ℕ) → shareAt K wires w j ≡ recordAt K wires w + K * recordKeysOf wires w + j
   unfolding shareAt
   share-place w j = refl
 
@@ -59,31 +59,31 @@ module _ {file : List ℕ} {circuit : Circuit} {n K size : ℕ} {contributions :
 
   module _ {w at : ℕ} (h : w < circuit .made) (here : at ≡ recordAt K (wiresIn circuit) w) where
     -- the keys of the record, by what the code looks up
-    pub records-here : recordsBy (recipe (wireAt (circuit .wires) w)) ≡ recordsOf (wiresIn circuit) w
+    pub records-here : recordKeysBy (recipe (wireAt (circuit .wires) w)) ≡ recordKeysOf (wiresIn circuit) w
     records-here = records-at (circuit .wires) (circuit .made) w h
 
-    pub cursor-next : {step : ℕ} → step ≡ (K + 1) * recordsBy (recipe (wireAt (circuit .wires) w)) → at + step ≡ recordAt K (wiresIn circuit) (w + 1)
+    pub cursor-next : {step : ℕ} → step ≡ (K + 1) * recordKeysBy (recipe (wireAt (circuit .wires) w)) → at + step ≡ recordAt K (wiresIn circuit) (w + 1)
     cursor-next {step} e =
-        let f : step ≡ (K + 1) * recordsOf (wiresIn circuit) w = e ∙ ap (λ (m : ℕ). (K + 1) * m) records-here in
+        let f : step ≡ (K + 1) * recordKeysOf (wiresIn circuit) w = e ∙ ap (λ (m : ℕ). (K + 1) * m) records-here in
         omega (arith, record-next K (wiresIn circuit) w)
 
-    pub cursor-fits : {step : ℕ} → step ≡ (K + 1) * recordsBy (recipe (wireAt (circuit .wires) w)) → at + step ≤ size
+    pub cursor-fits : {step : ℕ} → step ≡ (K + 1) * recordKeysBy (recipe (wireAt (circuit .wires) w)) → at + step ≤ size
     cursor-fits {step} e =
-        let f : step ≡ (K + 1) * recordsOf (wiresIn circuit) w = e ∙ ap (λ (m : ℕ). (K + 1) * m) records-here in
+        let f : step ≡ (K + 1) * recordKeysOf (wiresIn circuit) w = e ∙ ap (λ (m : ℕ). (K + 1) * m) records-here in
         omega (arith, record-fits K (wiresIn circuit) w (within h), r .each)
 
     -- the shares start inside the contribution, or where it ends
-    pub shares-fit : {shares : ℕ} → shares ≡ K * recordsBy (recipe (wireAt (circuit .wires) w)) → at + shares ≤ size
-    shares-fit {shares} e = omega (arith, cursor-fits refl, add-mul K 1 (recordsBy (recipe (wireAt (circuit .wires) w))))
+    pub shares-fit : {shares : ℕ} → shares ≡ K * recordKeysBy (recipe (wireAt (circuit .wires) w)) → at + shares ≤ size
+    shares-fit {shares} e = omega (arith, cursor-fits refl, add-mul K 1 (recordKeysBy (recipe (wireAt (circuit .wires) w))))
 
-    module _ (j : ℕ) (have : j < recordsBy (recipe (wireAt (circuit .wires) w))) where
-      inside : j < recordsOf (wiresIn circuit) w
+    module _ (j : ℕ) (have : j < recordKeysBy (recipe (wireAt (circuit .wires) w))) where
+      inside : j < recordKeysOf (wiresIn circuit) w
       inside = omega (arith, records-here)
 
       pub key-here : at + K * j + K ≤ size
       key-here = omega (arith, key-fits K (wiresIn circuit) w j inside (within h), key-place K (wiresIn circuit) w j, r .each)
 
-      pub share-here : {shares : ℕ} → shares ≡ K * recordsBy (recipe (wireAt (circuit .wires) w)) → at + shares + j < size
+      pub share-here : {shares : ℕ} → shares ≡ K * recordKeysBy (recipe (wireAt (circuit .wires) w)) → at + shares + j < size
       share-here {shares} e =
-          let f : shares ≡ K * recordsOf (wiresIn circuit) w = e ∙ ap (λ (m : ℕ). K * m) records-here in
+          let f : shares ≡ K * recordKeysOf (wiresIn circuit) w = e ∙ ap (λ (m : ℕ). K * m) records-here in
           omega (arith, share-fits K (wiresIn circuit) w j inside (within h), share-place K (wiresIn circuit) w j, r .each)

@@ -8,7 +8,7 @@ use native.Mathlib.Omega.{arith}
 use lib.ListN.{length, getD}
 use lib.Seq.{getD-take}
 use Rattle.lists.proofs.Blocks.{part-blocks-same}
-use Rattle.lists.specs.Blocks.{nth}
+use Rattle.lists.specs.Blocks.{nthPiece}
 use Rattle.residue.proofs.Vectors.{add-below, mul-below, addV-length, mulV-length}
 use Rattle.words.specs.declared.gate.Gate.{Gate}
 use Rattle.words.specs.declared.gate.Wire.{Wire}
@@ -16,7 +16,7 @@ use Rattle.circuit.specs.Accepted.{GateFits}
 use Rattle.circuit.specs.Accepted.GateFits.{input, scale, multiply, project, select}
 use Rattle.circuit.specs.Wires.{wireAt, modulusAt}
 use Rattle.circuit.specs.declared.Circuit.{Circuit}
-use Rattle.counts.specs.Counts.{recordsBy}
+use Rattle.counts.specs.Counts.{recordKeysBy}
 use Rattle.counts.specs.Recipe.{gateRecipe}
 use Rattle.session.specs.Held.{wiresIn}
 use Rattle.scheme.proofs.Bounds.{positive}
@@ -38,7 +38,7 @@ module _ {file : List ℕ} {circuit : Circuit} {n K size : ℕ} {contributions :
   pub all-long : length contributions ≡ n * contributionSize K wires
   all-long = r .all ∙ ap (λ (s : ℕ). n * s) (r .each)
 
-  pub drawn-key-size : {gate : Gate} (w j : ℕ) → w < length wires → wireAt wires w .gate ≡ gate → j < recordsBy (gateRecipe gate) → length (draw .key w j) ≡ n * K
+  pub drawn-key-size : {gate : Gate} (w j : ℕ) → w < length wires → wireAt wires w .gate ≡ gate → j < recordKeysBy (gateRecipe gate) → length (draw .key w j) ≡ n * K
   drawn-key-size w j h is l = drawnLaws.key-length n K wires contributions all-long w j h (rw is l)
 
   pub above-0 : (w : ℕ) → w < circuit .made → 0 < modulusAt wires w
@@ -80,9 +80,9 @@ module _ {file : List ℕ} {circuit : Circuit} {n K size : ℕ} {contributions :
   mask-below w h = rw (mask-step (r .accepted) w (within r h) draw) (reduced w (within r h) (above-0 w h) (r .accepted .fits w (within r h) .gate))
 
   -- read out of what holds them
-  pub zero-keys-at : {keys : List ℕ} → ZeroKeys circuit n K contributions keys → (w : ℕ) → w < circuit .made → nth keys (n * K) w ≡ zeroKey wires draw w
+  pub zero-keys-at : {keys : List ℕ} → ZeroKeys circuit n K contributions keys → (w : ℕ) → w < circuit .made → nthPiece keys (n * K) w ≡ zeroKey wires draw w
   zero-keys-at z w h =
-      ap (λ (l : List ℕ). nth l (n * K) w) (z .stand)
+      ap (λ (l : List ℕ). nthPiece l (n * K) w) (z .stand)
       ∙ part-blocks-same (circuit .made) (n * K) (zeroKey wires draw) zero-key-size w h
 
   -- the masks of all wires, as the list that the definition grows

@@ -11,7 +11,7 @@ use Rattle.lists.proofs.Filled.{Filled, filled-start, filled-step, filled-front
 use Rattle.lists.proofs.Grown.{length-grown}
 use Rattle.lists.proofs.Steps.{Level, level-start, level-read, level-whole, level-place, steps-put, steps-fits}
 use Rattle.lists.proofs.Sums.{times-fits}
-use Rattle.lists.specs.Blocks.{blocks, part, nth, written}
+use Rattle.lists.specs.Blocks.{blocks, part, nthPiece, written}
 use Rattle.residue.specs.Residue.{add, mul}
 use Rattle.residue.specs.Vector.{addV, mulV}
 use Rattle.words.specs.declared.gate.Choice.{Choice}
@@ -25,7 +25,7 @@ use Rattle.circuit.specs.Accepted.GateFits.{input, scale, multiply, project, se
 use Rattle.circuit.specs.Wires.{wireAt, modulusAt}
 use Rattle.circuit.specs.declared.Circuit.{Circuit}
 use Rattle.counts.proofs.Wires.{wire-at}
-use Rattle.counts.specs.Counts.{recordsBy, recordsOf}
+use Rattle.counts.specs.Counts.{recordKeysBy, recordKeysOf}
 use Rattle.counts.specs.Recipe.{gateRecipe, recipe}
 use Rattle.session.specs.Held.{wiresIn}
 use Rattle.plain.specs.Ready.{Below}
@@ -65,17 +65,17 @@ mask-made draw w p low e h = h ∙ sym (ap (λ (g : Gate). maskBy draw w p g (ga
 
 -- .. where lower wires are read: their keys are cut by a length that has another name
 module _ (draw : Draw) (w p : ℕ) (keys : List ℕ) {m m′ : ℕ} (long : m ≡ m′) {gate : Gate} {ys : List ℕ} where
-  pub sum-made : {g : Pair} → gate ≡ Add g → ys ≡ addV p (nth keys m (g .a)) (nth keys m (g .b)) → ys ≡ zeroKeyBy draw w p gate (gateRecipe gate) (λ a. nth keys m′ a)
+  pub sum-made : {g : Pair} → gate ≡ Add g → ys ≡ addV p (nthPiece keys m (g .a)) (nthPiece keys m (g .b)) → ys ≡ zeroKeyBy draw w p gate (gateRecipe gate) (λ a. nthPiece keys m′ a)
   unfolding zeroKeyBy freelyV
-  sum-made {g} e h = key-made draw w p (λ a. nth keys m′ a) e (h ∙ ap (λ (l : ℕ). addV p (nth keys l (g .a)) (nth keys l (g .b))) long)
+  sum-made {g} e h = key-made draw w p (λ a. nthPiece keys m′ a) e (h ∙ ap (λ (l : ℕ). addV p (nthPiece keys l (g .a)) (nthPiece keys l (g .b))) long)
 
-  pub multiple-made : {g : Scaling} → gate ≡ Scale g → ys ≡ mulV p (g .constant) (nth keys m (g .a)) → ys ≡ zeroKeyBy draw w p gate (gateRecipe gate) (λ a. nth keys m′ a)
+  pub multiple-made : {g : Scaling} → gate ≡ Scale g → ys ≡ mulV p (g .constant) (nthPiece keys m (g .a)) → ys ≡ zeroKeyBy draw w p gate (gateRecipe gate) (λ a. nthPiece keys m′ a)
   unfolding zeroKeyBy freelyV
-  multiple-made {g} e h = key-made draw w p (λ a. nth keys m′ a) e (h ∙ ap (λ (l : ℕ). mulV p (g .constant) (nth keys l (g .a))) long)
+  multiple-made {g} e h = key-made draw w p (λ a. nthPiece keys m′ a) e (h ∙ ap (λ (l : ℕ). mulV p (g .constant) (nthPiece keys l (g .a))) long)
 
-  pub choice-made : {g : Choice} {base : List ℕ} → gate ≡ Select g → ys ≡ addV p base (nth keys m (g .a)) → base ≡ draw .key w 0 → ys ≡ zeroKeyBy draw w p gate (gateRecipe gate) (λ a. nth keys m′ a)
+  pub choice-made : {g : Choice} {base : List ℕ} → gate ≡ Select g → ys ≡ addV p base (nthPiece keys m (g .a)) → base ≡ draw .key w 0 → ys ≡ zeroKeyBy draw w p gate (gateRecipe gate) (λ a. nthPiece keys m′ a)
   unfolding zeroKeyBy
-  choice-made {g} {base} e h k = key-made draw w p (λ a. nth keys m′ a) e (h ∙ ap₂ (λ (b : List ℕ) (l : ℕ). addV p b (nth keys l (g .a))) k long)
+  choice-made {g} {base} e h k = key-made draw w p (λ a. nthPiece keys m′ a) e (h ∙ ap₂ (λ (b : List ℕ) (l : ℕ). addV p b (nthPiece keys l (g .a))) k long)
 
 pub choice-mask-made : (draw : Draw) (w p : ℕ) (low : ℕ → ℕ) {gate : Gate} {g : Choice} {y share : ℕ} → gate ≡ Select g → y ≡ add p share (low (g .a)) → share ≡ draw .mask w 0 → y ≡ maskBy draw w p gate (gateRecipe gate) low
 unfolding maskBy
@@ -119,12 +119,12 @@ module _ {file : List ℕ} {circuit : Circuit} {n K size : ℕ} {contributions :
   unfolding keysAt drawn keyAt
   drawn-key w {at} e =
       let k : at ≡ recordAt K wires w + K * 0 = omega arith in
-      ap₂ (λ (s a : ℕ). blocks n (λ party. part (nth contributions s party) a K)) (r .each) k
+      ap₂ (λ (s a : ℕ). blocks n (λ party. part (nthPiece contributions s party) a K)) (r .each) k
 
-  drawn-mask : (w : ℕ) {at : ℕ} → at ≡ recordAt K wires w + K * recordsOf wires w → maskAt n size contributions (modulusAt wires w) at ≡ draw .mask w 0
+  drawn-mask : (w : ℕ) {at : ℕ} → at ≡ recordAt K wires w + K * recordKeysOf wires w → maskAt n size contributions (modulusAt wires w) at ≡ draw .mask w 0
   unfolding maskAt drawn shareAt
   drawn-mask w {at} e =
-      let k : at ≡ recordAt K wires w + K * recordsOf wires w + 0 = e ∙ sym (add-zero _) in
+      let k : at ≡ recordAt K wires w + K * recordKeysOf wires w + 0 = e ∙ sym (add-zero _) in
       ap₂ (λ (s a : ℕ). maskAt n s contributions (modulusAt wires w) a) (r .each) k
 
   -- ---- zero keys
@@ -133,13 +133,13 @@ module _ {file : List ℕ} {circuit : Circuit} {n K size : ℕ} {contributions :
   keys-start e = level-start (omega arith)
 
   module _ {keys₀ keys : List ℕ} {w at to : ℕ} (h : w < circuit .made) (here : at ≡ recordAt K wires w) (done : Level keys₀ 0 w (circuit .made) (n * K) (zeroKey wires draw) to keys) where
-    lower-key : (a : ℕ) → a < w → nth keys (n * K) a ≡ zeroKey wires draw a
+    lower-key : (a : ℕ) → a < w → nthPiece keys (n * K) a ≡ zeroKey wires draw a
     lower-key a l = level-read done a l (λ k m. zero-key-size r k (omega arith))
 
     stands : {a : ℕ} → a < w → Stands (n * K) keys a
     stands {a} l = record { inside = le-trans (times-fits a w (n * K) l) (omega (arith, level-place done, steps-fits done h)) }
 
-    first-key : {gate : Gate} → wireAt (circuit .wires) w .gate ≡ gate → 0 < recordsBy (gateRecipe gate) → at + K ≤ size
+    first-key : {gate : Gate} → wireAt (circuit .wires) w .gate ≡ gate → 0 < recordKeysBy (gateRecipe gate) → at + K ≤ size
     first-key is l = omega (arith, key-here r h here 0 (rw is l))
 
     keys-by-kind : {gate : Gate} → GateFits file wires w gate → wireAt (circuit .wires) w .gate ≡ gate → KeysReady (n * K) K size at keys gate
@@ -160,11 +160,11 @@ module _ {file : List ℕ} {circuit : Circuit} {n K size : ℕ} {contributions :
         }
 
     pub keys-step : {m : ℕ} {keys′ : List ℕ} → m ≡ n * K
-        → Put n K to (zeroKeyBy (ofWire (keysAt n K size contributions at) 0) 0 (modulusAt (circuit .wires) w) (wireAt (circuit .wires) w .gate) (recipe (wireAt (circuit .wires) w)) (λ a. nth keys (n * K) a)) keys keys′
+        → Put n K to (zeroKeyBy (ofWire (keysAt n K size contributions at) 0) 0 (modulusAt (circuit .wires) w) (wireAt (circuit .wires) w .gate) (recipe (wireAt (circuit .wires) w)) (λ a. nthPiece keys (n * K) a)) keys keys′
         → Level keys₀ 0 (w + 1) (circuit .made) (n * K) (zeroKey wires draw) (to + m) keys′
     keys-step {m} {keys′} e put =
         steps-put done h (omega arith) (put .long) (put .eq)
-        (ap (λ (wire : Wire). zeroKeyBy (ofWire (keysAt n K size contributions at) 0) 0 (wire .modulus) (wire .gate) (recipe wire) (λ a. nth keys (n * K) a)) (sym (wire-at (circuit .wires) (circuit .made) w h))
+        (ap (λ (wire : Wire). zeroKeyBy (ofWire (keysAt n K size contributions at) 0) 0 (wire .modulus) (wire .gate) (recipe wire) (λ a. nthPiece keys (n * K) a)) (sym (wire-at (circuit .wires) (circuit .made) w h))
         ∙ same-key draw (modulusAt wires w) _ 0 _ (zeroKey wires draw) (drawn-key w here) (r .accepted .fits w (within r h) .gate) lower-key
         ∙ sym (zeroKey-step (r .accepted) w (within r h) draw))
 
@@ -183,7 +183,7 @@ module _ {file : List ℕ} {circuit : Circuit} {n K size : ℕ} {contributions :
   pub masks-start : {masks : List ℕ} → masks ≡ replicate 1024 0 → Filled masks 0 (circuit .made) target masks
   masks-start e = filled-start target-long (omega (arith, r .held .room .made, masks-long e))
 
-  module _ {masks₀ masks : List ℕ} {w at shares : ℕ} (h : w < circuit .made) (here : at ≡ recordAt K wires w) (behind : shares ≡ K * recordsBy (recipe (wireAt (circuit .wires) w)))
+  module _ {masks₀ masks : List ℕ} {w at shares : ℕ} (h : w < circuit .made) (here : at ≡ recordAt K wires w) (behind : shares ≡ K * recordKeysBy (recipe (wireAt (circuit .wires) w)))
       (done : Filled masks₀ w (circuit .made) target masks) where
     lower-mask : (a : ℕ) → a < w → getD masks a 0 ≡ mask wires draw a
     lower-mask a l =
@@ -200,7 +200,7 @@ module _ {file : List ℕ} {circuit : Circuit} {n K size : ℕ} {contributions :
           below = rw (lower-mask a (fits .lower), ← fits .same) (mask-below r a (omega (arith, fits .lower)));
         }
 
-    first-share : {gate : Gate} → wireAt (circuit .wires) w .gate ≡ gate → 0 < recordsBy (gateRecipe gate) → at + shares < size
+    first-share : {gate : Gate} → wireAt (circuit .wires) w .gate ≡ gate → 0 < recordKeysBy (gateRecipe gate) → at + shares < size
     first-share is l = omega (arith, share-here r h here 0 (rw is l) behind)
 
     mask-by-kind : {gate : Gate} → GateFits file wires w gate → wireAt (circuit .wires) w .gate ≡ gate → MaskReady (modulusAt wires w) size (at + shares) masks gate
@@ -227,7 +227,7 @@ module _ {file : List ℕ} {circuit : Circuit} {n K size : ℕ} {contributions :
         → v ≡ maskBy (ofWire [] (maskAt n size contributions (modulusAt (circuit .wires) w) (at + shares))) 0 (modulusAt (circuit .wires) w) (wireAt (circuit .wires) w .gate) (recipe (wireAt (circuit .wires) w)) (λ a. getD masks a 0)
         → Filled masks₀ (w + 1) (circuit .made) target (set masks w v)
     masks-step {v} e =
-        let place : at + shares ≡ recordAt K wires w + K * recordsOf wires w = ap₂ _+_ here (behind ∙ ap (λ (m : ℕ). K * m) (records-here r h here)) in
+        let place : at + shares ≡ recordAt K wires w + K * recordKeysOf wires w = ap₂ _+_ here (behind ∙ ap (λ (m : ℕ). K * m) (records-here r h here)) in
         filled-step done h
         (mask-of r w
         ∙ mask-step (r .accepted) w (within r h) draw

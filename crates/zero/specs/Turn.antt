@@ -4,7 +4,7 @@ use mathlib.Core.Path.{_≡_}
 use mathlib.Core.List.{List, []}
 use Prim.Native.Nat.{ℕ, _+_, _*_, _%_, _≤_, _<_}
 use lib.ListN.{length, getD}
-use Rattle.lists.specs.Blocks.{blocks, sumTo, part, nth, written}
+use Rattle.lists.specs.Blocks.{blocks, sumTo, part, nthPiece, written}
 use Rattle.words.specs.declared.gate.Pair.{Pair}
 use Rattle.words.specs.declared.gate.Gate.{Gate}
 use Rattle.words.specs.declared.gate.Gate.the-variants.{Input, Add, Scale, Multiply, Project, Select}
@@ -17,10 +17,10 @@ ofWire key mask = record { offset = λ p. []; key = λ w j. key; mask = λ w j. 
 
 -- the keys of n parties at one place of their contributions, and the sum of their shares at one place
 unfoldable pub keysAt : ℕ → ℕ → ℕ → List ℕ → ℕ → List ℕ
-keysAt n K size contributions at = blocks n (λ party. part (nth contributions size party) at K)
+keysAt n K size contributions at = blocks n (λ party. part (nthPiece contributions size party) at K)
 
 unfoldable pub maskAt : ℕ → ℕ → List ℕ → ℕ → ℕ → ℕ
-maskAt n size contributions p at = sumTo n (λ party. getD (nth contributions size party) at 0) % p
+maskAt n size contributions p at = sumTo n (λ party. getD (nthPiece contributions size party) at 0) % p
 
 -- wire a has its m bytes of keys
 pub record Stands (m : ℕ) (keys : List ℕ) (a : ℕ) : Type 0 where

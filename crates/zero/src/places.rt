@@ -2,7 +2,7 @@
 ghost use mathlib.Core.Path.{_≡_};
 ghost use Prim.Native.Nat.{_+_, _*_, _≤_};
 ghost use Rattle.counts.specs.Recipe.{recipe};
-ghost use Rattle.counts.specs.Counts.{recordsBy, Room};
+ghost use Rattle.counts.specs.Counts.{recordKeysBy, Room};
 ghost use Rattle.session.specs.Held.{wiresIn};
 ghost use Rattle.scheme.specs.Contribution.{recordAt};
 use circuit::Circuit;
@@ -25,7 +25,7 @@ pub fn first_record(circuit: Circuit, k: usize) -> usize
 // The bytes of a record's keys: its mask shares stand behind them.
 pub fn record_keys(wire: Wire, k: usize) -> usize
     requires { ⌜ k ≤ 128 ⌝ }
-    ensures { λ r. ⌜ r ≡ k * recordsBy (recipe wire) ⌝ }
+    ensures { λ r. ⌜ r ≡ k * recordKeysBy (recipe wire) ⌝ }
 {
     k * index(counts::record_count(wire))
 }
@@ -33,7 +33,7 @@ pub fn record_keys(wire: Wire, k: usize) -> usize
 // The bytes of a record: keys, and as many shares.
 pub fn record_size(wire: Wire, k: usize) -> usize
     requires { ⌜ k ≤ 128 ⌝ }
-    ensures { λ r. ⌜ r ≡ (k + 1) * recordsBy (recipe wire) ⌝ }
+    ensures { λ r. ⌜ r ≡ (k + 1) * recordKeysBy (recipe wire) ⌝ }
 {
     (k + 1) * index(counts::record_count(wire))
 }

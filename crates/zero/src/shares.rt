@@ -2,14 +2,14 @@
 ghost use mathlib.Core.Path.{_≡_};
 ghost use Prim.Native.Nat.{_+_, _*_, _%_, _≤_, _<_};
 ghost use lib.ListN.{length, getD};
-ghost use Rattle.lists.specs.Blocks.{blocks, sumTo, part, nth};
+ghost use Rattle.lists.specs.Blocks.{blocks, sumTo, part, nthPiece};
 ghost use Rattle.counts.specs.Counts.{Counts};
 
 // The `k` bytes from place `at` on of each of `n` contributions of `size` bytes.
 pub fn gather(contributions: &[u8], n: usize, k: usize, size: usize, at: usize, out: &mut [u8])
     requires { ⌜ (length (now contributions) ≡ n * size) × (at + k ≤ size) ⌝ }
     requires { ⌜ length (now out) ≡ n * k ⌝ }
-    ensures { λ _. ⌜ now (out .exit) ≡ blocks n (λ party. part (nth (now (contributions .entry)) size party) at k) ⌝ }
+    ensures { λ _. ⌜ now (out .exit) ≡ blocks n (λ party. part (nthPiece (now (contributions .entry)) size party) at k) ⌝ }
 {
     let mut to = 0;
     let mut party = 0;
@@ -27,7 +27,7 @@ pub fn gather(contributions: &[u8], n: usize, k: usize, size: usize, at: usize, 
 pub fn share_sum(contributions: &[u8], n: usize, size: usize, at: usize, p: u8) -> u8
     requires { ⌜ (length (now contributions) ≡ n * size) × (at < size) ⌝ }
     requires { ⌜ (n ≤ 8) × (0 < p) ⌝ }
-    ensures { λ r. ⌜ r ≡ sumTo n (λ party. getD (nth (now (contributions .entry)) size party) at 0) % p ⌝ }
+    ensures { λ r. ⌜ r ≡ sumTo n (λ party. getD (nthPiece (now (contributions .entry)) size party) at 0) % p ⌝ }
 {
     let mut total = 0;
     let mut party = 0;

@@ -2,7 +2,7 @@
 ghost use mathlib.Core.Path.{_≡_};
 ghost use Prim.Native.Nat.{_+_, _*_, _≤_, _<_};
 ghost use lib.ListN.{length};
-ghost use Rattle.lists.specs.Blocks.{nth};
+ghost use Rattle.lists.specs.Blocks.{nthPiece};
 ghost use Rattle.residue.specs.Vector.{addV, mulV};
 ghost use Rattle.counts.specs.Recipe.{recipe};
 ghost use Rattle.scheme.specs.Zero.{zeroKeyBy};
@@ -20,7 +20,7 @@ use words::Wire;
 
 fn sum(p: u8, gate: Pair, keys: &[u8], out: &mut [u8])
     requires { ⌜ (0 < p) × (Stands (length (now out)) (now keys) (gate .a) × Stands (length (now out)) (now keys) (gate .b)) ⌝ }
-    ensures { λ _. ⌜ now (out .exit) ≡ addV p (nth (now (keys .entry)) (length (now (out .entry))) (gate .a)) (nth (now (keys .entry)) (length (now (out .entry))) (gate .b)) ⌝ }
+    ensures { λ _. ⌜ now (out .exit) ≡ addV p (nthPiece (now (keys .entry)) (length (now (out .entry))) (gate .a)) (nthPiece (now (keys .entry)) (length (now (out .entry))) (gate .b)) ⌝ }
 {
     let m = out.len();
     let a = lists::nth_piece(keys, m, gate.a as usize);
@@ -30,7 +30,7 @@ fn sum(p: u8, gate: Pair, keys: &[u8], out: &mut [u8])
 
 fn multiple(p: u8, gate: Scaling, keys: &[u8], out: &mut [u8])
     requires { ⌜ (0 < p) × Stands (length (now out)) (now keys) (gate .a) ⌝ }
-    ensures { λ _. ⌜ now (out .exit) ≡ mulV p (gate .constant) (nth (now (keys .entry)) (length (now (out .entry))) (gate .a)) ⌝ }
+    ensures { λ _. ⌜ now (out .exit) ≡ mulV p (gate .constant) (nthPiece (now (keys .entry)) (length (now (out .entry))) (gate .a)) ⌝ }
 {
     let m = out.len();
     let a = lists::nth_piece(keys, m, gate.a as usize);
@@ -41,7 +41,7 @@ fn multiple(p: u8, gate: Scaling, keys: &[u8], out: &mut [u8])
 // Adds the keys of wire a, which a choice gives at 0.
 fn add_first(p: u8, gate: Choice, keys: &[u8], out: &mut [u8])
     requires { ⌜ (0 < p) × Stands (length (now out)) (now keys) (gate .a) ⌝ }
-    ensures { λ _. ⌜ now (out .exit) ≡ addV p (now (out .entry)) (nth (now (keys .entry)) (length (now (out .entry))) (gate .a)) ⌝ }
+    ensures { λ _. ⌜ now (out .exit) ≡ addV p (now (out .entry)) (nthPiece (now (keys .entry)) (length (now (out .entry))) (gate .a)) ⌝ }
 {
     let m = out.len();
     let a = lists::nth_piece(keys, m, gate.a as usize);
@@ -61,7 +61,7 @@ fn put_zero_key(
 )
     requires { ⌜ KeysAsked n k size at (wire .modulus) (wire .gate) (now contributions) (now keys) ⌝ }
     requires { ⌜ length (now out) ≡ n * k ⌝ }
-    ensures { λ _. ⌜ now (out .exit) ≡ zeroKeyBy (ofWire (keysAt n k size (now (contributions .entry)) at) 0) 0 (wire .modulus) (wire .gate) (recipe wire) (λ a. nth (now (keys .entry)) (n * k) a) ⌝ }
+    ensures { λ _. ⌜ now (out .exit) ≡ zeroKeyBy (ofWire (keysAt n k size (now (contributions .entry)) at) 0) 0 (wire .modulus) (wire .gate) (recipe wire) (λ a. nthPiece (now (keys .entry)) (n * k) a) ⌝ }
 {
     let gate = wire.gate;
     let p = wire.modulus;
@@ -98,7 +98,7 @@ fn put_made(
 )
     requires { ⌜ KeysAsked n k size at (wire .modulus) (wire .gate) (now contributions) (now keys) ⌝ }
     requires { ⌜ (length (now key) ≡ n * k) × (to + n * k ≤ length (now keys)) ⌝ }
-    ensures { λ _. ⌜ Put n k to (zeroKeyBy (ofWire (keysAt n k size (now (contributions .entry)) at) 0) 0 (wire .modulus) (wire .gate) (recipe wire) (λ a. nth (now (keys .entry)) (n * k) a)) (now (keys .entry)) (now (keys .exit)) ⌝ }
+    ensures { λ _. ⌜ Put n k to (zeroKeyBy (ofWire (keysAt n k size (now (contributions .entry)) at) 0) 0 (wire .modulus) (wire .gate) (recipe wire) (λ a. nthPiece (now (keys .entry)) (n * k) a)) (now (keys .entry)) (now (keys .exit)) ⌝ }
 {
     put_zero_key(wire, at, n, k, size, contributions, &*keys, &mut *key);
     lists::put_at(keys, to, &*key);
@@ -116,7 +116,7 @@ fn put_wire(
 )
     requires { ⌜ KeysAsked n k size at (wire .modulus) (wire .gate) (now contributions) (now keys) ⌝ }
     requires { ⌜ (n * k ≤ 1024) × (to + n * k ≤ length (now keys)) ⌝ }
-    ensures { λ _. ⌜ Put n k to (zeroKeyBy (ofWire (keysAt n k size (now (contributions .entry)) at) 0) 0 (wire .modulus) (wire .gate) (recipe wire) (λ a. nth (now (keys .entry)) (n * k) a)) (now (keys .entry)) (now (keys .exit)) ⌝ }
+    ensures { λ _. ⌜ Put n k to (zeroKeyBy (ofWire (keysAt n k size (now (contributions .entry)) at) 0) 0 (wire .modulus) (wire .gate) (recipe wire) (λ a. nthPiece (now (keys .entry)) (n * k) a)) (now (keys .entry)) (now (keys .exit)) ⌝ }
 {
     let m = n * k;
     let mut key = scratch();

@@ -6,7 +6,7 @@ use lib.ListN.{length}
 use Rattle.lists.specs.Blocks.{runs}
 use Rattle.lists.proofs.Sums.{sumTo-times}
 use Rattle.circuit.specs.Wires.{modulusAt}
-use Rattle.counts.specs.Counts.{recordsOf}
+use Rattle.counts.specs.Counts.{recordKeysOf}
 use Rattle.session.specs.Held.{wiresIn}
 use Rattle.contribution.proofs.Sizes.{times-most}
 use Rattle.contribution.proofs.Wired.{made-are, modulus-is, records-are}
@@ -15,7 +15,7 @@ use Rattle.contribution.proofs.contributed.first_in_records.Statement.{
 use Rattle.contribution.proofs.contributed.first_in_records.Tie as tie
 
 abbrev Inv-loop : tie.InvT-loop
-Inv-loop k bytes circuit made at₀ w₀ at w = Searched bytes (runs (length (wiresIn circuit)) (λ v. (k + 1) * recordsOf (wiresIn circuit) v) (modulusAt (wiresIn circuit))) (length (wiresIn circuit)) (λ v. (k + 1) * recordsOf (wiresIn circuit) v) w at
+Inv-loop k bytes circuit made at₀ w₀ at w = Searched bytes (runs (length (wiresIn circuit)) (λ v. (k + 1) * recordKeysOf (wiresIn circuit) v) (modulusAt (wiresIn circuit))) (length (wiresIn circuit)) (λ v. (k + 1) * recordKeysOf (wiresIn circuit) v) w at
 
 abbrev μ-loop : tie.MeasureT-loop
 μ-loop k bytes circuit made at₀ w₀ at w = circuit .made - w
@@ -26,7 +26,7 @@ first-in-records-spec =
     (tie.spec
     Inv-loop
     μ-loop
-    (λ c. searched-start (sumTo-times (length (wiresIn (c .before .args .t1))) (c .before .args .k + 1) (recordsOf (wiresIn (c .before .args .t1))) ∙ sym (c .before .pre .1)))
+    (λ c. searched-start (sumTo-times (length (wiresIn (c .before .args .t1))) (c .before .args .k + 1) (recordKeysOf (wiresIn (c .before .args .t1))) ∙ sym (c .before .pre .1)))
     (λ c. omega (arith, c .before .before .before .pre .0 .0 .made))
     (λ c. omega (arith, c .before .before .before .pre .0 .0 .made))
     (λ c. omega arith)

@@ -4,7 +4,7 @@ use Prim.Native.Nat.{ℕ, _*_}
 use native.Mathlib.Omega.{arith}
 use borrow.Author.Needs.{needs}
 use lib.ListN.{getD}
-use Rattle.lists.specs.Blocks.{nth}
+use Rattle.lists.specs.Blocks.{nthPiece}
 use Rattle.garbling.specs.Source.{productHere}
 use Rattle.garbling.proofs.Fronts.{vector-fits, front-long, front-vector}
 use Rattle.garbling.proofs.Alike.{product-same, operand-at}
@@ -84,8 +84,8 @@ returns c =
     let a = c .before .before .before .before .before .before .before .before .before .before .before .before .before .before .before .before .before .before .before .before .before .before .before .args in
     c .before .before .product-rows .ensures
     ∙ product-same (a .n) (a .k) (a .w) (a .p) (c .before .before .before .before .before .before .before .before .before .before .before .before .before .offsets .ensures .front)
-    (c .before .before .before .before .before .before .before .before .before .before .before .before .before .before .before .nth-piece .ensures .0 ∙ ap (λ (i : ℕ). nth (a .keys .now) (a .n * a .k) i) (c .before .before .before .before .before .before .before .before .before .before .before .before .before .before .before .before .before .index .ensures)) (ap (λ (i : ℕ). getD (a .masks .now) i 0) (c .before .before .before .before .before .before .before .before .before .before .before .before .before .before .before .before .before .index .ensures))
-    (c .before .before .before .before .before .before .before .before .before .before .before .before .before .before .nth-piece2 .ensures .0 ∙ ap (λ (i : ℕ). nth (a .keys .now) (a .n * a .k) i) (c .before .before .before .before .before .before .before .before .before .before .before .before .before .before .before .before .index2 .ensures)) (ap (λ (i : ℕ). getD (a .masks .now) i 0) (c .before .before .before .before .before .before .before .before .before .before .before .before .before .before .before .before .index2 .ensures))
+    (c .before .before .before .before .before .before .before .before .before .before .before .before .before .before .before .nth-piece .ensures .0 ∙ ap (λ (i : ℕ). nthPiece (a .keys .now) (a .n * a .k) i) (c .before .before .before .before .before .before .before .before .before .before .before .before .before .before .before .before .before .index .ensures)) (ap (λ (i : ℕ). getD (a .masks .now) i 0) (c .before .before .before .before .before .before .before .before .before .before .before .before .before .before .before .before .before .index .ensures))
+    (c .before .before .before .before .before .before .before .before .before .before .before .before .before .before .nth-piece2 .ensures .0 ∙ ap (λ (i : ℕ). nthPiece (a .keys .now) (a .n * a .k) i) (c .before .before .before .before .before .before .before .before .before .before .before .before .before .before .before .before .index2 .ensures)) (ap (λ (i : ℕ). getD (a .masks .now) i 0) (c .before .before .before .before .before .before .before .before .before .before .before .before .before .before .before .before .index2 .ensures))
     (c .before .before .before .before .before .before .before .before .before .before .before .before .record-key .ensures .front) (c .before .before .before .before .before .before .before .before .before .before .before .record-key2 .ensures .front) (c .before .before .before .before .before .before .before .before .before .before .record-mask .ensures .0) (c .before .before .before .before .before .before .before .before .before .record-mask2 .ensures .0)
 
 pub put-product-spec : {M : Type 1} → statement M

@@ -2,7 +2,7 @@
 use mathlib.Core.Path.{_≡_, refl, sym, _∙_}
 use Prim.Native.Nat.{_-_, _+_, _*_}
 use native.Mathlib.Omega.{arith}
-use Rattle.lists.specs.Blocks.{blocks, nth}
+use Rattle.lists.specs.Blocks.{blocks, nthPiece}
 use Rattle.lists.proofs.Sums.{times-fits, times-next}
 use Rattle.lists.proofs.Steps.{Level, level-start, level-inner, level-nest, level-whole, steps-fits, steps-long, steps-call}
 use Rattle.rehearsal.proofs.Interleaved.{key-fits, key-next, key-there}
@@ -14,13 +14,13 @@ use Rattle.lists.proofs.copy.Reads as copy-reads
 use Rattle.lists.proofs.piece.Reads as piece-reads
 
 abbrev Inv-loop2 : tie.InvT-loop2
-Inv-loop2 n k inputs each mine keys₀ at₀ first w from₀ party₀ keys at from party = (from ≡ w * k + party * each) × Level keys₀ at₀ party n k (λ each-party. nth (nth mine each each-party) k w) at keys
+Inv-loop2 n k inputs each mine keys₀ at₀ first w from₀ party₀ keys at from party = (from ≡ w * k + party * each) × Level keys₀ at₀ party n k (λ each-party. nthPiece (nthPiece mine each each-party) k w) at keys
 
 abbrev μ-loop2 : tie.MeasureT-loop2
 μ-loop2 n k inputs each mine keys₀ at₀ first w from₀ party₀ keys at from party = n - party
 
 abbrev Inv-loop : tie.InvT-loop
-Inv-loop n k inputs each mine keys₀ at₀ first₀ w₀ keys at first w = (first ≡ w * k) × Level keys₀ 0 w inputs (n * k) (λ v. blocks n (λ party. nth (nth mine each party) k v)) at keys
+Inv-loop n k inputs each mine keys₀ at₀ first₀ w₀ keys at first w = (first ≡ w * k) × Level keys₀ 0 w inputs (n * k) (λ v. blocks n (λ party. nthPiece (nthPiece mine each party) k v)) at keys
 
 abbrev μ-loop : tie.MeasureT-loop
 μ-loop n k inputs each mine keys₀ at₀ first₀ w₀ keys at first w = inputs - w

@@ -2,7 +2,7 @@
 use mathlib.Core.Bool.{true, false, not}
 use Prim.Native.Nat.{_*_, _+_, _-_}
 use native.Mathlib.Omega.{arith}
-use Rattle.lists.specs.Blocks.{nth}
+use Rattle.lists.specs.Blocks.{nthPiece}
 use Rattle.lists.proofs.Search.{Looking, looking-start, looking-on, looking-found, looking-none}
 use Rattle.search.specs.Search.{same}
 use Rattle.exchange.proofs.KeyPlaces.{small-product}
@@ -11,7 +11,7 @@ use Rattle.ring.proofs.opened.first_other.Statement.{statement}
 use Rattle.ring.proofs.opened.first_other.Tie as tie
 
 abbrev Inv-loop : tie.InvT-loop
-Inv-loop n k party inputs keys own w₀ w = Looking inputs (λ v. not (same (nth keys k (v * n + party)) (nth own k v))) w
+Inv-loop n k party inputs keys own w₀ w = Looking inputs (λ v. not (same (nthPiece keys k (v * n + party)) (nthPiece own k v))) w
 
 abbrev μ-loop : tie.MeasureT-loop
 μ-loop n k party inputs keys own w₀ w = inputs - w

@@ -6,12 +6,12 @@ use Prim.Native.Nat.{ℕ, _-_}
 use native.Mathlib.Omega.{arith}
 use Rattle.lists.proofs.Steps.{Level, level-start, level-whole, steps-fits, steps-long, steps-call}
 use Rattle.lists.proofs.Sums.{times-fits}
-use Rattle.lists.specs.Blocks.{part, nth}
+use Rattle.lists.specs.Blocks.{part, nthPiece}
 use Rattle.zero.proofs.shares.gather.Statement.{statement}
 use Rattle.zero.proofs.shares.gather.Tie as tie
 
 abbrev Inv-loop : tie.InvT-loop
-Inv-loop contributions n k size at out₀ to₀ party₀ out to party = Level out₀ 0 party n k (λ i. part (nth contributions size i) at k) to out
+Inv-loop contributions n k size at out₀ to₀ party₀ out to party = Level out₀ 0 party n k (λ i. part (nthPiece contributions size i) at k) to out
 
 abbrev μ-loop : tie.MeasureT-loop
 μ-loop contributions n k size at out₀ to₀ party₀ out to party = n - party

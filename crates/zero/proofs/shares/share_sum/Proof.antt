@@ -7,13 +7,13 @@ use native.Mathlib.Omega.{arith}
 use borrow.Author.Needs.{needs}
 use lib.ListN.{getD}
 use Rattle.lists.proofs.Sums.{times-fits}
-use Rattle.lists.specs.Blocks.{sumTo, nth}
+use Rattle.lists.specs.Blocks.{sumTo, nthPiece}
 use Rattle.counts.proofs.Counting.{Summed, summed-start, summed-step}
 use Rattle.zero.proofs.shares.share_sum.Statement.{statement}
 use Rattle.zero.proofs.shares.share_sum.Tie as tie
 
 abbrev Inv-loop : tie.InvT-loop
-Inv-loop contributions n size at p total₀ party₀ total party = Summed 255 (λ i. getD (nth contributions size i) at 0) n party total
+Inv-loop contributions n size at p total₀ party₀ total party = Summed 255 (λ i. getD (nthPiece contributions size i) at 0) n party total
 
 abbrev μ-loop : tie.MeasureT-loop
 μ-loop contributions n size at p total₀ party₀ total party = n - party
@@ -48,7 +48,7 @@ reduced-requires c κs = c .before .before .before .pre .1 .1
 returns : tie.Need-returns Inv-loop μ-loop
 returns c =
     let all : c .before .before .loop .party ≡ c .before .before .before .before .args .n = omega (arith, c .before .before .loop .inv .turns, c .before .loop-test .left) in
-    c .reduced .ensures ∙ ap (λ (t : ℕ). t % c .before .before .before .before .args .p) (c .before .before .loop .inv .is ∙ ap (λ (m : ℕ). sumTo m (λ i. getD (nth (c .before .before .before .before .args .contributions .now) (c .before .before .before .before .args .size) i) (c .before .before .before .before .args .at) 0)) all)
+    c .reduced .ensures ∙ ap (λ (t : ℕ). t % c .before .before .before .before .args .p) (c .before .before .loop .inv .is ∙ ap (λ (m : ℕ). sumTo m (λ i. getD (nthPiece (c .before .before .before .before .args .contributions .now) (c .before .before .before .before .args .size) i) (c .before .before .before .before .args .at) 0)) all)
 
 pub share-sum-spec : {M : Type 1} → statement M
 share-sum-spec =

@@ -3,7 +3,7 @@
 use mathlib.Core.Path.{_∙_}
 use Prim.Native.Nat.{_*_}
 use borrow.Author.Needs.{needs}
-use Rattle.lists.specs.Blocks.{nth}
+use Rattle.lists.specs.Blocks.{nthPiece}
 use Rattle.scheme.specs.Zero.{freelyV, zeroKeyBy}
 use Rattle.zero.specs.Turn.{ofWire, keysAt}
 use Rattle.zero.proofs.Turns.{keys-known, stands-as, key-made, sum-made, multiple-made, choice-made}
@@ -56,7 +56,7 @@ returns : tie.Need-returns
 unfolding zeroKeyBy freelyV ofWire keysAt
 returns c =
     let a = c .before .before .before .before .before .before .before .before .before .args in
-    key-made (ofWire (keysAt (a .n) (a .k) (a .size) (a .contributions .now) (a .at)) 0) 0 (a .wire .modulus) (λ i. nth (a .keys .now) (a .n * a .k) i) (c .before .before .before .before .enum-told .given .1) (c .before .before .gather .ensures)
+    key-made (ofWire (keysAt (a .n) (a .k) (a .size) (a .contributions .now) (a .at)) 0) 0 (a .wire .modulus) (λ i. nthPiece (a .keys .now) (a .n * a .k) i) (c .before .before .before .before .enum-told .given .1) (c .before .before .gather .ensures)
 
 same-length-2 : tie.Need-same-length-2
 same-length-2 c = search needs
@@ -81,7 +81,7 @@ returns-4 : tie.Need-returns-4
 unfolding zeroKeyBy freelyV ofWire keysAt
 returns-4 c =
     let a = c .before .before .before .before .before .before .before .before .before .args in
-    key-made (ofWire (keysAt (a .n) (a .k) (a .size) (a .contributions .now) (a .at)) 0) 0 (a .wire .modulus) (λ i. nth (a .keys .now) (a .n * a .k) i) (c .before .before .before .before .enum-told2 .given .1) (c .before .before .gather2 .ensures)
+    key-made (ofWire (keysAt (a .n) (a .k) (a .size) (a .contributions .now) (a .at)) 0) 0 (a .wire .modulus) (λ i. nthPiece (a .keys .now) (a .n * a .k) i) (c .before .before .before .before .enum-told2 .given .1) (c .before .before .gather2 .ensures)
 
 same-length-5 : tie.Need-same-length-5
 same-length-5 c = search needs
@@ -90,7 +90,7 @@ returns-5 : tie.Need-returns-5
 unfolding zeroKeyBy freelyV ofWire keysAt
 returns-5 c =
     let a = c .before .before .before .before .before .before .before .before .before .args in
-    key-made (ofWire (keysAt (a .n) (a .k) (a .size) (a .contributions .now) (a .at)) 0) 0 (a .wire .modulus) (λ i. nth (a .keys .now) (a .n * a .k) i) (c .before .before .before .before .enum-told3 .given .1) (c .before .before .gather3 .ensures)
+    key-made (ofWire (keysAt (a .n) (a .k) (a .size) (a .contributions .now) (a .at)) 0) 0 (a .wire .modulus) (λ i. nthPiece (a .keys .now) (a .n * a .k) i) (c .before .before .before .before .enum-told3 .given .1) (c .before .before .gather3 .ensures)
 
 same-length-6 : tie.Need-same-length-6
 same-length-6 c = search needs
