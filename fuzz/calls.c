@@ -22,14 +22,12 @@ enum { MOST_WIRES = 1024, MOST_OUTPUTS = 256, MOST_WORDS = 1 << 16, MOST_ROWS = 
 enum { FILL = 255, SLACK = 256 };   /* what written buffers hold before a call, and how far around them it is looked at afterwards */
 enum { MOST_PERMUTATIONS = 60000 }; /* of a round: about 20 ms; a dearer one is not played */
 
-static void fail(const char *what)
-{
+static void fail(const char *what) {
     fprintf(stderr, "property broken: %s\n", what);
     abort();
 }
 
-static void check(int holds, const char *what)
-{
+static void check(int holds, const char *what) {
     if (!holds)
         fail(what);
 }
@@ -58,8 +56,7 @@ _Static_assert(sizeof head == 44, "fuzz/run writes heads of 44 bytes");
 static uint64_t random_state;
 
 /* splitmix64: enough for contents, which the input only seeds */
-static uint32_t drawn(uint32_t below)
-{
+static uint32_t drawn(uint32_t below) {
     uint64_t z = random_state += 0x9E3779B97F4A7C15u;
     z = (z ^ z >> 30) * 0xBF58476D1CE4E5B9u;
     z = (z ^ z >> 27) * 0x94D049BB133111EBu;
@@ -87,8 +84,7 @@ static struct buffer *const all[] = {&file, &numbers, &count, &meter, &values, &
 enum { BUFFERS = sizeof all / sizeof all[0] };
 
 /* Room bytes of a shared object, with a page before and after that faults. */
-static uint8_t *mapped(int object, size_t room, int protection)
-{
+static uint8_t *mapped(int object, size_t room, int protection) {
     size_t page = (size_t)sysconf(_SC_PAGESIZE);
     uint8_t *around = mmap(NULL, room + 2 * page, PROT_NONE, MAP_PRIVATE | MAP_ANONYMOUS, -1, 0);
     if (around == MAP_FAILED || mmap(around + page, room, protection, MAP_SHARED | MAP_FIXED, object, 0) == MAP_FAILED) {
@@ -98,8 +94,7 @@ static uint8_t *mapped(int object, size_t room, int protection)
     return around + page;
 }
 
-static void map_buffers(void)
-{
+static void map_buffers(void) {
     for (size_t i = 0; i < BUFFERS; i++) {
         int object = memfd_create("lent", 0);
         if (object < 0 || ftruncate(object, (off_t)all[i]->room) != 0) {
@@ -112,41 +107,34 @@ static void map_buffers(void)
     }
 }
 
-static size_t start(const struct buffer *b)
-{
+static size_t start(const struct buffer *b) {
     return head.lying & 1 ? 0 : b->room - b->length;
 }
 
 /* The bytes of a buffer, for this program, or lent to be written; and lent to be read. */
-static uint8_t *bytes(const struct buffer *b)
-{
+static uint8_t *bytes(const struct buffer *b) {
     return b->mine + start(b);
 }
 
-static uint8_t *lent(const struct buffer *b)
-{
+static uint8_t *lent(const struct buffer *b) {
     return b->length == 0 && head.lying & 2 ? NULL : bytes(b);
 }
 
-static const uint8_t *shown(const struct buffer *b)
-{
+static const uint8_t *shown(const struct buffer *b) {
     return b->length == 0 && head.lying & 2 ? NULL : b->theirs + start(b);
 }
 
 /* A length, but no more than there is space for. */
-static void set_length(struct buffer *b, size_t length)
-{
+static void set_length(struct buffer *b, size_t length) {
     b->length = length < b->room - SLACK ? length : b->room - SLACK;
 }
 
-static void set_bytes(struct buffer *b, const uint8_t *from)
-{
+static void set_bytes(struct buffer *b, const uint8_t *from) {
     if (b->length > 0)
         memcpy(bytes(b), from, b->length);
 }
 
-static int all_are(const uint8_t *from, const uint8_t *to, uint8_t byte)
-{
+static int all_are(const uint8_t *from, const uint8_t *to, uint8_t byte) {
     while (from < to)
         if (*from++ != byte)
             return 0;
@@ -154,13 +142,11 @@ static int all_are(const uint8_t *from, const uint8_t *to, uint8_t byte)
 }
 
 /* Where the bytes around a buffer that are looked at begin and end. */
-static uint8_t *slack_start(const struct buffer *b)
-{
+static uint8_t *slack_start(const struct buffer *b) {
     return start(b) < SLACK ? b->mine : bytes(b) - SLACK;
 }
 
-static uint8_t *slack_end(const struct buffer *b)
-{
+static uint8_t *slack_end(const struct buffer *b) {
     uint8_t *end = bytes(b) + b->length, *last = b->mine + b->room;
     return last - end < SLACK ? last : end + SLACK;
 }
@@ -178,13 +164,11 @@ static uint8_t contribution_modulus[128 * PRIMES + 129 * 3 * MOST_WIRES];
 static uint16_t output_wire[MOST_OUTPUTS], own_wire[MOST_WIRES];
 static uint32_t n, k, party, opened_rows, own;
 
-static int is_prime(unsigned m)
-{
+static int is_prime(unsigned m) {
     return memchr(primes, (int)m, PRIMES) != NULL && m != 0;
 }
 
-static void list_primes(void)
-{
+static void list_primes(void) {
     size_t found = 0;
     for (unsigned m = 2; m < 256; m++) {
         unsigned d = 2;
@@ -196,15 +180,13 @@ static void list_primes(void)
     check(found == PRIMES, "54 primes");
 }
 
-static uint32_t word_at(const uint8_t *from, size_t index)
-{
+static uint32_t word_at(const uint8_t *from, size_t index) {
     const uint8_t *b = from + 4 * index;
     return b[0] | (uint32_t)b[1] << 8 | (uint32_t)b[2] << 16 | (uint32_t)b[3] << 24;
 }
 
 /* A wire with its modulus, the keys in its record and its rows. */
-static void list_wire(uint8_t m, uint8_t keys_in_record, uint32_t its_rows, uint32_t opened)
-{
+static void list_wire(uint8_t m, uint8_t keys_in_record, uint32_t its_rows, uint32_t opened) {
     check(counts.wires < MOST_WIRES && is_prime(m) && counts.rows + its_rows < MOST_ROWS, "an accepted circuit is within its limits");
     memset(row_modulus + counts.rows, m, its_rows);
     modulus[counts.wires] = m;
@@ -214,8 +196,7 @@ static void list_wire(uint8_t m, uint8_t keys_in_record, uint32_t its_rows, uint
     opened_rows += opened;
 }
 
-static void list_word(uint32_t w)
-{
+static void list_word(uint32_t w) {
     uint8_t low = modulus[w & 1023];
     switch (w >> 28) {
     case 2:
@@ -243,8 +224,7 @@ static void list_word(uint32_t w)
     }
 }
 
-static void list_circuit(void)
-{
+static void list_circuit(void) {
     memset(&counts, 0, sizeof counts);
     opened_rows = 0;
     for (size_t i = 1; i < file.length / 4; i++)
@@ -253,14 +233,12 @@ static void list_circuit(void)
         counts.moduli += memchr(modulus, primes[i], counts.wires) != NULL;
 }
 
-static size_t contribution_size(void)
-{
+static size_t contribution_size(void) {
     return (size_t)k * counts.moduli + (size_t)(k + 1) * counts.records;
 }
 
 /* The modulus of each byte of a contribution. */
-static void list_contribution(void)
-{
+static void list_contribution(void) {
     uint8_t *at = contribution_modulus;
     for (size_t i = 0; i < PRIMES; i++)
         if (memchr(modulus, primes[i], counts.wires)) {
@@ -274,8 +252,7 @@ static void list_contribution(void)
     check(at == contribution_modulus + contribution_size(), "the size of a contribution");
 }
 
-static void list_own(void)
-{
+static void list_own(void) {
     own = 0;
     for (uint32_t w = 0; w < counts.inputs; w++)
         if (owner[w] == party)
@@ -283,8 +260,7 @@ static void list_own(void)
 }
 
 /* The length that a buffer must have, and below what each of its bytes must be. */
-static size_t exact(const struct buffer *b)
-{
+static size_t exact(const struct buffer *b) {
     const size_t row = (size_t)n * k;
     return b == &numbers ? 24 : b == &count || b == &meter ? 4
         : b == &contributions ? n * contribution_size() : b == &contribution ? contribution_size()
@@ -294,8 +270,7 @@ static size_t exact(const struct buffer *b)
         : b == &figures || b == &output_masks || b == &decoded ? counts.outputs : counts.inputs;
 }
 
-static unsigned modulus_at(const struct buffer *b, size_t i)
-{
+static unsigned modulus_at(const struct buffer *b, size_t i) {
     const size_t row = (size_t)n * k;
     return b == &contributions || b == &contribution ? contribution_modulus[i % contribution_size()]
         : b == &rows ? row_modulus[i / row] : b == &keys || b == &wire_keys ? modulus[i / row] : b == &own_keys ? modulus[i / k]
@@ -332,8 +307,7 @@ COUNTERS static uint8_t met_answer[CALLS][NUMBERS];
 COUNTERS static uint8_t met_word[11][16];
 static uint64_t met[CALLS][NUMBERS], made_calls, rounds, faulty;
 
-static lupiknam_answer call(enum call c)
-{
+static lupiknam_answer call(enum call c) {
     uint32_t *u = (uint32_t *)(void *)bytes(&numbers), *m = (uint32_t *)(void *)bytes(&meter);
     const uint8_t *f = shown(&file);
 #define IN(b) shown(&b), b.length
@@ -360,8 +334,7 @@ static lupiknam_answer call(enum call c)
 }
 
 /* Of a refusal: its place is one that there is. */
-static int place_fits(enum call c, lupiknam_answer a)
-{
+static int place_fits(enum call c, lupiknam_answer a) {
     const size_t words = file.length / 4;
     size_t longest = 0;
     for (int i = 0; i < 4 && calls[c].read[i]; i++)
@@ -387,8 +360,7 @@ static int place_fits(enum call c, lupiknam_answer a)
 }
 
 /* A written buffer after a call: nothing around it is changed, and its bytes are as the answer says. */
-static void judge_written(const struct buffer *b, uint32_t number, uint32_t meter_before)
-{
+static void judge_written(const struct buffer *b, uint32_t number, uint32_t meter_before) {
     const uint8_t *from = bytes(b), *to = from + b->length;
     check(all_are(slack_start(b), from, FILL) && all_are(to, slack_end(b), FILL), "nothing is written around a lent buffer");
     if (b == &meter)
@@ -402,8 +374,7 @@ static void judge_written(const struct buffer *b, uint32_t number, uint32_t mete
             check(from[i] < modulus_at(b, i), "what an accepted call writes is below its modulus");
 }
 
-static lupiknam_answer make(enum call c)
-{
+static lupiknam_answer make(enum call c) {
     struct buffer *const *written = calls[c].written;
     uint32_t before = word_at(bytes(&meter), 0);
     for (int i = 0; i < 4 && written[i]; i++)
@@ -430,8 +401,7 @@ static lupiknam_answer make(enum call c)
     return a;
 }
 
-static void must(enum call c, uint32_t number, size_t place)
-{
+static void must(enum call c, uint32_t number, size_t place) {
     lupiknam_answer a = make(c);
     if (a.number == number && a.place == place)
         return;
@@ -445,25 +415,21 @@ static uint32_t mended[MOST_WORDS];
 static size_t mended_words;
 static uint32_t made; /* wires so far */
 
-static void put(uint32_t w)
-{
+static void put(uint32_t w) {
     mended[mended_words++] = w;
 }
 
-static void put_wire(uint32_t w, uint8_t m)
-{
+static void put_wire(uint32_t w, uint8_t m) {
     put(w);
     modulus[made++] = m;
 }
 
-static uint8_t prime_near(uint32_t m)
-{
+static uint8_t prime_near(uint32_t m) {
     return is_prime(m & 255) ? (uint8_t)m : primes[(m & 255) % PRIMES];
 }
 
 /* A wire of this modulus, from a wire on downwards and around; `made` where there is none. */
-static uint32_t alike(uint32_t wire, uint8_t m)
-{
+static uint32_t alike(uint32_t wire, uint8_t m) {
     for (uint32_t i = 0; i < made; i++) {
         uint32_t other = (wire % made + made - i) % made;
         if (modulus[other] == m)
@@ -473,15 +439,13 @@ static uint32_t alike(uint32_t wire, uint8_t m)
 }
 
 /* A pair of wires of one modulus, in bits 19 to 0. */
-static uint32_t pair(uint32_t w)
-{
+static uint32_t pair(uint32_t w) {
     uint32_t a = (w >> 10 & 1023) % made;
     return a << 10 | alike(w & 1023, modulus[a]);
 }
 
 /* A project and its table: the entries that follow in the input, as many as are due, and made-up ones for those that lack. */
-static size_t put_project(uint32_t w, const uint8_t *from, size_t words, size_t at)
-{
+static size_t put_project(uint32_t w, const uint8_t *from, size_t words, size_t at) {
     uint32_t wire = (w & 1023) % made;
     uint8_t to = prime_near(w >> 10), entries = modulus[wire];
     put_wire(6u << 28 | (uint32_t)to << 10 | wire, to);
@@ -494,8 +458,7 @@ static size_t put_project(uint32_t w, const uint8_t *from, size_t words, size_t 
     return at;
 }
 
-static size_t put_select(uint32_t w, const uint8_t *from, size_t words, size_t at)
-{
+static size_t put_select(uint32_t w, const uint8_t *from, size_t words, size_t at) {
     uint32_t bit = alike(w & 1023, 2), branches = 0;
     if (at < words && word_at(from, at) >> 28 == 9)
         branches = word_at(from, at++);
@@ -508,8 +471,7 @@ static size_t put_select(uint32_t w, const uint8_t *from, size_t words, size_t a
 }
 
 /* One word, with those that belong to it; a word that is not due is left out. Returns the index of the next. */
-static size_t mend_word(uint32_t w, const uint8_t *from, size_t words, size_t at, unsigned *stage, uint32_t *outputs)
-{
+static size_t mend_word(uint32_t w, const uint8_t *from, size_t words, size_t at, unsigned *stage, uint32_t *outputs) {
     const uint32_t kind = w >> 28;
     if (kind == 2 && *stage == 0 && made < MOST_WIRES) {
         uint8_t m = prime_near(w);
@@ -535,8 +497,7 @@ static size_t mend_word(uint32_t w, const uint8_t *from, size_t words, size_t at
     return at;
 }
 
-static void mend(const uint8_t *from, size_t words)
-{
+static void mend(const uint8_t *from, size_t words) {
     unsigned stage = 0;
     uint32_t outputs = 0;
     mended_words = made = 0;
@@ -553,16 +514,14 @@ static void mend(const uint8_t *from, size_t words)
 }
 
 /* Lays the mended words down as the file. */
-static void lay_mended(size_t length)
-{
+static void lay_mended(size_t length) {
     set_length(&file, length);
     for (size_t i = 0; i < file.length; i++)
         bytes(&file)[i] = i / 4 < mended_words ? (uint8_t)(mended[i / 4] >> 8 * (i % 4)) : (uint8_t)head.damage;
 }
 
 /* A mended file with one damage: cut off, longer, or one word changed. */
-static void read_damaged(void)
-{
+static void read_damaged(void) {
     const size_t whole = 4 * mended_words, cut = head.faults[0].where % whole, index = head.faults[0].where % mended_words;
     if (head.damage % 4 == 0) {
         lay_mended(cut);
@@ -578,8 +537,7 @@ static void read_damaged(void)
     }
 }
 
-static void read_file(const uint8_t *data, size_t size)
-{
+static void read_file(const uint8_t *data, size_t size) {
     size = size < 4 * (MOST_WORDS - 1024) ? size : 4 * (MOST_WORDS - 1024);
     if (head.mode % 4 == 0) {
         set_length(&file, size);
@@ -602,19 +560,16 @@ static void read_file(const uint8_t *data, size_t size)
 
 /* ---- loose calls: lengths right or nearly so or any, contents all one byte */
 
-static int dear(void)
-{
+static int dear(void) {
     const uint64_t pad = (13 + (uint64_t)k) / 136 + (8 * (uint64_t)k + 135) / 136;
     return (counts.rows + (uint64_t)n * opened_rows) * n * n * pad > MOST_PERMUTATIONS;
 }
 
-static int in_range(void)
-{
+static int in_range(void) {
     return n >= 2 && n <= 8 && k >= 1 && k <= 128 && party < n;
 }
 
-static void loosen(struct buffer *b)
-{
+static void loosen(struct buffer *b) {
     static const uint8_t contents[] = {0, 1, 2, 250, 254, 255};
     size_t right = in_range() && reading.number == 0 ? exact(b) : drawn(64);
     switch (head.loose & 8 ? 3 : drawn(8)) {
@@ -632,8 +587,7 @@ static void loosen(struct buffer *b)
     memset(bytes(b), in_range() && dear() ? FILL : contents[head.loose % 8 % sizeof contents], b->length);
 }
 
-static void call_loosely(void)
-{
+static void call_loosely(void) {
     for (size_t i = 1; i < BUFFERS; i++)
         if (all[i] != &numbers && all[i] != &count && all[i] != &meter)
             loosen(all[i]);
@@ -646,8 +600,7 @@ static void call_loosely(void)
 /* ---- a round */
 
 /* A byte below p, by the style of the draw: any, the largest, none, or one of these two. */
-static uint8_t below(unsigned p)
-{
+static uint8_t below(unsigned p) {
     switch (head.style % 4) {
     case 0:
         return (uint8_t)drawn(p);
@@ -660,8 +613,7 @@ static uint8_t below(unsigned p)
     }
 }
 
-static void draw_contributions(void)
-{
+static void draw_contributions(void) {
     uint8_t *c = bytes(&contributions);
     for (size_t i = 0; i < contributions.length; i++)
         c[i] = below(modulus_at(&contributions, i));
@@ -673,8 +625,7 @@ static void draw_contributions(void)
         }
 }
 
-static void set_party(uint32_t j)
-{
+static void set_party(uint32_t j) {
     party = j;
     list_own();
     set_length(&own_values, own);
@@ -687,8 +638,7 @@ static void set_party(uint32_t j)
     }
 }
 
-static void exchange(void)
-{
+static void exchange(void) {
     uint32_t owned = 0;
     for (uint32_t j = 0; j < n; j++) {
         set_party(j);
@@ -709,8 +659,7 @@ static void exchange(void)
 }
 
 /* Every party opens the same keys and external values, those of the inputs are the ones lent, and every party decodes the plain figures. */
-static void open_at_all(uint32_t last)
-{
+static void open_at_all(uint32_t last) {
     static uint8_t first_keys[1 << 21], first_externals[4096];
     for (uint32_t j = 1; j <= n; j++) {
         set_party((last + j) % n);
@@ -728,8 +677,7 @@ static void open_at_all(uint32_t last)
     check(memcmp(first_externals, bytes(&externals), externals.length) == 0, "the external values of inputs are those lent");
 }
 
-static void play(void)
-{
+static void play(void) {
     const uint32_t last = party, space = UINT32_MAX - counts.rows, start_at = head.meter < space ? head.meter : space;
     list_contribution();
     for (size_t i = 1; i < BUFFERS; i++) {
@@ -754,8 +702,7 @@ COUNTERS static uint8_t met_fault[CALLS][FAULT_KINDS];
 
 static const uint32_t odd_numbers[] = {0, 129, 255, 256, 258, 1 << 16 | 3, UINT32_MAX, 1u << 31 | 2, 1u << 24 | 16};
 
-static void spoil_number(enum call c, struct fault f)
-{
+static void spoil_number(enum call c, struct fault f) {
     const uint32_t odd = odd_numbers[f.where % 9], n_was = n, k_was = k, party_was = party;
     if (f.kind == BAD_N) {
         n = f.where / 9 % 3 == 0 ? 1 : f.where / 9 % 3 == 1 ? 9 : odd;
@@ -778,8 +725,7 @@ static void spoil_number(enum call c, struct fault f)
 }
 
 /* One of the buffers that a call reads, or of those that it reads or writes; the meter has no length of its own. */
-static struct buffer *one_of(enum call c, struct fault f, int written_too)
-{
+static struct buffer *one_of(enum call c, struct fault f, int written_too) {
     struct buffer *found[8];
     unsigned many = 0;
     for (int i = 0; i < 4 && calls[c].read[i]; i++)
@@ -789,8 +735,7 @@ static struct buffer *one_of(enum call c, struct fault f, int written_too)
     return found[f.where % many];
 }
 
-static void spoil_length(enum call c, struct fault f)
-{
+static void spoil_length(enum call c, struct fault f) {
     static const int steps[] = {-1, 1, 3, 64, -64};
     struct buffer *b = one_of(c, f, 1);
     const size_t was = b->length;
@@ -801,14 +746,12 @@ static void spoil_length(enum call c, struct fault f)
 }
 
 /* A byte changed to another: at its modulus or above, or still below. */
-static void change(struct buffer *b, size_t at, int too_large, uint16_t by)
-{
+static void change(struct buffer *b, size_t at, int too_large, uint16_t by) {
     const unsigned p = modulus_at(b, at), was = bytes(b)[at];
     bytes(b)[at] = (uint8_t)(too_large ? p + by % (256 - p) : (was + 1 + by % (p - 1)) % p);
 }
 
-static void spoil_byte(enum call c, struct fault f)
-{
+static void spoil_byte(enum call c, struct fault f) {
     struct buffer *b = one_of(c, f, 0);
     if (b->length == 0)
         return;
@@ -819,8 +762,7 @@ static void spoil_byte(enum call c, struct fault f)
     bytes(b)[at] = was;
 }
 
-static void spoil_offset(enum call c, struct fault f)
-{
+static void spoil_offset(enum call c, struct fault f) {
     struct buffer *b = calls[c].read[0];
     uint8_t was[128];
     const size_t q = f.where % counts.moduli, j = b == &contributions ? drawn(n) : 0;
@@ -832,8 +774,7 @@ static void spoil_offset(enum call c, struct fault f)
 }
 
 /* Opening with another key of its own or another external value meets 19; with another row or another party's key it may notice or not. */
-static void spoil_opening(struct fault f)
-{
+static void spoil_opening(struct fault f) {
     const size_t w = drawn(counts.inputs), row = (size_t)n * k;
     struct buffer *b = f.kind == OTHER_ROW && f.where & 1 ? &rows : f.kind == OTHER_KEY && f.where & 1 ? &externals : &keys;
     if (b->length == 0)
@@ -851,8 +792,7 @@ static void spoil_opening(struct fault f)
     bytes(b)[at] = was;
 }
 
-static void spoil_meter(struct fault f)
-{
+static void spoil_meter(struct fault f) {
     uint32_t full = UINT32_MAX - counts.rows;
     if (counts.rows > 0 && f.where & 1)
         full += 1 + f.where % counts.rows;
@@ -861,16 +801,14 @@ static void spoil_meter(struct fault f)
 }
 
 /* Whether a call can have a fault. */
-static int can_have(enum call c, unsigned kind)
-{
+static int can_have(enum call c, unsigned kind) {
     const uint32_t given = calls[c].given;
     return kind == BAD_N || kind == OWNER_ABSENT ? given & TAKES_N : kind == BAD_K ? given & TAKES_K : kind == BAD_PARTY ? given & TAKES_PARTY
         : kind == BAD_LENGTH || kind == BAD_BYTE ? calls[c].read[0] != NULL : kind == ZERO_OFFSET ? given & TAKES_K
         : kind == FULL_METER ? c == GARBLE : c == OPEN;
 }
 
-static void spoil(struct fault f)
-{
+static void spoil(struct fault f) {
     const uint64_t before = made_calls;
     enum call c = INPUTS_OF + f.call % (CALLS - INPUTS_OF);
     f.kind %= FAULT_KINDS;
@@ -893,8 +831,7 @@ static void spoil(struct fault f)
 }
 
 /* Every fault is taken back; what a refused call had filled before it was made is put back here. */
-static void spoil_all(void)
-{
+static void spoil_all(void) {
     static uint8_t rows_were[1 << 21], masks_were[MOST_OUTPUTS], externals_were[MOST_WIRES];
     memcpy(rows_were, bytes(&rows), rows.length);
     memcpy(masks_were, bytes(&output_masks), output_masks.length);
@@ -909,8 +846,7 @@ static void spoil_all(void)
 
 /* ---- what libFuzzer calls */
 
-static void report(void)
-{
+static void report(void) {
     fprintf(stderr, "%llu calls, %llu whole rounds, %llu calls of a round with a fault; answers:\n", (unsigned long long)made_calls,
         (unsigned long long)rounds, (unsigned long long)faulty);
     for (enum call c = READ; c < CALLS; c++) {
@@ -922,8 +858,7 @@ static void report(void)
     }
 }
 
-int LLVMFuzzerInitialize(int *argc, char ***argv)
-{
+int LLVMFuzzerInitialize(int *argc, char ***argv) {
     (void)argc, (void)argv;
     list_primes();
     map_buffers();
@@ -931,8 +866,7 @@ int LLVMFuzzerInitialize(int *argc, char ***argv)
     return 0;
 }
 
-int LLVMFuzzerTestOneInput(const uint8_t *data, size_t size)
-{
+int LLVMFuzzerTestOneInput(const uint8_t *data, size_t size) {
     if (size < sizeof head)
         return 0;
     memcpy(&head, data, sizeof head);
