@@ -1,10 +1,10 @@
 /*
- * Shows libFuzzer which basic blocks of the archive are met, though the archive is built without instrumentation. A breakpoint (int3) stands on
- * the first byte of every block; when one is met its byte is put back and the block's counter is set, so libFuzzer keeps the input that met
- * it. A block costs one signal in a whole run and nothing afterwards. Which edge led to it, and how often it is met, is not seen.
+ * Shows libFuzzer which basic blocks of the archive are met, though the archive is built without instrumentation. A breakpoint (int3)
+ * stands on the first byte of every block; when one is met its byte is put back and the block's counter is set, so libFuzzer keeps the input
+ * that met it. A block costs one signal in a whole run and nothing afterwards. Which edge led to it, and how often it is met, is not seen.
  *
- * LUPIKNAM_BLOCKS names a file of addresses in hexadecimal, ascending, that fuzz/run makes; without it nothing is watched. LUPIKNAM_UNMET names a
- * file to write the addresses that were never met to. x86-64 Linux; the program is linked at fixed addresses.
+ * LUPIKNAM_BLOCKS names a file of addresses in hexadecimal, ascending, that fuzz/run makes; without it nothing is watched. LUPIKNAM_UNMET
+ * names a file to write the addresses that were never met to. x86-64 Linux; the program is linked at fixed addresses.
  */
 #define _GNU_SOURCE
 #include <signal.h>

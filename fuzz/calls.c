@@ -803,8 +803,8 @@ static void spoil_meter(struct fault f) {
 /* Whether a call can have a fault. */
 static int can_have(enum call c, unsigned kind) {
     const uint32_t given = calls[c].given;
-    return kind == BAD_N || kind == OWNER_ABSENT ? given & TAKES_N : kind == BAD_K ? given & TAKES_K : kind == BAD_PARTY ? given & TAKES_PARTY
-        : kind == BAD_LENGTH || kind == BAD_BYTE ? calls[c].read[0] != NULL : kind == ZERO_OFFSET ? given & TAKES_K
+    return kind == BAD_N || kind == OWNER_ABSENT ? given & TAKES_N : kind == BAD_K || kind == ZERO_OFFSET ? given & TAKES_K
+        : kind == BAD_PARTY ? given & TAKES_PARTY : kind == BAD_LENGTH || kind == BAD_BYTE ? calls[c].read[0] != NULL
         : kind == FULL_METER ? c == GARBLE : c == OPEN;
 }
 
