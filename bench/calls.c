@@ -2,6 +2,9 @@
 // the time of as many of the baseline's Keccak permutations as its pads need. The two are timed in turn, and medians of many runs are
 // taken, so that a busy machine slows both alike. N is the number of rows garbled or opened.
 //
+// After each such line stands the same measurement as a point, for bench/plot: `point call=C n=N k=K rows=R ms=T permutations=P ratio=Q`.
+// Here R is the number of rows of the circuit, in opening too, and P the permutations that the call's pads need.
+//
 // Given circuit files of growing size, the one to time closely first.
 #include "keccak.h"
 #include "lupiknam.h"
@@ -181,7 +184,7 @@ static double baseline(size_t count) {
     return now() - start;
 }
 
-static void time_call(const char *name, void (*call)(void), uint32_t rows) {
+static void time_call(const char *name, const char *kind, void (*call)(void), uint32_t rows) {
     double times[MOST_RUNS], ratios[MOST_RUNS], spent = 0;
     size_t needed = permutations(rows);
     int runs = 0;
@@ -192,7 +195,10 @@ static void time_call(const char *name, void (*call)(void), uint32_t rows) {
         ratios[runs] = times[runs] / baseline(needed);
         spent += times[runs++];
     }
-    printf("%s ratio=%.3f ns=%.0f rows=%u\n", name, median(ratios, runs), median(times, runs), (unsigned)rows);
+    double ratio = median(ratios, runs), time = median(times, runs);
+    printf("%s ratio=%.3f ns=%.0f rows=%u\n", name, ratio, time, (unsigned)rows);
+    printf("point call=%s n=%u k=%u rows=%u ms=%.4f permutations=%zu ratio=%.3f\n", kind, (unsigned)r.n, (unsigned)r.k, (unsigned)r.rows,
+           time / 1e6, needed, ratio);
     fflush(stdout);
 }
 
@@ -201,9 +207,9 @@ static void both(const char *what, uint32_t n, uint32_t k) {
     make_room(n, k);
     play_round();
     snprintf(name, sizeof name, "garble%s-n%u-k%u", what, (unsigned)n, (unsigned)k);
-    time_call(name, garble, r.rows);
+    time_call(name, "garble", garble, r.rows);
     snprintf(name, sizeof name, "open%s-n%u-k%u", what, (unsigned)n, (unsigned)k);
-    time_call(name, open_at_0, r.opened_rows);
+    time_call(name, "open", open_at_0, r.opened_rows);
 }
 
 int main(int count, char **files) {
@@ -218,7 +224,8 @@ int main(int count, char **files) {
     // growth with the rows
     for (int at = 1; at < count; at++) {
         read_file(files[at]);
-        both("-by-rows", 3, 16);
+        for (size_t i = 0; i < 3; i++)
+            both("-by-rows", (uint32_t[]){3, 5, 8}[i], 16);
     }
     return 0;
 }

@@ -1,0 +1,892 @@
+/*
+ * Fuzzing of the C face: a libFuzzer harness over the eight calls of lupiknam.h. fuzz/run builds and runs it; docs/ROBUSTNESS.md says what
+ * it can see and what it cannot.
+ *
+ * An input is a head, `struct head`, and a circuit file. The file is lent as it stands, or mended into one that the reader must accept, or
+ * mended and then damaged in one place. Each call is made once with loose lengths and contents; where the circuit is accepted and n, K and
+ * party are in range, a whole round is played, and then some of its calls again with one fault each, whose answer is known.
+ *
+ * Every buffer lies against a page that faults when it is touched; what a call only reads is lent by a mapping that faults when it is
+ * written. What a call writes is filled first with 255, which is below no modulus: so a byte that an accepted call leaves out shows, and so
+ * does one that a refused call writes.
+ */
+#define _GNU_SOURCE
+#include "lupiknam.h"
+#include <stdio.h>
+#include <stdlib.h>
+#include <string.h>
+#include <sys/mman.h>
+#include <unistd.h>
+
+enum { MOST_WIRES = 1024, MOST_OUTPUTS = 256, MOST_WORDS = 1 << 16, MOST_ROWS = 1 << 19, PRIMES = 54, NUMBERS = 22 };
+enum { FILL = 255, SLACK = 256 };   /* what written buffers hold before a call, and how far around them it is looked at afterwards */
+enum { MOST_PERMUTATIONS = 60000 }; /* of a round: about 20 ms; a dearer one is not played */
+
+static void fail(const char *what) {
+    fprintf(stderr, "property broken: %s\n", what);
+    abort();
+}
+
+static void check(int holds, const char *what) {
+    if (!holds)
+        fail(what);
+}
+
+/* ---- what an input says; numbers as they lie in memory */
+
+enum { FAULTS = 4 };
+
+struct fault {
+    uint8_t call, kind;
+    uint16_t where;
+};
+
+struct head {
+    uint8_t mode;  /* 0 the file as it stands, 2 mended and damaged, 1 and 3 mended; modulo 4 */
+    uint8_t lying; /* bit 0: buffers begin, not end, at a guard page; bit 1: an empty buffer is NULL */
+    uint8_t style; /* how contributions are drawn */
+    uint8_t loose; /* what loose calls are filled with */
+    uint32_t n, k, party, meter, seed, damage;
+    struct fault faults[FAULTS];
+};
+
+static struct head head;
+_Static_assert(sizeof head == 44, "fuzz/run writes heads of 44 bytes");
+
+static uint64_t random_state;
+
+/* splitmix64: enough for contents, which the input only seeds */
+static uint32_t drawn(uint32_t below) {
+    uint64_t z = random_state += 0x9E3779B97F4A7C15u;
+    z = (z ^ z >> 30) * 0xBF58476D1CE4E5B9u;
+    z = (z ^ z >> 27) * 0x94D049BB133111EBu;
+    return (uint32_t)((z ^ z >> 31) >> 32) % below;
+}
+
+/* ---- lent memory */
+
+struct buffer {
+    size_t room, length;   /* bytes mapped, bytes lent */
+    uint8_t *mine;         /* the mapping that may be written */
+    const uint8_t *theirs; /* the same bytes, read only */
+};
+
+#define ROOM(bytes) {(bytes), 0, NULL, NULL}
+static struct buffer file = ROOM(4 * MOST_WORDS + 4096), numbers = ROOM(4096), count = ROOM(4096), meter = ROOM(4096);
+static struct buffer values = ROOM(4096), figures = ROOM(4096), input_masks = ROOM(4096), output_masks = ROOM(4096);
+static struct buffer own_values = ROOM(4096), own_masks = ROOM(4096), own_externals = ROOM(4096), externals = ROOM(4096);
+static struct buffer contributions = ROOM(1 << 22), contribution = ROOM(1 << 20), rows = ROOM(1 << 21);
+static struct buffer own_keys = ROOM(1 << 18), keys = ROOM(1 << 21), wire_keys = ROOM(1 << 21), wire_externals = ROOM(4096);
+static struct buffer decoded = ROOM(4096);
+
+static struct buffer *const all[] = {&file, &numbers, &count, &meter, &values, &figures, &input_masks, &output_masks, &own_values,
+    &own_masks, &own_externals, &externals, &contributions, &contribution, &rows, &own_keys, &keys, &wire_keys, &wire_externals, &decoded};
+enum { BUFFERS = sizeof all / sizeof all[0] };
+
+/* Room bytes of a shared object, with a page before and after that faults. */
+static uint8_t *mapped(int object, size_t room, int protection) {
+    size_t page = (size_t)sysconf(_SC_PAGESIZE);
+    uint8_t *around = mmap(NULL, room + 2 * page, PROT_NONE, MAP_PRIVATE | MAP_ANONYMOUS, -1, 0);
+    if (around == MAP_FAILED || mmap(around + page, room, protection, MAP_SHARED | MAP_FIXED, object, 0) == MAP_FAILED) {
+        perror("mmap");
+        exit(2);
+    }
+    return around + page;
+}
+
+static void map_buffers(void) {
+    for (size_t i = 0; i < BUFFERS; i++) {
+        int object = memfd_create("lent", 0);
+        if (object < 0 || ftruncate(object, (off_t)all[i]->room) != 0) {
+            perror("memfd");
+            exit(2);
+        }
+        all[i]->mine = mapped(object, all[i]->room, PROT_READ | PROT_WRITE);
+        all[i]->theirs = mapped(object, all[i]->room, PROT_READ);
+        close(object);
+    }
+}
+
+static size_t start(const struct buffer *b) {
+    return head.lying & 1 ? 0 : b->room - b->length;
+}
+
+/* The bytes of a buffer, for this program, or lent to be written; and lent to be read. */
+static uint8_t *bytes(const struct buffer *b) {
+    return b->mine + start(b);
+}
+
+static uint8_t *lent(const struct buffer *b) {
+    return b->length == 0 && head.lying & 2 ? NULL : bytes(b);
+}
+
+static const uint8_t *shown(const struct buffer *b) {
+    return b->length == 0 && head.lying & 2 ? NULL : b->theirs + start(b);
+}
+
+/* A length, but no more than there is space for. */
+static void set_length(struct buffer *b, size_t length) {
+    b->length = length < b->room - SLACK ? length : b->room - SLACK;
+}
+
+static void set_bytes(struct buffer *b, const uint8_t *from) {
+    if (b->length > 0)
+        memcpy(bytes(b), from, b->length);
+}
+
+static int all_are(const uint8_t *from, const uint8_t *to, uint8_t byte) {
+    while (from < to)
+        if (*from++ != byte)
+            return 0;
+    return 1;
+}
+
+/* Where the bytes around a buffer that are looked at begin and end. */
+static uint8_t *slack_start(const struct buffer *b) {
+    return start(b) < SLACK ? b->mine : bytes(b) - SLACK;
+}
+
+static uint8_t *slack_end(const struct buffer *b) {
+    uint8_t *end = bytes(b) + b->length, *last = b->mine + b->room;
+    return last - end < SLACK ? last : end + SLACK;
+}
+
+/* ---- the circuit, as far as it is needed to judge what calls write; only of accepted files */
+
+static lupiknam_answer reading; /* what lupiknam_read answers */
+
+static struct {
+    uint32_t wires, inputs, outputs, rows, moduli, records; /* in the order of lupiknam_read */
+} counts;
+
+static uint8_t primes[PRIMES], modulus[MOST_WIRES], owner[MOST_WIRES], records_of[MOST_WIRES], row_modulus[MOST_ROWS];
+static uint8_t contribution_modulus[128 * PRIMES + 129 * 3 * MOST_WIRES];
+static uint16_t output_wire[MOST_OUTPUTS], own_wire[MOST_WIRES];
+static uint32_t n, k, party, opened_rows, own;
+
+static int is_prime(unsigned m) {
+    return memchr(primes, (int)m, PRIMES) != NULL && m != 0;
+}
+
+static void list_primes(void) {
+    size_t found = 0;
+    for (unsigned m = 2; m < 256; m++) {
+        unsigned d = 2;
+        while (m % d != 0)
+            d++;
+        if (d == m)
+            primes[found++] = (uint8_t)m;
+    }
+    check(found == PRIMES, "54 primes");
+}
+
+static uint32_t word_at(const uint8_t *from, size_t index) {
+    const uint8_t *b = from + 4 * index;
+    return b[0] | (uint32_t)b[1] << 8 | (uint32_t)b[2] << 16 | (uint32_t)b[3] << 24;
+}
+
+/* A wire with its modulus, the keys in its record and its rows. */
+static void list_wire(uint8_t m, uint8_t keys_in_record, uint32_t its_rows, uint32_t opened) {
+    check(counts.wires < MOST_WIRES && is_prime(m) && counts.rows + its_rows < MOST_ROWS, "an accepted circuit is within its limits");
+    memset(row_modulus + counts.rows, m, its_rows);
+    modulus[counts.wires] = m;
+    records_of[counts.wires++] = keys_in_record;
+    counts.rows += its_rows;
+    counts.records += keys_in_record;
+    opened_rows += opened;
+}
+
+static void list_word(uint32_t w) {
+    uint8_t low = modulus[w & 1023];
+    switch (w >> 28) {
+    case 2:
+        owner[counts.wires] = (uint8_t)(w >> 16);
+        counts.inputs++;
+        list_wire((uint8_t)w, 1, 0, 0);
+        break;
+    case 3:
+    case 4:
+        list_wire(low, 0, 0, 0);
+        break;
+    case 5:
+        list_wire(low, 2, 2u * low, 2);
+        break;
+    case 6:
+        list_wire((uint8_t)(w >> 10), 1, low, 1);
+        break;
+    case 9: /* the second word of a select */
+        list_wire(low, 3, 2u * low + 2, 2);
+        break;
+    case 10:
+        check(counts.outputs < MOST_OUTPUTS, "an accepted circuit has at most 256 outputs");
+        output_wire[counts.outputs++] = (uint16_t)(w & 1023);
+        break;
+    }
+}
+
+static void list_circuit(void) {
+    memset(&counts, 0, sizeof counts);
+    opened_rows = 0;
+    for (size_t i = 1; i < file.length / 4; i++)
+        list_word(word_at(bytes(&file), i));
+    for (size_t i = 0; i < PRIMES; i++)
+        counts.moduli += memchr(modulus, primes[i], counts.wires) != NULL;
+}
+
+static size_t contribution_size(void) {
+    return (size_t)k * counts.moduli + (size_t)(k + 1) * counts.records;
+}
+
+/* The modulus of each byte of a contribution. */
+static void list_contribution(void) {
+    uint8_t *at = contribution_modulus;
+    for (size_t i = 0; i < PRIMES; i++)
+        if (memchr(modulus, primes[i], counts.wires)) {
+            memset(at, primes[i], k);
+            at += k;
+        }
+    for (size_t w = 0; w < counts.wires; w++) {
+        memset(at, modulus[w], (size_t)(k + 1) * records_of[w]);
+        at += (size_t)(k + 1) * records_of[w];
+    }
+    check(at == contribution_modulus + contribution_size(), "the size of a contribution");
+}
+
+static void list_own(void) {
+    own = 0;
+    for (uint32_t w = 0; w < counts.inputs; w++)
+        if (owner[w] == party)
+            own_wire[own++] = (uint16_t)w;
+}
+
+/* The length that a buffer must have, and below what each of its bytes must be. */
+static size_t exact(const struct buffer *b) {
+    const size_t row = (size_t)n * k;
+    return b == &numbers ? 24 : b == &count || b == &meter ? 4
+        : b == &contributions ? n * contribution_size() : b == &contribution ? contribution_size()
+        : b == &rows ? counts.rows * row : b == &keys ? counts.inputs * row : b == &wire_keys ? counts.wires * row
+        : b == &own_keys ? (size_t)counts.inputs * k : b == &wire_externals ? counts.wires
+        : b == &own_values || b == &own_masks || b == &own_externals ? own
+        : b == &figures || b == &output_masks || b == &decoded ? counts.outputs : counts.inputs;
+}
+
+static unsigned modulus_at(const struct buffer *b, size_t i) {
+    const size_t row = (size_t)n * k;
+    return b == &contributions || b == &contribution ? contribution_modulus[i % contribution_size()]
+        : b == &rows ? row_modulus[i / row] : b == &keys || b == &wire_keys ? modulus[i / row] : b == &own_keys ? modulus[i / k]
+        : b == &own_values || b == &own_masks || b == &own_externals ? modulus[own_wire[i]]
+        : b == &figures || b == &output_masks || b == &decoded ? modulus[output_wire[i]] : modulus[i];
+}
+
+/* ---- one call, and what holds of every call */
+
+enum call { READ, INPUTS_OF, PLAIN, GARBLE, EXTERNALS, INPUT_KEYS, OPEN, DECODE, CALLS };
+enum { TAKES_N = 1, TAKES_K = 2, TAKES_PARTY = 4 };
+#define BITS(from, to) ((2u << (to)) - (1u << (from)))
+
+/* What each call is given besides the file, what it writes, and with which numbers it may refuse. */
+static const struct {
+    const char *name;
+    uint32_t given, refusals;
+    struct buffer *read[4], *written[4];
+} calls[CALLS] = {
+    {"read", 0, BITS(1, 10), {0}, {&numbers}},
+    {"inputs_of", TAKES_N | TAKES_PARTY, BITS(1, 13), {0}, {&count}},
+    {"plain", 0, BITS(1, 10) | BITS(14, 15), {&values}, {&figures}},
+    {"garble", TAKES_N | TAKES_K, BITS(1, 11) | BITS(13, 14) | BITS(16, 17) | BITS(21, 21), {&contributions},
+        {&rows, &input_masks, &output_masks, &meter}},
+    {"externals", TAKES_N | TAKES_PARTY, BITS(1, 15), {&own_values, &own_masks}, {&own_externals}},
+    {"input_keys", TAKES_N | TAKES_K | TAKES_PARTY, BITS(1, 17), {&contribution, &externals}, {&own_keys}},
+    {"open", TAKES_N | TAKES_K | TAKES_PARTY, BITS(1, 20), {&contribution, &externals, &keys, &rows}, {&wire_keys, &wire_externals}},
+    {"decode", 0, BITS(1, 10) | BITS(14, 15), {&wire_externals, &output_masks}, {&decoded}},
+};
+
+/* What libFuzzer is told besides its own coverage of this file: which call gave which answer, and which word met which refusal. */
+#define COUNTERS __attribute__((section("__libfuzzer_extra_counters")))
+COUNTERS static uint8_t met_answer[CALLS][NUMBERS];
+COUNTERS static uint8_t met_word[11][16];
+static uint64_t met[CALLS][NUMBERS], made_calls, rounds, faulty;
+
+static lupiknam_answer call(enum call c) {
+    uint32_t *u = (uint32_t *)(void *)bytes(&numbers), *m = (uint32_t *)(void *)bytes(&meter);
+    const uint8_t *f = shown(&file);
+#define IN(b) shown(&b), b.length
+#define OUT(b) lent(&b), b.length
+    switch (c) {
+    case READ:
+        return lupiknam_read(f, file.length, u, u + 1, u + 2, u + 3, u + 4, u + 5);
+    case INPUTS_OF:
+        return lupiknam_inputs_of(f, file.length, n, party, (uint32_t *)(void *)bytes(&count));
+    case PLAIN:
+        return lupiknam_plain(f, file.length, IN(values), OUT(figures));
+    case GARBLE:
+        return lupiknam_garble(f, file.length, n, k, IN(contributions), OUT(rows), OUT(input_masks), OUT(output_masks), m);
+    case EXTERNALS:
+        return lupiknam_externals(f, file.length, n, party, IN(own_values), IN(own_masks), OUT(own_externals));
+    case INPUT_KEYS:
+        return lupiknam_input_keys(f, file.length, n, k, party, IN(contribution), IN(externals), OUT(own_keys));
+    case OPEN:
+        return lupiknam_open(f, file.length, n, k, party, IN(contribution), IN(externals), IN(keys), IN(rows), OUT(wire_keys),
+            OUT(wire_externals));
+    default:
+        return lupiknam_decode(f, file.length, IN(wire_externals), IN(output_masks), OUT(decoded));
+    }
+}
+
+/* Of a refusal: its place is one that there is. */
+static int place_fits(enum call c, lupiknam_answer a) {
+    const size_t words = file.length / 4;
+    size_t longest = 0;
+    for (int i = 0; i < 4 && calls[c].read[i]; i++)
+        longest = calls[c].read[i]->length > longest ? calls[c].read[i]->length : longest;
+    switch (a.number) {
+    case 12:
+        return a.place == party && party >= n;
+    case 13:
+        return a.place < counts.inputs && owner[a.place] >= n;
+    case 15:
+    case 16:
+    case 18:
+        return a.place < longest;
+    case 17:
+        return memchr(modulus, (int)a.place, counts.wires) != NULL && is_prime((unsigned)a.place);
+    case 19:
+        return a.place < counts.inputs;
+    case 20:
+        return a.place >= counts.inputs && a.place < counts.wires && records_of[a.place] > 0;
+    default: /* 0, 1, 11, 14 and 21 name no place */
+        return a.number >= 2 && a.number <= 9 ? a.place < words : a.number == 10 ? a.place <= words : a.place == 0;
+    }
+}
+
+/* A written buffer after a call: nothing around it is changed, and its bytes are as the answer says. */
+static void judge_written(const struct buffer *b, uint32_t number, uint32_t meter_before) {
+    const uint8_t *from = bytes(b), *to = from + b->length;
+    check(all_are(slack_start(b), from, FILL) && all_are(to, slack_end(b), FILL), "nothing is written around a lent buffer");
+    if (b == &meter)
+        check((uint64_t)word_at(from, 0) == meter_before + (number == 0 ? (uint64_t)counts.rows : 0), "the meter counts accepted rows");
+    else if (number != 0)
+        check(all_are(from, to, number == 20 ? 0 : FILL), "a refused call leaves written buffers as they were, or zero after 20");
+    else if (b == &numbers || b == &count)
+        return;
+    else
+        for (size_t i = 0; i < b->length; i++)
+            check(from[i] < modulus_at(b, i), "what an accepted call writes is below its modulus");
+}
+
+static lupiknam_answer make(enum call c) {
+    struct buffer *const *written = calls[c].written;
+    uint32_t before = word_at(bytes(&meter), 0);
+    for (int i = 0; i < 4 && written[i]; i++)
+        memset(slack_start(written[i]), FILL, (size_t)(slack_end(written[i]) - slack_start(written[i])));
+    memcpy(bytes(&meter), &before, 4);
+    lupiknam_answer a = call(c);
+    check(a.number == 0 || (a.number < NUMBERS && calls[c].refusals >> a.number & 1), "a call answers with one of its own numbers");
+    check(place_fits(c, a), "the place of an answer is one that there is");
+    if (c == READ)
+        reading = a;
+    if (reading.number != 0)
+        check(a.number == reading.number && a.place == reading.place, "every call refuses a bad file alike");
+    else
+        check(a.number == 0 || a.number > 10, "no call finds a fault in an accepted file");
+    met_answer[c][a.number] = 1;
+    met[c][a.number]++;
+    made_calls++;
+    if (a.number > 0 && a.number <= 10 && a.place < file.length / 4)
+        met_word[a.number][word_at(bytes(&file), a.place) >> 28] = 1;
+    if (c == READ && a.number == 0)
+        list_circuit();
+    for (int i = 0; i < 4 && written[i]; i++)
+        judge_written(written[i], a.number, before);
+    return a;
+}
+
+static void must(enum call c, uint32_t number, size_t place) {
+    lupiknam_answer a = make(c);
+    if (a.number == number && a.place == place)
+        return;
+    fprintf(stderr, "%s: %u at %zu where %u at %zu is due\n", calls[c].name, (unsigned)a.number, a.place, (unsigned)number, place);
+    fail("the answer is the one that is due");
+}
+
+/* ---- circuits: mended by docs/FILE.md, so that an accepted file stays as it is */
+
+static uint32_t mended[MOST_WORDS];
+static size_t mended_words;
+static uint32_t made; /* wires so far */
+
+static void put(uint32_t w) {
+    mended[mended_words++] = w;
+}
+
+static void put_wire(uint32_t w, uint8_t m) {
+    put(w);
+    modulus[made++] = m;
+}
+
+static uint8_t prime_near(uint32_t m) {
+    return is_prime(m & 255) ? (uint8_t)m : primes[(m & 255) % PRIMES];
+}
+
+/* A wire of this modulus, from a wire on downwards and around; `made` where there is none. */
+static uint32_t alike(uint32_t wire, uint8_t m) {
+    for (uint32_t i = 0; i < made; i++) {
+        uint32_t other = (wire % made + made - i) % made;
+        if (modulus[other] == m)
+            return other;
+    }
+    return made;
+}
+
+/* A pair of wires of one modulus, in bits 19 to 0. */
+static uint32_t pair(uint32_t w) {
+    uint32_t a = (w >> 10 & 1023) % made;
+    return a << 10 | alike(w & 1023, modulus[a]);
+}
+
+/* A project and its table: the entries that follow in the input, as many as are due, and made-up ones for those that lack. */
+static size_t put_project(uint32_t w, const uint8_t *from, size_t words, size_t at) {
+    uint32_t wire = (w & 1023) % made;
+    uint8_t to = prime_near(w >> 10), entries = modulus[wire];
+    put_wire(6u << 28 | (uint32_t)to << 10 | wire, to);
+    for (uint32_t value = 0; value < entries; value++) {
+        uint32_t image = value * value;
+        if (at < words && word_at(from, at) >> 28 == 7)
+            image = word_at(from, at++) & 255;
+        put(7u << 28 | image % to);
+    }
+    return at;
+}
+
+static size_t put_select(uint32_t w, const uint8_t *from, size_t words, size_t at) {
+    uint32_t bit = alike(w & 1023, 2), branches = 0;
+    if (at < words && word_at(from, at) >> 28 == 9)
+        branches = word_at(from, at++);
+    if (bit < made) {
+        put(8u << 28 | bit);
+        branches = pair(branches);
+        put_wire(9u << 28 | branches, modulus[branches & 1023]);
+    }
+    return at;
+}
+
+/* One word, with those that belong to it; a word that is not due is left out. Returns the index of the next. */
+static size_t mend_word(uint32_t w, const uint8_t *from, size_t words, size_t at, unsigned *stage, uint32_t *outputs) {
+    const uint32_t kind = w >> 28;
+    if (kind == 2 && *stage == 0 && made < MOST_WIRES) {
+        uint8_t m = prime_near(w);
+        put_wire(2u << 28 | ((w >> 16 & 255) % n) << 16 | m, m);
+    } else if (kind >= 3 && kind <= 8 && kind != 7 && *stage <= 1 && made > 0 && made < MOST_WIRES) {
+        *stage = 1;
+        if (kind == 6)
+            return put_project(w, from, words, at);
+        if (kind == 8)
+            return put_select(w, from, words, at);
+        if (kind == 4) {
+            uint32_t wire = (w & 1023) % made, p = modulus[wire], constant = w >> 10 & 255;
+            put_wire(4u << 28 | (constant == 0 || constant >= p ? 1 + constant % (p - 1) : constant) << 10 | wire, (uint8_t)p);
+        } else {
+            uint32_t both = pair(w);
+            put_wire(kind << 28 | both, modulus[both & 1023]);
+        }
+    } else if (kind == 10 && made > 0 && *outputs < MOST_OUTPUTS) {
+        *stage = 2;
+        ++*outputs;
+        put(10u << 28 | (w & 1023) % made);
+    }
+    return at;
+}
+
+static void mend(const uint8_t *from, size_t words) {
+    unsigned stage = 0;
+    uint32_t outputs = 0;
+    mended_words = made = 0;
+    put(1u << 28);
+    for (size_t at = 1; at < words && word_at(from, at) >> 28 != 11;) {
+        uint32_t w = word_at(from, at);
+        at = mend_word(w, from, words, at + 1, &stage, &outputs);
+    }
+    if (made == 0)
+        put_wire(2u << 28 | 2, 2);
+    if (outputs == 0)
+        put(10u << 28 | (made - 1));
+    put(11u << 28);
+}
+
+/* Lays the mended words down as the file. */
+static void lay_mended(size_t length) {
+    set_length(&file, length);
+    for (size_t i = 0; i < file.length; i++)
+        bytes(&file)[i] = i / 4 < mended_words ? (uint8_t)(mended[i / 4] >> 8 * (i % 4)) : (uint8_t)head.damage;
+}
+
+/* A mended file with one damage: cut off, longer, or one word changed. */
+static void read_damaged(void) {
+    const size_t whole = 4 * mended_words, cut = head.faults[0].where % whole, index = head.faults[0].where % mended_words;
+    if (head.damage % 4 == 0) {
+        lay_mended(cut);
+        must(READ, cut < 4 ? 1 : 10, cut / 4);
+    } else if (head.damage % 4 == 1) {
+        lay_mended(whole + 1 + head.faults[0].where % 8);
+        must(READ, 10, mended_words);
+    } else {
+        mended[index] ^= head.damage;
+        lay_mended(whole);
+        lupiknam_answer a = make(READ);
+        check(a.number == 0 || a.place >= index, "no fault before the damaged word");
+    }
+}
+
+static void read_file(const uint8_t *data, size_t size) {
+    size = size < 4 * (MOST_WORDS - 1024) ? size : 4 * (MOST_WORDS - 1024);
+    if (head.mode % 4 == 0) {
+        set_length(&file, size);
+        set_bytes(&file, data);
+        make(READ);
+    } else {
+        mend(data, size / 4);
+        if (head.mode % 4 == 2) {
+            read_damaged();
+        } else {
+            lay_mended(4 * mended_words);
+            must(READ, 0, 0);
+        }
+    }
+    if (reading.number != 0)
+        memset(&counts, 0, sizeof counts);
+    else
+        check(memcmp(bytes(&numbers), &counts, sizeof counts) == 0, "the counts are those of the file");
+}
+
+/* ---- loose calls: lengths right or nearly so or any, contents all one byte */
+
+static int dear(void) {
+    const uint64_t pad = (13 + (uint64_t)k) / 136 + (8 * (uint64_t)k + 135) / 136;
+    return (counts.rows + (uint64_t)n * opened_rows) * n * n * pad > MOST_PERMUTATIONS;
+}
+
+static int in_range(void) {
+    return n >= 2 && n <= 8 && k >= 1 && k <= 128 && party < n;
+}
+
+static void loosen(struct buffer *b) {
+    static const uint8_t contents[] = {0, 1, 2, 250, 254, 255};
+    size_t right = in_range() && reading.number == 0 ? exact(b) : drawn(64);
+    switch (head.loose & 8 ? 3 : drawn(8)) {
+    case 0:
+        right += 1 + drawn(4);
+        break;
+    case 1:
+        right -= right > 0;
+        break;
+    case 2:
+        right = drawn(4096);
+        break;
+    }
+    set_length(b, right);
+    memset(bytes(b), in_range() && dear() ? FILL : contents[head.loose % 8 % sizeof contents], b->length);
+}
+
+static void call_loosely(void) {
+    for (size_t i = 1; i < BUFFERS; i++)
+        if (all[i] != &numbers && all[i] != &count && all[i] != &meter)
+            loosen(all[i]);
+    for (enum call c = INPUTS_OF; c < CALLS; c++) {
+        memcpy(bytes(&meter), &head.meter, 4);
+        make(c);
+    }
+}
+
+/* ---- a round */
+
+/* A byte below p, by the style of the draw: any, the largest, none, or one of these two. */
+static uint8_t below(unsigned p) {
+    switch (head.style % 4) {
+    case 0:
+        return (uint8_t)drawn(p);
+    case 1:
+        return (uint8_t)(p - 1);
+    case 2:
+        return 0;
+    default:
+        return (uint8_t)(drawn(2) * (p - 1));
+    }
+}
+
+static void draw_contributions(void) {
+    uint8_t *c = bytes(&contributions);
+    for (size_t i = 0; i < contributions.length; i++)
+        c[i] = below(modulus_at(&contributions, i));
+    for (uint32_t j = 0; j < n; j++) /* no offset is zero */
+        for (uint32_t q = 0; q < counts.moduli; q++) {
+            uint8_t *offset = c + j * contribution_size() + (size_t)q * k;
+            if (all_are(offset, offset + k, 0))
+                offset[drawn(k)] = (uint8_t)(1 + drawn(contribution_modulus[q * k] - 1u));
+        }
+}
+
+static void set_party(uint32_t j) {
+    party = j;
+    list_own();
+    set_length(&own_values, own);
+    set_length(&own_masks, own);
+    set_length(&own_externals, own);
+    set_bytes(&contribution, bytes(&contributions) + party * contribution.length);
+    for (uint32_t i = 0; i < own; i++) {
+        bytes(&own_values)[i] = bytes(&values)[own_wire[i]];
+        bytes(&own_masks)[i] = bytes(&input_masks)[own_wire[i]];
+    }
+}
+
+static void exchange(void) {
+    uint32_t owned = 0;
+    for (uint32_t j = 0; j < n; j++) {
+        set_party(j);
+        must(INPUTS_OF, 0, 0);
+        check(word_at(bytes(&count), 0) == own, "a party's inputs are counted");
+        must(EXTERNALS, 0, 0);
+        for (uint32_t i = 0; i < own; i++)
+            bytes(&externals)[own_wire[i]] = bytes(&own_externals)[i];
+        owned += own;
+    }
+    check(owned == counts.inputs, "every input has one owner");
+    for (uint32_t j = 0; j < n; j++) {
+        set_party(j);
+        must(INPUT_KEYS, 0, 0);
+        for (size_t w = 0; w < counts.inputs; w++)
+            memcpy(bytes(&keys) + (w * n + j) * k, bytes(&own_keys) + w * k, k);
+    }
+}
+
+/* Every party opens the same keys and external values, those of the inputs are the ones lent, and every party decodes the plain figures. */
+static void open_at_all(uint32_t last) {
+    static uint8_t first_keys[1 << 21], first_externals[4096];
+    for (uint32_t j = 1; j <= n; j++) {
+        set_party((last + j) % n);
+        must(OPEN, 0, 0);
+        if (j == 1) {
+            memcpy(first_keys, bytes(&wire_keys), wire_keys.length);
+            memcpy(first_externals, bytes(&wire_externals), wire_externals.length);
+        }
+        check(memcmp(first_keys, bytes(&wire_keys), wire_keys.length) == 0, "all parties open the same keys");
+        check(memcmp(first_externals, bytes(&wire_externals), wire_externals.length) == 0, "all parties open the same external values");
+        must(DECODE, 0, 0);
+        check(memcmp(bytes(&decoded), bytes(&figures), figures.length) == 0, "a round decodes the plain circuit's outputs");
+    }
+    check(memcmp(first_keys, bytes(&keys), keys.length) == 0, "the keys of inputs are those lent");
+    check(memcmp(first_externals, bytes(&externals), externals.length) == 0, "the external values of inputs are those lent");
+}
+
+static void play(void) {
+    const uint32_t last = party, space = UINT32_MAX - counts.rows, start_at = head.meter < space ? head.meter : space;
+    list_contribution();
+    for (size_t i = 1; i < BUFFERS; i++) {
+        set_length(all[i], exact(all[i]));
+        check(all[i]->length == exact(all[i]), "a round that is played fits its buffers");
+    }
+    for (uint32_t w = 0; w < counts.inputs; w++)
+        bytes(&values)[w] = (uint8_t)drawn(modulus[w]);
+    draw_contributions();
+    memcpy(bytes(&meter), &start_at, 4);
+    must(PLAIN, 0, 0);
+    must(GARBLE, 0, 0);
+    exchange();
+    open_at_all(last);
+    rounds++;
+}
+
+/* ---- calls of the round again, each with one fault; all else is right, so the answer is known */
+
+enum { BAD_N, BAD_K, BAD_PARTY, OWNER_ABSENT, BAD_LENGTH, BAD_BYTE, ZERO_OFFSET, OTHER_KEY, OTHER_ROW, FULL_METER, FAULT_KINDS };
+COUNTERS static uint8_t met_fault[CALLS][FAULT_KINDS];
+
+static const uint32_t odd_numbers[] = {0, 129, 255, 256, 258, 1 << 16 | 3, UINT32_MAX, 1u << 31 | 2, 1u << 24 | 16};
+
+static void spoil_number(enum call c, struct fault f) {
+    const uint32_t odd = odd_numbers[f.where % 9], n_was = n, k_was = k, party_was = party;
+    if (f.kind == BAD_N) {
+        n = f.where / 9 % 3 == 0 ? 1 : f.where / 9 % 3 == 1 ? 9 : odd;
+        must(c, 11, 0);
+    } else if (f.kind == BAD_K) {
+        k = odd;
+        must(c, 11, 0);
+    } else if (f.kind == BAD_PARTY) {
+        party = odd < n ? n : odd;
+        must(c, 12, party);
+    } else {
+        uint32_t w = 0;
+        n = 2 + f.where % (n - 1);
+        while (w < counts.inputs && owner[w] < n)
+            w++;
+        if (w < counts.inputs && (party < n || !(calls[c].given & TAKES_PARTY)))
+            must(c, 13, w);
+    }
+    n = n_was, k = k_was, party = party_was;
+}
+
+/* One of the buffers that a call reads, or of those that it reads or writes; the meter has no length of its own. */
+static struct buffer *one_of(enum call c, struct fault f, int written_too) {
+    struct buffer *found[8];
+    unsigned many = 0;
+    for (int i = 0; i < 4 && calls[c].read[i]; i++)
+        found[many++] = calls[c].read[i];
+    for (int i = 0; written_too && i < 4 && calls[c].written[i] && calls[c].written[i] != &meter; i++)
+        found[many++] = calls[c].written[i];
+    return found[f.where % many];
+}
+
+static void spoil_length(enum call c, struct fault f) {
+    static const int steps[] = {-1, 1, 3, 64, -64};
+    struct buffer *b = one_of(c, f, 1);
+    const size_t was = b->length;
+    const long other = (long)was + steps[f.where / 8 % 5];
+    set_length(b, other < 0 ? was + 1 : (size_t)other);
+    must(c, 14, 0);
+    b->length = was;
+}
+
+/* A byte changed to another: at its modulus or above, or still below. */
+static void change(struct buffer *b, size_t at, int too_large, uint16_t by) {
+    const unsigned p = modulus_at(b, at), was = bytes(b)[at];
+    bytes(b)[at] = (uint8_t)(too_large ? p + by % (256 - p) : (was + 1 + by % (p - 1)) % p);
+}
+
+static void spoil_byte(enum call c, struct fault f) {
+    struct buffer *b = one_of(c, f, 0);
+    if (b->length == 0)
+        return;
+    const size_t at = drawn((uint32_t)b->length);
+    const uint8_t was = bytes(b)[at];
+    change(b, at, 1, f.where / 8);
+    must(c, b == &keys || b == &rows ? 18 : b == &contribution || b == &contributions ? 16 : 15, at);
+    bytes(b)[at] = was;
+}
+
+static void spoil_offset(enum call c, struct fault f) {
+    struct buffer *b = calls[c].read[0];
+    uint8_t was[128];
+    const size_t q = f.where % counts.moduli, j = b == &contributions ? drawn(n) : 0;
+    uint8_t *offset = bytes(b) + j * contribution_size() + q * k;
+    memcpy(was, offset, k);
+    memset(offset, 0, k);
+    must(c, 17, contribution_modulus[q * k]);
+    memcpy(offset, was, k);
+}
+
+/* Opening with another key of its own or another external value meets 19; with another row or another party's key it may notice or not. */
+static void spoil_opening(struct fault f) {
+    const size_t w = drawn(counts.inputs), row = (size_t)n * k;
+    struct buffer *b = f.kind == OTHER_ROW && f.where & 1 ? &rows : f.kind == OTHER_KEY && f.where & 1 ? &externals : &keys;
+    if (b->length == 0)
+        return;
+    const uint32_t j = f.kind == OTHER_KEY ? party : (party + 1 + drawn(n - 1)) % n;
+    const size_t at = b == &rows ? drawn((uint32_t)rows.length) : b == &externals ? w : w * row + j * k + drawn(k);
+    const uint8_t was = bytes(b)[at];
+    change(b, at, 0, f.where / 8);
+    if (f.kind == OTHER_KEY) {
+        must(OPEN, 19, w);
+    } else {
+        lupiknam_answer a = make(OPEN);
+        check(a.number == 0 || a.number == 20, "opening other rows is accepted or meets 20");
+    }
+    bytes(b)[at] = was;
+}
+
+static void spoil_meter(struct fault f) {
+    uint32_t full = UINT32_MAX - counts.rows;
+    if (counts.rows > 0 && f.where & 1)
+        full += 1 + f.where % counts.rows;
+    memcpy(bytes(&meter), &full, 4);
+    must(GARBLE, full > UINT32_MAX - counts.rows ? 21 : 0, 0);
+}
+
+/* Whether a call can have a fault. */
+static int can_have(enum call c, unsigned kind) {
+    const uint32_t given = calls[c].given;
+    return kind == BAD_N || kind == OWNER_ABSENT ? given & TAKES_N : kind == BAD_K || kind == ZERO_OFFSET ? given & TAKES_K
+        : kind == BAD_PARTY ? given & TAKES_PARTY : kind == BAD_LENGTH || kind == BAD_BYTE ? calls[c].read[0] != NULL
+        : kind == FULL_METER ? c == GARBLE : c == OPEN;
+}
+
+static void spoil(struct fault f) {
+    const uint64_t before = made_calls;
+    enum call c = INPUTS_OF + f.call % (CALLS - INPUTS_OF);
+    f.kind %= FAULT_KINDS;
+    while (!can_have(c, f.kind))
+        c = c + 1 < CALLS ? c + 1 : INPUTS_OF;
+    met_fault[c][f.kind] = 1;
+    if (f.kind <= OWNER_ABSENT)
+        spoil_number(c, f);
+    else if (f.kind == BAD_LENGTH)
+        spoil_length(c, f);
+    else if (f.kind == BAD_BYTE)
+        spoil_byte(c, f);
+    else if (f.kind == ZERO_OFFSET)
+        spoil_offset(c, f);
+    else if (f.kind == FULL_METER)
+        spoil_meter(f);
+    else
+        spoil_opening(f);
+    faulty += made_calls - before;
+}
+
+/* Every fault is taken back; what a refused call had filled before it was made is put back here. */
+static void spoil_all(void) {
+    static uint8_t rows_were[1 << 21], masks_were[MOST_OUTPUTS], externals_were[MOST_WIRES];
+    memcpy(rows_were, bytes(&rows), rows.length);
+    memcpy(masks_were, bytes(&output_masks), output_masks.length);
+    memcpy(externals_were, bytes(&wire_externals), wire_externals.length);
+    for (int i = 0; i < FAULTS; i++) {
+        spoil(head.faults[i]);
+        set_bytes(&rows, rows_were);
+        set_bytes(&output_masks, masks_were);
+        set_bytes(&wire_externals, externals_were);
+    }
+}
+
+/* ---- what libFuzzer calls */
+
+static void report(void) {
+    fprintf(stderr, "%llu calls, %llu whole rounds, %llu calls of a round with a fault; answers:\n", (unsigned long long)made_calls,
+        (unsigned long long)rounds, (unsigned long long)faulty);
+    for (enum call c = READ; c < CALLS; c++) {
+        fprintf(stderr, "%s:", calls[c].name);
+        for (int number = 0; number < NUMBERS; number++)
+            if (number == 0 || calls[c].refusals >> number & 1)
+                fprintf(stderr, " %d=%llu", number, (unsigned long long)met[c][number]);
+        fputc('\n', stderr);
+    }
+}
+
+int LLVMFuzzerInitialize(int *argc, char ***argv) {
+    (void)argc, (void)argv;
+    list_primes();
+    map_buffers();
+    atexit(report);
+    return 0;
+}
+
+int LLVMFuzzerTestOneInput(const uint8_t *data, size_t size) {
+    if (size < sizeof head)
+        return 0;
+    memcpy(&head, data, sizeof head);
+    random_state = head.seed;
+    n = head.n, k = head.k, party = head.party;
+    if (head.mode % 4 != 0) {
+        n = 2 + n % 7;
+        k = 1 + k % 128;
+        party %= n;
+    }
+    numbers.length = 24, count.length = meter.length = 4;
+    read_file(data + sizeof head, size - sizeof head);
+    list_own();
+    call_loosely();
+    for (uint32_t w = 0; w < counts.inputs; w++)
+        if (owner[w] >= n)
+            return 0;
+    if (reading.number != 0 || !in_range() || dear())
+        return 0;
+    play();
+    spoil_all();
+    return 0;
+}

@@ -1,0 +1,108 @@
+/*
+ * Faults to try the harness on: `fuzz/run --planted` puts these calls in front of the archive's, which are then called engine_..., and the
+ * harness must find each fault. PLANTED is the number of the fault to make, 1 to FAULTS.
+ */
+#include "lupiknam.h"
+#include <stdlib.h>
+#include <string.h>
+
+enum { FAULTS = 15 }; /* fuzz/run reads this line */
+
+#define FILE_PARAMETERS const uint8_t *file, size_t length
+#define READ_ONLY(name) const uint8_t *name, size_t name##_length
+#define WRITTEN(name) uint8_t *name, size_t name##_length
+
+lupiknam_answer engine_read(FILE_PARAMETERS, uint32_t *, uint32_t *, uint32_t *, uint32_t *, uint32_t *, uint32_t *);
+lupiknam_answer engine_inputs_of(FILE_PARAMETERS, uint32_t, uint32_t, uint32_t *);
+lupiknam_answer engine_plain(FILE_PARAMETERS, READ_ONLY(values), WRITTEN(outputs));
+lupiknam_answer engine_garble(FILE_PARAMETERS, uint32_t, uint32_t, READ_ONLY(contributions), WRITTEN(rows), WRITTEN(input_masks),
+    WRITTEN(output_masks), uint32_t *);
+lupiknam_answer engine_externals(FILE_PARAMETERS, uint32_t, uint32_t, READ_ONLY(values), READ_ONLY(masks), WRITTEN(externals));
+lupiknam_answer engine_input_keys(FILE_PARAMETERS, uint32_t, uint32_t, uint32_t, READ_ONLY(contribution), READ_ONLY(externals),
+    WRITTEN(keys));
+lupiknam_answer engine_open(FILE_PARAMETERS, uint32_t, uint32_t, uint32_t, READ_ONLY(contribution), READ_ONLY(externals), READ_ONLY(keys),
+    READ_ONLY(rows), WRITTEN(wire_keys), WRITTEN(wire_externals));
+lupiknam_answer engine_decode(FILE_PARAMETERS, READ_ONLY(externals), READ_ONLY(masks), WRITTEN(outputs));
+
+static int planted(int number) {
+    const char *given = getenv("PLANTED");
+    return given && atoi(given) == number;
+}
+
+lupiknam_answer lupiknam_read(FILE_PARAMETERS, uint32_t *wires, uint32_t *inputs, uint32_t *outputs, uint32_t *rows, uint32_t *moduli,
+    uint32_t *records) {
+    if (planted(1) && length > 0 && length % 4 == 0 && file[length] == 1) // looks at the byte after the file
+        return (lupiknam_answer){1, 0};
+    uint32_t c[6];
+    lupiknam_answer a = engine_read(file, length, c, c + 1, c + 2, c + 3, c + 4, c + 5);
+    if (planted(2) && a.number == 6) // a number written though the file is refused
+        *records = 0;
+    if (planted(3) && a.number == 0 && c[4] == 4) // a good file refused
+        return (lupiknam_answer){4, 1};
+    return engine_read(file, length, wires, inputs, outputs, rows, moduli, records);
+}
+
+lupiknam_answer lupiknam_inputs_of(FILE_PARAMETERS, uint32_t n, uint32_t party, uint32_t *count) {
+    lupiknam_answer a = engine_inputs_of(file, length, n, party, count);
+    if (planted(4) && a.number == 12) // a place left out
+        a.place = 0;
+    return a;
+}
+
+lupiknam_answer lupiknam_plain(FILE_PARAMETERS, READ_ONLY(values), WRITTEN(outputs)) {
+    lupiknam_answer a = engine_plain(file, length, values, values_length, outputs, outputs_length);
+    if (planted(5) && a.number == 0 && values_length == 5 && values[4] > 0) // a wrong figure, still below its modulus
+        outputs[0] = outputs[0] == 0;
+    return a;
+}
+
+lupiknam_answer lupiknam_garble(FILE_PARAMETERS, uint32_t n, uint32_t k, READ_ONLY(contributions), WRITTEN(rows), WRITTEN(input_masks),
+    WRITTEN(output_masks), uint32_t *meter) {
+    lupiknam_answer a = engine_garble(file, length, n, k, contributions, contributions_length, rows, rows_length, input_masks,
+        input_masks_length, output_masks, output_masks_length, meter);
+    if (planted(6) && a.number == 17) // the meter counts though the call is refused
+        ++*meter;
+    if (planted(7) && a.number == 0 && n == 7) // a byte too many
+        output_masks[output_masks_length] = 0;
+    if (planted(8) && a.number == 0 && rows_length > 0) // the last byte not written
+        rows[rows_length - 1] = 255;
+    return a;
+}
+
+lupiknam_answer lupiknam_externals(FILE_PARAMETERS, uint32_t n, uint32_t party, READ_ONLY(values), READ_ONLY(masks), WRITTEN(externals)) {
+    lupiknam_answer a = engine_externals(file, length, n, party, values, values_length, masks, masks_length, externals, externals_length);
+    if (planted(9) && a.number == 0 && masks_length > 1) // writes what it should only read, the byte that is there
+        ((volatile uint8_t *)(uintptr_t)masks)[1] = masks[1];
+    return a;
+}
+
+lupiknam_answer lupiknam_input_keys(FILE_PARAMETERS, uint32_t n, uint32_t k, uint32_t party, READ_ONLY(contribution), READ_ONLY(externals),
+    WRITTEN(keys)) {
+    lupiknam_answer a = engine_input_keys(file, length, n, k, party, contribution, contribution_length, externals, externals_length, keys,
+        keys_length);
+    if (planted(10) && a.number == 16) // a byte written though the call is refused
+        keys[keys_length - 1] = 0;
+    return a;
+}
+
+lupiknam_answer lupiknam_open(FILE_PARAMETERS, uint32_t n, uint32_t k, uint32_t party, READ_ONLY(contribution), READ_ONLY(externals),
+    READ_ONLY(keys), READ_ONLY(rows), WRITTEN(wire_keys), WRITTEN(wire_externals)) {
+    lupiknam_answer a = engine_open(file, length, n, k, party, contribution, contribution_length, externals, externals_length, keys,
+        keys_length, rows, rows_length, wire_keys, wire_keys_length, wire_externals, wire_externals_length);
+    if (planted(11) && a.number == 20) // not all zero after 20
+        wire_keys[wire_keys_length / 2] = 1;
+    if (planted(12) && a.number == 19) // another place
+        a.place++;
+    if (planted(13) && a.number == 0 && n > 2 && party == 2) // another key at one party, still below its modulus
+        wire_keys[0] = wire_keys[0] == 0;
+    return a;
+}
+
+lupiknam_answer lupiknam_decode(FILE_PARAMETERS, READ_ONLY(externals), READ_ONLY(masks), WRITTEN(outputs)) {
+    lupiknam_answer a = engine_decode(file, length, externals, externals_length, masks, masks_length, outputs, outputs_length);
+    if (planted(14) && a.number == 14) // a byte before the buffer
+        memset(outputs - 1, 0, 1);
+    while (planted(15) && a.number == 0 && outputs_length == 2) // does not end
+        continue;
+    return a;
+}
