@@ -31,7 +31,7 @@ descent h zero d l z b x e = absurd (omega arith)
 descent {p} h (suc n) d l z b x e = ⊎-elim
     (λ (w : 1 ≡ d). (let one : x ≡ d * x = rw (← w) (omega arith) in ap (λ (m : ℕ). m % p) one ∙ e))
     (λ (w : 1 < d). (let smaller = mod-lt p z in
-    descent h n (p % d) (omega arith) (h .rest d w b) (omega arith) x (step p d x e)))
+    descent h n (p % d) (omega arith) (h .remainder d w b) (omega arith) x (step p d x e)))
     (eq-or-lt-of-le z)
 
 -- a prime that divides d * x and not d divides x

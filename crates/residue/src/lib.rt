@@ -12,6 +12,7 @@ pub use keys::key_of;
 pub use keys::scale;
 pub use keys::sub_from;
 pub use primes::is_modulus;
+pub use primes::prime_from;
 pub use primes::prime_table;
 pub use primes::primes_below;
 pub use residues::add;
