@@ -2,7 +2,7 @@
 -- Assumes nothing.
 use mathlib.Core.Path.{_≡_, refl, sym, ap, subst, _∙_}
 use mathlib.Core.Bool.{Bool, true, false}
-use mathlib.Core.List.{List, [], _∷_, _++_}
+use mathlib.Core.List.{List, [], _++_}
 use Prim.Native.Nat.{ℕ, zero, suc, _+_, _-_, _*_, _≤_, _<_}
 use native.Mathlib.Nat.{le-refl}
 use native.Mathlib.Numerals.{add-one}
@@ -22,7 +22,7 @@ use Rattle.residue.proofs.Vectors.{addV-length, subV-length, addV-below, subV-b
 use Rattle.residue.proofs.VectorRing.{vring}
 use Rattle.residue.proofs.VectorRing.VExpr.{vec, _⊞_, _⊟_}
 use Rattle.pads.specs.Moved.{moved, Asked}
-use Rattle.pads.specs.Pad.{Under, Pad, padInput, shakePad, padSum, padRow}
+use Rattle.pads.specs.Pad.{Under, padInput, shakePad, padSum, padRow}
 use Rattle.pads.proofs.Sizes.{shakePad-length, padSum-length}
 
 moved-length : (minus : Bool) (q : ℕ) (xs ys : List ℕ) → length xs ≡ length ys → length (moved minus q xs ys) ≡ length xs

@@ -10,7 +10,7 @@ use lib.ListN.{length, getD}
 use Rattle.residue.specs.Prime.{Prime}
 use Rattle.residue.specs.Residue.{add, sub, mul}
 use Rattle.residue.specs.Vector.{keyV, AllBelow, NotZero}
-use Rattle.residue.proofs.Ring.{Expr, ring}
+use Rattle.residue.proofs.Ring.{ring}
 use Rattle.residue.proofs.Ring.Expr.{var, _⊕_, _⊖_, _⊗_}
 use Rattle.residue.proofs.Vectors.{keyV-at, mul-below, sub-below}
 

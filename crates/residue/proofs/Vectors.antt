@@ -93,9 +93,6 @@ pub subV-below : {p : ℕ} → 0 < p → (xs ys : List ℕ) → AllBelow p (subV
 unfolding subV
 subV-below {p} h xs ys = record { entry = zip-below (sub p) p (sub-below h) xs ys }
 
-pub mulV-below : {p : ℕ} → 0 < p → (c : ℕ) (xs : List ℕ) → AllBelow p (mulV p c xs)
-mulV-below {p} h c xs = record { entry = λ i l. rw (mulV-at p c xs i (omega (arith, mulV-length p c xs))) (mul-below h _ _) }
-
 pub keyV-below : {p : ℕ} → 0 < p → (k : List ℕ) (e : ℕ) (d : List ℕ) → AllBelow p (keyV p k e d)
 unfolding keyV
 keyV-below {p} h k e d = addV-below h k (mulV p e d)

@@ -1,9 +1,8 @@
 -- `pads::entries::move_pads` meets its contract: sender by sender.
 -- Assumes nothing.
-use mathlib.Core.Path.{_≡_, refl, sym, ap, _∙_}
+use mathlib.Core.Path.{_≡_, sym, ap, _∙_}
 use Prim.Native.Nat.{_-_, _≤_}
 use native.Mathlib.Omega.{arith}
-use borrow.Author.Needs.{needs}
 use lib.ListN.{length}
 use Rattle.lists.proofs.Sums.{times-fits}
 use Rattle.pads.specs.Moved.{moved, placed}

@@ -1,6 +1,5 @@
 -- `pads::remainder::added` meets its contract: the residue joins the folded number.
 -- Assumes nothing.
-use native.Mathlib.Omega.{arith}
 use borrow.Author.Needs.{needs}
 use Rattle.pads.proofs.Folded.{added-is}
 use Rattle.pads.proofs.remainder.added.Statement.{statement}

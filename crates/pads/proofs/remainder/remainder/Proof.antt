@@ -2,7 +2,6 @@
 -- Assumes nothing.
 use native.Mathlib.Nat.{mod-lt}
 use native.Mathlib.Omega.{arith}
-use borrow.Author.Needs.{needs}
 use Rattle.pads.proofs.Folded.{product-fits, quotient-low, rest-is}
 use Rattle.pads.proofs.remainder.remainder.Statement.{statement}
 use Rattle.pads.proofs.remainder.remainder.Tie as tie
