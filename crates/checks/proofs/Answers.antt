@@ -15,6 +15,7 @@ use Rattle.checks.specs.Answer.{numberIn, placeIn}
 use Rattle.checks.specs.Checked.{Checked, Meets, Reports, answered, andThen, unless, noneBad, unlessFree, noneBadFree, afterwards}
 use Rattle.checks.specs.Checked.Checked.{passed}
 use Rattle.checks.specs.Checked.Meets.{accepts, names, namesSome}
+use Rattle.checks.specs.Checked.Reports.{reports}
 
 -- ---- the answer that the code puts together
 
@@ -44,9 +45,7 @@ meets-answered (Refused reason place) = names
 -- ---- an answer's number and place
 
 pub meets-reports : {checks : Checked} {answer : Answer} {number place : ℕ} → Meets checks answer → number ≡ numberIn answer → place ≡ placeIn answer → Reports checks number place
-meets-reports accepts e f = rw (e, f) Reports.accepts
-meets-reports names e f = rw (e, f) Reports.names
-meets-reports (namesSome h) e f = rw (e, f) (Reports.namesSome h)
+meets-reports m e f = rw (e, f) (reports m)
 
 -- ---- one check after another: the second answer counts, and has to be right, only where the first check passed
 

@@ -9,6 +9,7 @@ use lib.Arith.{digits-div}
 use lib.Dec.{lit<}
 use Rattle.residue.specs.Residue.{add, sub}
 use Rattle.pads.specs.Factored.{FactorsOf, Folded}
+use Rattle.pads.specs.Moved.{shifted}
 use Rattle.pads.specs.declared.remainder.Factors.{Factors}
 
 -- ---- the folds
@@ -98,12 +99,12 @@ module _ (q m z : ℕ) (modulus : 1 < q) (byte : q < 256) (reciprocal : m ≡ 17
 
 -- ---- a residue joined to a folded number
 
-pub added-is : (a : ℕ) {q x z r : ℕ} → Folded q x z → r ≡ (z + a) % q → r ≡ add q a (x % q)
-unfolding add
-added-is a {q} {x} {z} {r} s e =
+pub put-on : (a : ℕ) {q x z r : ℕ} → Folded q x z → r ≡ (z + a) % q → r ≡ shifted false q a (x % q)
+unfolding shifted add
+put-on a {q} {x} {z} {r} s e =
     e ∙ sym (mod-add-mod z q a) ∙ ap (λ (n : ℕ). (n + a) % q) (s .same) ∙ ap (λ (n : ℕ). n % q) (add-comm (x % q) a)
 
-apart : (a q t u d r z top : ℕ) → top ≡ t * q → u * q + r ≡ z → t ≡ u + 1 + d → r ≤ q → top + a - z ≡ a + (q - r) + d * q
+apart : (a q t u d r z top : ℕ) → top ≡ t * q → u * q + r ≡ z → t ≡ u + 1 + d → r ≤ q → top - z + a ≡ a + (q - r) + d * q
 apart a q t u d r z top e f g h =
     let whole : top ≡ (u + 1 + d) * q = e ∙ ap (λ (n : ℕ). n * q) g in
     omega arith
@@ -119,9 +120,9 @@ top-above {q} {top} h e =
     let whole : top ≡ 33554432 / q * q + q = e ∙ omega arith in
     (omega arith, omega arith)
 
-pub taken-is : (a : ℕ) {q x z top r : ℕ} → 1 < q → top ≡ (33554432 / q + 1) * q → Folded q x z → r ≡ (top + a - z) % q → r ≡ sub q a (x % q)
-unfolding sub
-taken-is a {q} {x} {z} {top} {r} h e s d =
+pub taken-off : (a : ℕ) {q x z top r : ℕ} → 1 < q → top ≡ (33554432 / q + 1) * q → Folded q x z → r ≡ (top - z + a) % q → r ≡ shifted true q a (x % q)
+unfolding shifted sub
+taken-off a {q} {x} {z} {top} {r} h e s d =
     let above : z < top = omega (arith, s .small, top-above h e .0) in
     let u : ℕ = z / q in
     let t : ℕ = 33554432 / q + 1 in

@@ -7,8 +7,8 @@ use native.Mathlib.Nat.{suc-inj}
 use native.Mathlib.Omega.{arith}
 use lib.ListN.{length, take, drop, length-take, length-drop}
 use lib.Seq.{getD-take, getD-drop}
-use Rattle.residue.specs.Residue.{add, sub, mul}
-use Rattle.residue.specs.Vector.{zipWith, addV, subV, mulV, keyV, AllBelow}
+use Rattle.residue.specs.Residue.{add, mul}
+use Rattle.residue.specs.Vector.{zipWith, addV, mulV, keyV, AllBelow}
 
 zip-nil : (f : ℕ → ℕ → ℕ) (xs : List ℕ) → zipWith f xs [] ≡ []
 unfolding zipWith
@@ -29,7 +29,7 @@ zip-drop f (suc n) [] ys = refl
 zip-drop f (suc n) (x ∷ xs) [] = rw (zip-nil f (drop n xs))
 zip-drop f (suc n) (x ∷ xs) (y ∷ ys) = zip-drop f n xs ys
 
-zip-append : (f : ℕ → ℕ → ℕ) (xs ys xs′ ys′ : List ℕ) → length xs ≡ length ys → zipWith f (xs ++ xs′) (ys ++ ys′) ≡ zipWith f xs ys ++ zipWith f xs′ ys′
+pub zip-append : (f : ℕ → ℕ → ℕ) (xs ys xs′ ys′ : List ℕ) → length xs ≡ length ys → zipWith f (xs ++ xs′) (ys ++ ys′) ≡ zipWith f xs ys ++ zipWith f xs′ ys′
 unfolding zipWith
 zip-append f [] [] xs′ ys′ e = refl
 zip-append f [] (y ∷ ys) xs′ ys′ e = absurd (omega arith)
@@ -54,14 +54,6 @@ module _ (p : ℕ) where
   pub addV-drop : (n : ℕ) (xs ys : List ℕ) → drop n (addV p xs ys) ≡ addV p (drop n xs) (drop n ys)
   unfolding addV
   addV-drop n xs ys = zip-drop (add p) n xs ys
-
-  pub addV-append : (xs ys xs′ ys′ : List ℕ) → length xs ≡ length ys → addV p (xs ++ xs′) (ys ++ ys′) ≡ addV p xs ys ++ addV p xs′ ys′
-  unfolding addV
-  addV-append xs ys xs′ ys′ e = zip-append (add p) xs ys xs′ ys′ e
-
-  pub subV-append : (xs ys xs′ ys′ : List ℕ) → length xs ≡ length ys → subV p (xs ++ xs′) (ys ++ ys′) ≡ subV p xs ys ++ subV p xs′ ys′
-  unfolding subV
-  subV-append xs ys xs′ ys′ e = zip-append (sub p) xs ys xs′ ys′ e
 
   pub mulV-take : (n c : ℕ) (xs : List ℕ) → take n (mulV p c xs) ≡ mulV p c (take n xs)
   unfolding mulV

@@ -1,4 +1,4 @@
--- What SHAKE256 gives: as many bytes as were asked for, each below 256; and of 8·n bytes n numbers, each below 2^64.
+-- Of 8·n bytes as many as n numbers are made.
 -- Assumes nothing.
 use mathlib.Core.Path.{_≡_, refl, ap, _∙_}
 use Prim.Native.Nat.{ℕ, zero, suc, _*_, _/_}
@@ -7,10 +7,6 @@ use native.Mathlib.Nat.{mul-div-right}
 use lib.Dec.{lit<}
 use lib.ListN.{length, drop}
 use Rattle.shake.specs.Numbers.{firstNumbers, numbers}
-
--- ---- bytes
-
--- ---- numbers
 
 firstNumbers-length : (n : ℕ) (bs : List ℕ) → length (firstNumbers n bs) ≡ n
 unfolding firstNumbers

@@ -2,7 +2,8 @@
 -- Assumes nothing.
 use mathlib.Core.Path.{sym}
 use borrow.Author.Needs.{needs}
-use Rattle.pads.specs.Moved.{moved}
+use Rattle.residue.specs.Vector.{addV}
+use Rattle.pads.specs.Moved.{shifted, moved}
 use Rattle.pads.proofs.entries.add_pad_row.Statement.{statement}
 use Rattle.pads.proofs.entries.add_pad_row.Tie as tie
 
@@ -22,7 +23,7 @@ same-length : tie.Need-same-length
 same-length c = search needs
 
 returns : tie.Need-returns
-unfolding moved
+unfolding moved shifted addV
 returns c = c .before .before .before .move-pad-row .ensures
 
 pub add-pad-row-spec : {M : Type 1} → statement M
