@@ -49,12 +49,15 @@ fn remainder(q: u8, f: Factors, z: u64) -> u8
     (z - quotient * modulus) as u8
 }
 
-// a + x modulo `q`, or a - x: then the folded number is taken from the multiple of `q` first.
+// a + x modulo `q`, or a - x, for which the folded number is taken from the multiple of `q`.
 pub fn shifted(minus: bool, q: u8, f: Factors, a: u8, x: u64) -> u8
     requires { ⌜ FactorsOf q f ⌝ }
     ensures { λ r. ⌜ r ≡ shifted minus q a (x % q) ⌝ }
 {
     let z = folded(q, f, x);
-    let whole = if minus { (f.top as u64) - z } else { z };
-    remainder(q, f, whole + (a as u64))
+    if minus {
+        remainder(q, f, (f.top as u64) - z + (a as u64))
+    } else {
+        remainder(q, f, z + (a as u64))
+    }
 }
