@@ -10,7 +10,7 @@
 
 // the crate bench_calls
 void bench_permutation(uint64_t state[25]);
-void bench_numbers(const uint8_t *first, size_t first_len, const uint8_t *second, size_t second_len, uint64_t *out, size_t n);
+void bench_numbers(const uint8_t *key, size_t key_len, uint64_t *out, size_t n);
 
 enum { RUNS = 41 };
 
@@ -31,6 +31,7 @@ static double median(double *times) {
 }
 
 static uint64_t state[25], out[128];
+// what a pad's input has before the key: modulus, wire, component and receiver are 0
 static uint8_t prefix[13] = "ROWPAD", key[128];
 static size_t numbers;
 
@@ -61,7 +62,7 @@ static int load_openssl(void) {
 
 static void engine_permutation(void) { bench_permutation(state); }
 static void c_permutation(void) { baseline_permutation(state); }
-static void engine_numbers(void) { bench_numbers(prefix, sizeof prefix, key, numbers, out, numbers); }
+static void engine_numbers(void) { bench_numbers(key, numbers, out, numbers); }
 static void c_numbers(void) { baseline_numbers(prefix, sizeof prefix, key, numbers, out, numbers); }
 static void openssl_numbers(void) {
     ssl.init(ssl.ctx, ssl.shake256(), NULL);

@@ -1,11 +1,12 @@
-// The functions that bench/run calls from C. Rests on `keccak` and `shake`.
+// The functions that bench/run calls from C. Rests on `keccak` and `pads`.
 ghost use mathlib.Core.Path.{_≡_};
-ghost use mathlib.Core.List.{_++_};
 ghost use Prim.Native.Nat.{_*_};
 ghost use lib.ListN.{length};
 ghost use Rattle.keccak.specs.Keccak.{keccakF};
 ghost use Rattle.shake.specs.Numbers.{numbers};
 ghost use Rattle.shake.specs.Shake.{shake256};
+ghost use Rattle.pads.specs.Moved.{placed};
+ghost use Rattle.pads.specs.Pad.{padInput};
 
 // One permutation in place.
 #[no_mangle]
@@ -17,10 +18,10 @@ pub extern "C" fn bench_permutation(state: &mut [u64; 25])
     *state = after;
 }
 
-// The numbers of SHAKE256 of two fields, one after the other.
+// The numbers of a pad before they are reduced, for a sender's key; the other fields of its input are 0.
 #[no_mangle]
-pub extern "C" fn bench_numbers(first: &[u8], second: &[u8], out: &mut [u64])
-    ensures { λ _. ⌜ now (out .exit) ≡ numbers (shake256 (now (first .entry) ++ now (second .entry)) (8 * length (now (out .entry)))) ⌝ }
+pub extern "C" fn bench_numbers(key: &[u8], out: &mut [u64])
+    ensures { λ _. ⌜ now (out .exit) ≡ numbers (shake256 (padInput (placed 0 0 0) 0 (now (key .entry))) (8 * length (now (out .entry)))) ⌝ }
 {
-    shake::shake256_numbers(first, second, out);
+    pads::pad_numbers(0, 0, 0, 0, key, out);
 }

@@ -1,13 +1,12 @@
 -- Which answers meet a check: for code that searches for the lowest bad number, or for any, and makes its checks in turn.
 -- Assumes nothing.
-use mathlib.Core.Path.{_≡_, refl, sym, ap, _∙_}
+use mathlib.Core.Path.{_≡_, refl, sym, ap}
 use mathlib.Core.Bool.{Bool, true, false, cond, _&&_}
 use Prim.Native.Nat.{ℕ, _≤_, _<_}
-use native.Mathlib.Omega.{arith}
 use lib.Dec.{leb, ltb}
-use borrow.Author.Tests.{leb-true, leb-false, le-leb, lt-leb, lt-ltb}
+use borrow.Author.Tests.{leb-false, le-leb, lt-leb, lt-ltb}
 use Rattle.lists.specs.First.{first}
-use Rattle.lists.proofs.First.{first-at, first-before, first-here}
+use Rattle.lists.proofs.First.{first-here}
 use Rattle.checks.specs.declared.Refusal.{Refusal}
 use Rattle.checks.specs.declared.Answer.{Answer}
 use Rattle.checks.specs.declared.Answer.the-variants.{Accepted, Refused}
@@ -16,7 +15,7 @@ use Rattle.checks.specs.Answer.{numberIn, placeIn}
 use Rattle.checks.specs.Checked.{Checked, Meets, Reports, answered, andThen, unless, noneBad, unlessFree, noneBadFree, afterwards}
 use Rattle.checks.specs.Checked.Checked.{passed}
 use Rattle.checks.specs.Checked.Meets.{accepts, names, namesSome}
-use Rattle.checks.proofs.Passed.{noneBad-passed, somewhere-passed}
+use Rattle.checks.specs.Checked.Reports.{reports}
 
 -- ---- the answer that the code puts together
 
@@ -46,9 +45,7 @@ meets-answered (Refused reason place) = names
 -- ---- an answer's number and place
 
 pub meets-reports : {checks : Checked} {answer : Answer} {number place : ℕ} → Meets checks answer → number ≡ numberIn answer → place ≡ placeIn answer → Reports checks number place
-meets-reports accepts e f = rw (e, f) Reports.accepts
-meets-reports names e f = rw (e, f) Reports.names
-meets-reports (namesSome h) e f = rw (e, f) (Reports.namesSome h)
+meets-reports m e f = rw (e, f) (reports m)
 
 -- ---- one check after another: the second answer counts, and has to be right, only where the first check passed
 
@@ -90,29 +87,10 @@ module _ (n : ℕ) (bad : ℕ → Bool) (reason : Refusal) where
   unfolding noneBad
   meets-noneBad = meets-unless (leb n (first n bad)) reason (first n bad)
 
-  pub noneBad-met : ((i : ℕ) → i < n → bad i ≡ false) → Meets (noneBad n bad reason) Accepted
-  noneBad-met fine = meets-passed (noneBad-passed n bad reason fine)
-
-  pub noneBad-named : (i : ℕ) → i < n → ((j : ℕ) → j < i → bad j ≡ false) → bad i ≡ true → Meets (noneBad n bad reason) (Refused reason i)
-  unfolding noneBad unless
-  noneBad-named i h before here = rw (first-at n i bad h before here, lt-leb n i h, unless) names
-
   -- ---- the same where the place is free: any that is bad may be named, so the lowest may
-
-  pub somewhere-met : ((i : ℕ) → i < n → bad i ≡ false) → Meets (noneBadFree n bad reason) Accepted
-  somewhere-met fine = meets-passed (somewhere-passed n bad reason fine)
-
-  not-past : (i : ℕ) → i < n → bad i ≡ true → (b : Bool) → leb n (first n bad) ≡ b → leb n (first n bad) ≡ false
-  not-past i h here false e = e
-  not-past i h here true e = let z : _≡_ {A = Bool} true false = sym here ∙ first-before n i bad (omega (arith, leb-true n (first n bad) e)) in cc
 
   allowed : (i : ℕ) → i < n → bad i ≡ true → (ltb i n && bad i) ≡ true
   allowed i h here = rw (lt-ltb i n h, here)
-
-  pub somewhere-named : (i : ℕ) → i < n → bad i ≡ true → Meets (noneBadFree n bad reason) (Refused reason i)
-  unfolding noneBadFree unlessFree
-  somewhere-named i h here =
-      rw (not-past i h here (leb n (first n bad)) refl, unlessFree) (namesSome (allowed i h here))
 
   pub meets-somewhere : Meets (noneBadFree n bad reason) (named n (first n bad) reason)
   unfolding noneBadFree unlessFree

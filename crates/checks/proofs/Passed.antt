@@ -31,7 +31,7 @@ unfolding andThen
 andThen-right passed b e = e
 andThen-right (refused reason place) b e = cc
 
--- ---- what was answered elsewhere
+-- ---- an answer already given
 
 pub answered-passed : {answer : Answer} → answer ≡ Accepted → answered answer ≡ passed
 unfolding answered
@@ -74,14 +74,14 @@ pub somewhere-passed : (n : ℕ) (bad : ℕ → Bool) (reason : Refusal) → ((i
 unfolding noneBadFree unlessFree
 somewhere-passed n bad reason fine = rw (past n bad fine, unlessFree)
 
-refusedSome-true : (b : Bool) (bad : ℕ → Bool) (reason : Refusal) → unlessFree b bad reason ≡ passed → b ≡ true
+unlessFree-true : (b : Bool) (bad : ℕ → Bool) (reason : Refusal) → unlessFree b bad reason ≡ passed → b ≡ true
 unfolding unlessFree
-refusedSome-true true bad reason e = refl
-refusedSome-true false bad reason e = cc
+unlessFree-true true bad reason e = refl
+unlessFree-true false bad reason e = cc
 
 pub somewhere-none : (n : ℕ) (bad : ℕ → Bool) (reason : Refusal) → noneBadFree n bad reason ≡ passed → (i : ℕ) → i < n → bad i ≡ false
 unfolding noneBadFree
-somewhere-none n bad reason e = none n bad (refusedSome-true (leb n (first n bad)) (λ i. ltb i n && bad i) reason e)
+somewhere-none n bad reason e = none n bad (unlessFree-true (leb n (first n bad)) (λ i. ltb i n && bad i) reason e)
 
 -- ---- where the checks pass, a buffer holds what is written
 

@@ -50,6 +50,7 @@ numberOf NoMultiplier = 20
 -- the row meter would pass its limit
 numberOf MeterFull = 21
 
+-- an answer's number and place, 0 and 0 where the call is accepted
 abbrev pub numberIn : Answer → ℕ
 numberIn Accepted = 0
 numberIn (Refused reason place) = numberOf reason

@@ -9,7 +9,7 @@ use Rattle.lists.specs.First.{first}
 use Rattle.checks.specs.declared.Refusal.{Refusal}
 use Rattle.checks.specs.declared.Answer.{Answer}
 use Rattle.checks.specs.declared.Answer.the-variants.{Accepted, Refused}
-use Rattle.checks.specs.Answer.{numberOf}
+use Rattle.checks.specs.Answer.{numberIn, placeIn}
 
 pub data Place : Type 0 where
   at : ℕ → Place
@@ -19,7 +19,7 @@ pub data Checked : Type 0 where
   passed : Checked
   refused : Refusal → Place → Checked
 
--- what was answered elsewhere
+-- an answer already given: the reader's
 unfoldable pub answered : Answer → Checked
 answered Accepted = passed
 answered (Refused reason place) = refused reason (at place)
@@ -38,11 +38,12 @@ unless false reason place = refused reason (at place)
 unfoldable pub noneBad : ℕ → (ℕ → Bool) → Refusal → Checked
 noneBad n bad reason = unless (leb n (first n bad)) reason (first n bad)
 
--- the same, refused at some number that is bad
+-- one test, refused at some place of which another test holds
 unfoldable pub unlessFree : Bool → (ℕ → Bool) → Refusal → Checked
 unlessFree true bad reason = passed
 unlessFree false bad reason = refused reason (free bad)
 
+-- a test of each number below n, refused at some that is bad
 unfoldable pub noneBadFree : ℕ → (ℕ → Bool) → Refusal → Checked
 noneBadFree n bad reason = unlessFree (leb n (first n bad)) (λ i. ltb i n && bad i) reason
 
@@ -52,11 +53,9 @@ pub data Meets : Checked → Answer → Type 0 where
   names : {reason : Refusal} {place : ℕ} → Meets (refused reason (at place)) (Refused reason place)
   namesSome : {reason : Refusal} {test : ℕ → Bool} {place : ℕ} → test place ≡ true → Meets (refused reason (free test)) (Refused reason place)
 
--- the same of an answer's number and place, 0 and 0 where the call is accepted
+-- what number and place must be: those of an answer that is as it must be
 pub data Reports : Checked → ℕ → ℕ → Type 0 where
-  accepts : Reports passed 0 0
-  names : {reason : Refusal} {place : ℕ} → Reports (refused reason (at place)) (numberOf reason) place
-  namesSome : {reason : Refusal} {test : ℕ → Bool} {place : ℕ} → test place ≡ true → Reports (refused reason (free test)) (numberOf reason) place
+  reports : {checks : Checked} {answer : Answer} → Meets checks answer → Reports checks (numberIn answer) (placeIn answer)
 
 -- what a lent buffer holds after the call: what is written where the call is accepted, what it held where it is refused
 unfoldable pub afterwards {ℓ} : {A : Type ℓ} → Checked → A → A → A

@@ -1,7 +1,7 @@
 -- A search over a long range, part by part: what was found in a part, said of the whole.
 -- Assumes nothing.
 use mathlib.Core.Path.{_≡_, sym, ap, _∙_, subst}
-use mathlib.Core.Bool.{Bool, true, false}
+use mathlib.Core.Bool.{Bool, true, false, cond}
 use Prim.Native.Nat.{ℕ, zero, suc, _+_, _-_, _≤_, _<_}
 use native.Mathlib.Decide.{decLt}
 use native.Mathlib.Omega.{arith}
@@ -15,7 +15,7 @@ unfolding firstFrom
 from-most zero from test = omega arith
 from-most (suc left) from test = go (test from) (from-most left (suc from) test)
   where
-    go : (b : Bool) → firstFrom (suc from) left test ≤ suc from + left → (elim b as (λ _. ℕ) [ true ↦ from | false ↦ firstFrom (suc from) left test ]) ≤ from + suc left
+    go : (b : Bool) → firstFrom (suc from) left test ≤ suc from + left → cond b from (firstFrom (suc from) left test) ≤ from + suc left
     go true h = omega arith
     go false h = omega arith
 

@@ -10,7 +10,8 @@ use Rattle.residue.specs.Residue.{add}
 use Rattle.residue.specs.Vector.{keyV}
 use Rattle.checks.specs.Checked.{Checked, Reports}
 use Rattle.checks.specs.Checked.Checked.{passed}
-use Rattle.checks.specs.Checked.Reports.{accepts, names, namesSome}
+use Rattle.checks.specs.Checked.Meets.{accepts, names, namesSome}
+use Rattle.checks.specs.Checked.Reports.{reports}
 use Rattle.checks.proofs.Passed.{afterwards-passed}
 use Rattle.words.specs.declared.gate.Wire.{Wire}
 use Rattle.circuit.specs.Wires.{modulusAt, inputsIn}
@@ -31,9 +32,9 @@ use Rattle.demand.specs.Played.{Results, Played, Kept, ownOf, contributi
 
 -- an answer that meets checks that pass has number 0
 zero-of : {checks : Checked} {number place : ℕ} → Reports checks number place → checks ≡ passed → number ≡ 0
-zero-of accepts e = refl
-zero-of names e = cc
-zero-of (namesSome t) e = cc
+zero-of (reports accepts) e = refl
+zero-of (reports names) e = cc
+zero-of (reports (namesSome t)) e = cc
 
 module _ (file : List ℕ) (n K : ℕ) (contributions values : List ℕ) (meter : ℕ) (lent : Lent) (r : Results)
     (conditions : Conditions file n K contributions values meter lent) (played : Played file n K contributions values meter lent r) where

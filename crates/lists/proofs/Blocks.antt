@@ -1,17 +1,17 @@
 -- Laws of `blocks` and `tab`: lengths, equality by index, a block read back, the front of the blocks; and of `runs` and `map`.
 -- Assumes nothing.
 use mathlib.Core.Path.{_≡_, refl, sym, ap, _∙_}
-use mathlib.Core.List.{List, [], _∷_, _++_, map, append-assoc, append-nil}
+use mathlib.Core.List.{List, [], _∷_, _++_}
 use Prim.Native.Nat.{ℕ, zero, suc, _+_, _*_, _≤_, _<_}
-use native.Mathlib.Nat.{le-refl, mul-one, add-zero, add-suc}
+use native.Mathlib.Nat.{le-refl, mul-one, add-zero}
 use native.Mathlib.Numerals.{add-one}
 use native.Mathlib.Decide.{le-ind}
 use native.Mathlib.Omega.{arith}
-use lib.ListN.{length, getD, take, drop, replicate, length-append, length-replicate, getD-replicate}
-use lib.Seq.{take-length, take-all, take-append-le, drop-at, ext-getD}
+use lib.ListN.{length, getD, take, replicate, length-append, length-replicate, getD-replicate}
+use lib.Seq.{take-length, take-all, take-append-le, ext-getD}
 use Rattle.lists.specs.Blocks.{blocks, tab, part, nthPiece, sumTo, runs}
-use Rattle.lists.proofs.Parts.{length-part, part-last, part-of-take, part-of-part, take-part, getD-part}
-use Rattle.lists.proofs.Sums.{times-fits, sumTo-fits, sumTo-const}
+use Rattle.lists.proofs.Parts.{part-last, part-of-take, take-part, getD-part}
+use Rattle.lists.proofs.Sums.{sumTo-fits, sumTo-const}
 
 module _ {A : Type 0} where
   pub blocks-next : (n : ℕ) (f : ℕ → List A) → blocks (n + 1) f ≡ blocks n f ++ f n
@@ -50,13 +50,6 @@ module _ {A : Type 0} where
       le-ind (λ (m : ℕ). length (blocks i f) ≤ length (blocks m f)) (le-refl (length (blocks i f)))
       (λ m _ r. simp length-append (omega arith)) n h
 
-  -- ---- blocks cut in two
-
-  pub blocks-split : (m n : ℕ) (f : ℕ → List A) → blocks (m + n) f ≡ blocks m f ++ blocks n (λ i. f (m + i))
-  unfolding blocks
-  blocks-split m zero f = rw (add-zero m, append-nil)
-  blocks-split m (suc n) f = rw (add-suc, blocks-split m n f, append-assoc)
-
   -- ---- the front of the blocks, and a block read back: of blocks of any sizes, then of equal ones
 
   front-of : (i n : ℕ) (f : ℕ → List A) → i ≤ n → take (length (blocks i f)) (blocks n f) ≡ blocks i f
@@ -82,11 +75,6 @@ module _ {A : Type 0} where
     pub getD-blocks : (i j : ℕ) (d : A) → i < n → j < size i → getD (blocks n f) (sumTo i size + j) d ≡ getD (f i) j d
     getD-blocks i j d h k = sym (getD-part (blocks n f) (sumTo i size) (size i) j d k) ∙ rw (part-blocks i h)
 
-  pub drop-blocks : (m n : ℕ) (f : ℕ → List A) (size : ℕ → ℕ) → ((i : ℕ) → i < m → length (f i) ≡ size i) → drop (sumTo m size) (blocks (m + n) f) ≡ blocks n (λ i. f (m + i))
-  drop-blocks m n f size e =
-      ap (λ (l : List A). drop (sumTo m size) l) (blocks-split m n f)
-      ∙ drop-at (blocks m f) (blocks n (λ i. f (m + i))) (sumTo m size) (length-blocks m f size e)
-
   module _ (n s : ℕ) (f : ℕ → List A) (e : (i : ℕ) → i < n → length (f i) ≡ s) where
     pub take-blocks-same : (i : ℕ) → i ≤ n → take (i * s) (blocks n f) ≡ blocks i f
     take-blocks-same i h = rw (← sumTo-const i s) (take-blocks n f (λ _. s) e i h)
@@ -96,15 +84,6 @@ module _ {A : Type 0} where
 
     pub getD-blocks-same : (i j : ℕ) (d : A) → i < n → j < s → getD (blocks n f) (i * s + j) d ≡ getD (f i) j d
     getD-blocks-same i j d h k = rw (← sumTo-const i s) (getD-blocks n f (λ _. s) e i j d h k)
-
-  -- a block within a block
-  pub part-blocks-within : (n m s : ℕ) (g : ℕ → ℕ → List A) → ((i j : ℕ) → i < n → j < m → length (g i j) ≡ s) → (i j : ℕ) → i < n → j < m
-      → part (blocks n (λ a. blocks m (g a))) (i * (m * s) + j * s) s ≡ g i j
-  part-blocks-within n m s g e i j h k =
-      sym (part-of-part (blocks n (λ a. blocks m (g a))) (i * (m * s)) (m * s) (j * s) s (times-fits j m s k))
-      ∙ ap (λ (l : List A). part l (j * s) s)
-      (part-blocks-same n (m * s) (λ a. blocks m (g a)) (λ a l. length-blocks-same m s (g a) (λ b q. e a b l q)) i h)
-      ∙ part-blocks-same m s (g i) (λ b q. e i b h q) j k
 
   -- ---- a table's values, its front, and a list that is a table by its elements
 
@@ -118,12 +97,6 @@ module _ {A : Type 0} where
   pub is-tab : (n : ℕ) (f : ℕ → A) (xs : List A) (d : A) → length xs ≡ n → ((i : ℕ) → i < n → getD xs i d ≡ f i) → xs ≡ tab n f
   is-tab n f xs d l e =
       ext-getD d xs (tab n f) (l ∙ sym (length-tab n f)) (λ i h. e i (omega arith) ∙ sym (getD-tab n f i d (omega arith)))
-
-  pub part-tab : (n : ℕ) (f : ℕ → A) (at m : ℕ) → at + m ≤ n → part (tab n f) at m ≡ tab m (λ i. f (at + i))
-  part-tab n f at m h =
-      is-tab m (λ i. f (at + i)) (part (tab n f) at m) (f 0)
-      (length-part (tab n f) at m (omega (arith, length-tab n f)))
-      (λ i k. getD-part (tab n f) at m i (f 0) k ∙ getD-tab n f (at + i) (f 0) (omega arith))
 
   pub replicate-tab : (n : ℕ) (a : A) → replicate n a ≡ tab n (λ _. a)
   replicate-tab n a = is-tab n (λ _. a) (replicate n a) a (length-replicate n a) (λ i h. getD-replicate n i a a h)
@@ -149,18 +122,3 @@ module _ {A : Type 0} where
   pub getD-runs : (n : ℕ) (size : ℕ → ℕ) (m : ℕ → A) (i j : ℕ) (d : A) → i < n → j < size i → getD (runs n size m) (sumTo i size + j) d ≡ m i
   getD-runs n size m i j d h k =
       getD-blocks n (λ i. replicate (size i) (m i)) size (λ i _. length-replicate (size i) (m i)) i j d h k ∙ getD-replicate (size i) j (m i) d k
-
--- ---- map over blocks and tables
-
-module _ {A B : Type 0} (g : A → B) where
-  pub map-append : (xs ys : List A) → map g (xs ++ ys) ≡ map g xs ++ map g ys
-  map-append [] ys = refl
-  map-append (x ∷ xs) ys = ap (λ (l : List B). g x ∷ l) (map-append xs ys)
-
-  pub map-blocks : (n : ℕ) (f : ℕ → List A) → map g (blocks n f) ≡ blocks n (λ i. map g (f i))
-  unfolding blocks
-  map-blocks zero f = refl
-  map-blocks (suc n) f = map-append (blocks n f) (f n) ∙ ap (λ (l : List B). l ++ map g (f n)) (map-blocks n f)
-
-  pub map-tab : (n : ℕ) (f : ℕ → A) → map g (tab n f) ≡ tab n (λ i. g (f i))
-  map-tab n f = map-blocks n (λ i. f i ∷ [])

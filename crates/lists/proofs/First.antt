@@ -2,7 +2,7 @@
 -- Assumes nothing.
 use mathlib.Core.Path.{_≡_, refl, sym, _∙_, subst}
 use mathlib.Core.Logic.{⊎-elim}
-use mathlib.Core.Bool.{Bool, true, false}
+use mathlib.Core.Bool.{Bool, true, false, cond}
 use Prim.Native.Nat.{ℕ, zero, suc, _+_, _≤_, _<_}
 use native.Mathlib.Nat.{not-suc-le-zero, eq-or-lt-of-le, add-zero, zero-add}
 use native.Mathlib.Omega.{arith}
@@ -38,12 +38,25 @@ unfolding first
 first-none n test fails = from-none n 0 test (λ j l. subst (λ m. test m ≡ false) (sym (zero-add j)) (fails j l)) ∙ zero-add n
 
 -- the first is no more than n; tests before it fail; and it holds there, where it is below n
+from-most : (left from : ℕ) (test : ℕ → Bool) → firstFrom from left test ≤ from + left
+unfolding firstFrom
+from-most zero from test = omega arith
+from-most (suc left) from test = go (test from) (from-most left (suc from) test)
+  where
+    go : (b : Bool) → firstFrom (suc from) left test ≤ suc from + left → cond b from (firstFrom (suc from) left test) ≤ from + suc left
+    go true h = omega arith
+    go false h = omega arith
+
+pub first-most : (n : ℕ) (test : ℕ → Bool) → first n test ≤ n
+unfolding first
+first-most n test = omega (arith, from-most n 0 test)
+
 from-before : (left from i : ℕ) (test : ℕ → Bool) → from ≤ i → i < firstFrom from left test → test i ≡ false
 unfolding firstFrom
 from-before zero from i test h l = absurd (omega arith)
 from-before (suc left) from i test h l = go (test from) refl (from-before left (suc from) i test) l
   where
-    go : (b : Bool) → test from ≡ b → (from < i → i < firstFrom (suc from) left test → test i ≡ false) → i < (elim b as (λ _. ℕ) [ true ↦ from | false ↦ firstFrom (suc from) left test ]) → test i ≡ false
+    go : (b : Bool) → test from ≡ b → (from < i → i < firstFrom (suc from) left test → test i ≡ false) → i < cond b from (firstFrom (suc from) left test) → test i ≡ false
     go true e later k = absurd (omega arith)
     go false e later k = ⊎-elim (λ (w : from ≡ i). rw (← w) e) (λ (w : from < i). later w k) (eq-or-lt-of-le h)
 
@@ -57,8 +70,8 @@ from-here zero from test l = absurd (omega arith)
 from-here (suc left) from test l = go (test from) refl (from-here left (suc from) test) l
   where
     go : (b : Bool) → test from ≡ b → (firstFrom (suc from) left test < suc from + left → test (firstFrom (suc from) left test) ≡ true)
-        → (elim b as (λ _. ℕ) [ true ↦ from | false ↦ firstFrom (suc from) left test ]) < from + suc left
-        → test (elim b as (λ _. ℕ) [ true ↦ from | false ↦ firstFrom (suc from) left test ]) ≡ true
+        → cond b from (firstFrom (suc from) left test) < from + suc left
+        → test (cond b from (firstFrom (suc from) left test)) ≡ true
     go true e later k = e
     go false e later k = later (omega arith)
 

@@ -8,3 +8,4 @@ pub mod Steps
 pub mod Grown
 pub mod First
 pub mod Search
+pub mod Windows

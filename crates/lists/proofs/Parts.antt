@@ -1,12 +1,12 @@
 -- Laws of `part`: its length, its elements, a part of a part, of a joined list, of a list that was written into.
 -- Assumes nothing.
 use mathlib.Core.Path.{_≡_, refl, sym, ap, _∙_}
-use mathlib.Core.List.{List, [], _∷_, _++_, map, append-assoc}
+use mathlib.Core.List.{List, [], _∷_, _++_, append-assoc}
 use Prim.Native.Nat.{ℕ, zero, suc, _+_, _-_, _≤_, _<_}
 use native.Mathlib.Nat.{add-sub-cancel-left, sub-zero, zero-sub, suc-sub-suc}
 use native.Mathlib.Omega.{arith}
-use lib.ListN.{length, getD, take, drop, length-take, length-drop, take-append-drop}
-use lib.Seq.{take-all, take-nil, take-at, drop-at, take-take, drop-drop, take-add, getD-take, getD-drop, take-append-le, drop-append-le, drop-append-add, ext-getD}
+use lib.ListN.{length, getD, take, drop, length-take, length-drop}
+use lib.Seq.{take-all, take-nil, take-at, drop-at, take-take, drop-drop, take-add, getD-take, getD-drop, take-append-le, drop-append-le, drop-append-add}
 use Rattle.lists.specs.Blocks.{part}
 
 module _ {A : Type 0} where
@@ -41,22 +41,10 @@ module _ {A : Type 0} where
   unfolding part
   part-front xs n = refl
 
-  pub part-none : (xs : List A) (at : ℕ) → part xs at 0 ≡ []
-  unfolding part
-  part-none xs at = refl
-
-  -- two parts that meet; the front, with the part behind it
-  pub part-add : (xs : List A) (at m n : ℕ) → part xs at (m + n) ≡ part xs at m ++ part xs (at + m) n
-  unfolding part
-  part-add xs at m n = take-add m n (drop at xs) ∙ rw (drop-drop m at xs)
-
+  -- the front, with the part behind it
   pub take-part : (xs : List A) (at n : ℕ) → take (at + n) xs ≡ take at xs ++ part xs at n
   unfolding part
   take-part xs at n = take-add at n xs
-
-  -- a list is what stands before a part, the part, and what stands behind it
-  pub part-split : (xs : List A) (at n : ℕ) → take at xs ++ part xs at n ++ drop (at + n) xs ≡ xs
-  part-split xs at n = rw (← take-part xs at n) (take-append-drop (at + n) xs)
 
   -- a part of a part, of a front, of a rest
   pub part-of-take : (xs : List A) (m at n : ℕ) → at + n ≤ m → part (take m xs) at n ≡ part xs at n
@@ -93,23 +81,3 @@ module _ {A : Type 0} where
   -- lists with the same front have the same parts there
   pub part-same : (xs ys : List A) (m at n : ℕ) → take m xs ≡ take m ys → at + n ≤ m → part xs at n ≡ part ys at n
   part-same xs ys m at n e h = sym (part-of-take xs m at n h) ∙ ap (λ (l : List A). part l at n) e ∙ part-of-take ys m at n h
-
-  -- a list is a part of another, by its elements
-  pub is-part : (xs ys : List A) (at n : ℕ) (d : A) → length xs ≡ n → at + n ≤ length ys → ((i : ℕ) → i < n → getD xs i d ≡ getD ys (at + i) d) → xs ≡ part ys at n
-  is-part xs ys at n d l h e =
-      ext-getD d xs (part ys at n) (l ∙ sym (length-part ys at n h)) (λ i k. e i (omega arith) ∙ sym (getD-part ys at n i d (omega arith)))
-
-module _ {A B : Type 0} (g : A → B) where
-  take-map : (n : ℕ) (xs : List A) → take n (map g xs) ≡ map g (take n xs)
-  take-map zero xs = refl
-  take-map (suc n) [] = refl
-  take-map (suc n) (x ∷ xs) = ap (λ (l : List B). g x ∷ l) (take-map n xs)
-
-  drop-map : (n : ℕ) (xs : List A) → drop n (map g xs) ≡ map g (drop n xs)
-  drop-map zero xs = refl
-  drop-map (suc n) [] = refl
-  drop-map (suc n) (x ∷ xs) = drop-map n xs
-
-  pub part-map : (xs : List A) (at n : ℕ) → part (map g xs) at n ≡ map g (part xs at n)
-  unfolding part
-  part-map xs at n = ap (take n) (drop-map at xs) ∙ take-map n (drop at xs)

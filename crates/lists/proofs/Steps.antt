@@ -11,9 +11,8 @@
 --     loop-again     steps-call (.. .loop .inv) (.. .loop-test .taken) refl (.. .put .kept .0) (.. .put .ensures)
 --     returns        level-whole (.. .loop .inv) (.. .loop-test .left) e          with e : length out₀ ≡ n * k;  steps-whole with e : length out₀ ≡ sumTo n size
 --     all others     omega arith
--- `refl` says that to is at + k: where the code has the size under another name, `omega (arith, e)`. Where the place is computed, as `let at = i * k;`, the invariant
--- has `i * k` for at, and loop-again is `steps-at (steps-call ..) (sym (times-next i k))`. Where put stores one element, `steps-set`; where it is `put_at`, `steps-put`.
--- Where a block is written by parts, `steps-wrote` with what `Wrote` has. Where something was written before the loop, `steps-here` starts it.
+-- `refl` says that to is at + k: where the code has the size under another name, `omega (arith, e)`. Where put is `put_at`, `steps-put`. Where a block is
+-- written by parts, `steps-wrote` with what `Wrote` has.
 --
 -- A loop within the loop, that writes block i as m blocks of s elements, `g`:
 --     invariant      Inv-loop2 out₀ .. at₀ .. out at j = Level out₀ at₀ j m s g at out
@@ -22,17 +21,17 @@
 --     loop-again     level-nest (.. .loop .inv) (.. .loop-test .taken) e (.. .loop2 .inv) (.. .loop2-test .left) refl      `refl` for blocks m g ≡ f i
 -- Assumes nothing.
 use mathlib.Core.Path.{_≡_, refl, sym, ap, _∙_}
-use mathlib.Core.List.{List, [], _∷_}
+use mathlib.Core.List.{List}
 use Prim.Native.Nat.{ℕ, _+_, _-_, _*_, _≤_, _<_}
 use native.Mathlib.Nat.{le-antisymm, zero-add}
 use native.Mathlib.Omega.{arith}
-use lib.ListN.{length, take, drop, set}
+use lib.ListN.{length, take, drop}
 use Rattle.lists.specs.Blocks.{blocks, part, sumTo, written}
 use Rattle.lists.proofs.Parts.{length-range, part-same}
 use Rattle.lists.proofs.Sums.{sumTo-next, sumTo-fits, sumTo-const}
 use Rattle.lists.proofs.Blocks.{blocks-next, take-blocks, part-blocks}
 use Rattle.lists.proofs.Written.{lent}
-use Rattle.lists.proofs.Wrote.{Wrote, wrote-start, wrote-as, wrote-set, wrote-lent, wrote-put, wrote-here, wrote-join, wrote-take, wrote-whole}
+use Rattle.lists.proofs.Wrote.{Wrote, wrote-start, wrote-as, wrote-lent, wrote-put, wrote-join, wrote-take, wrote-whole}
 
 -- i of the n blocks f 0, f 1, … stand from place at₀ on, up to at; block j has size j elements, and there is room for all
 pub record Steps {A : Type 0} (out₀ : List A) (at₀ i n : ℕ) (size : ℕ → ℕ) (f : ℕ → List A) (at : ℕ) (out : List A) : Type 0 where
@@ -79,18 +78,6 @@ module _ {A : Type 0} {out₀ : List A} {at₀ n : ℕ} {size : ℕ → ℕ} {f 
     pub steps-put : {ys : List A} {to : ℕ} {out′ : List A} → i < n → to ≡ at + size i → length ys ≡ size i → out′ ≡ written out at ys → ys ≡ f i → Steps out₀ at₀ (i + 1) n size f to out′
     steps-put {ys} {to} {out′} h e l k z = steps-wrote h e (wrote-put k (omega (arith, steps-fits h)) (omega arith) z) refl
 
-    -- .. by one store
-    pub steps-set : {a : A} → i < n → size i ≡ 1 → a ∷ [] ≡ f i → Steps out₀ at₀ (i + 1) n size f (at + 1) (set out at a)
-    steps-set {a} h e z = steps-wrote h (omega arith) (wrote-set (omega (arith, steps-fits h))) z
-
-    -- the cursor, under another name
-    pub steps-at : {to : ℕ} → at ≡ to → Steps out₀ at₀ i n size f to out
-    steps-at {to} e = rw e at r
-
-    -- the same, counted from the list as it is now
-    pub steps-here : Steps out at₀ i n size f at out
-    steps-here = record { turns = r .turns; place = r .place; room = omega arith; kept = refl; wrote = wrote-here (r .wrote) }
-
     -- all blocks stand
     pub steps-done : n ≤ i → Wrote out₀ at₀ (blocks n f) at out
     steps-done h = wrote-as (r .wrote) (ap (λ (m : ℕ). blocks m f) (le-antisymm (r .turns) h))
@@ -102,11 +89,6 @@ module _ {A : Type 0} {out₀ : List A} {at₀ n : ℕ} {size : ℕ → ℕ} {f 
 -- the whole buffer
 pub steps-whole : {A : Type 0} {out₀ : List A} {i n : ℕ} {size : ℕ → ℕ} {f : ℕ → List A} {at : ℕ} {out : List A} → Steps out₀ 0 i n size f at out → n ≤ i → length out₀ ≡ sumTo n size → out ≡ blocks n f
 steps-whole {A} {out₀} {i} {n} {size} {f} {at} {out} r h e = wrote-whole (steps-done r h) (omega (arith, steps-end r h))
-
--- .. or its front
-pub steps-take : {A : Type 0} {out₀ : List A} {i n : ℕ} {size : ℕ → ℕ} {f : ℕ → List A} {at : ℕ} {out : List A} → Steps out₀ 0 i n size f at out → n ≤ i → take (sumTo n size) out ≡ blocks n f
-steps-take {A} {out₀} {i} {n} {size} {f} {at} {out} r h =
-    ap (λ (k : ℕ). take k out) (sym (steps-end r h ∙ zero-add (sumTo n size))) ∙ wrote-take (steps-done r h)
 
 -- the blocks that stand already, and one of them read back
 module _ {A : Type 0} {out₀ : List A} {i n : ℕ} {size : ℕ → ℕ} {f : ℕ → List A} {at : ℕ} {out : List A} (r : Steps out₀ 0 i n size f at out) where
@@ -148,9 +130,6 @@ module _ {A : Type 0} {out₀ : List A} {n s : ℕ} {f : ℕ → List A} where
 
   pub level-read : {i at : ℕ} {out : List A} → Level out₀ 0 i n s f at out → (j : ℕ) → j < i → ((k : ℕ) → k < i → length (f k) ≡ s) → part out (j * s) s ≡ f j
   level-read {i} {at} {out} r j h e = ap (λ (k : ℕ). part out k s) (sym (sumTo-const j s)) ∙ steps-read r j h e
-
-  pub level-take : {i at : ℕ} {out : List A} → Level out₀ 0 i n s f at out → n ≤ i → take (n * s) out ≡ blocks n f
-  level-take {i} {at} {out} r h = ap (λ (k : ℕ). take k out) (sym (sumTo-const n s)) ∙ steps-take r h
 
   pub level-whole : {i at : ℕ} {out : List A} → Level out₀ 0 i n s f at out → n ≤ i → length out₀ ≡ n * s → out ≡ blocks n f
   level-whole {i} {at} {out} r h e = steps-whole r h (e ∙ sym (sumTo-const n s))

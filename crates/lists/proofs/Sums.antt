@@ -2,7 +2,7 @@
 -- Assumes nothing.
 use mathlib.Core.Path.{_≡_, refl, sym}
 use Prim.Native.Nat.{ℕ, zero, suc, _+_, _*_, _≤_, _<_}
-use native.Mathlib.Nat.{le-refl, zero-mul, suc-mul, mul-add, mul-zero, add-zero, add-suc, add-assoc, mul-le-mul-right}
+use native.Mathlib.Nat.{le-refl, zero-mul, suc-mul, mul-add, mul-zero, mul-le-mul-right}
 use native.Mathlib.Numerals.{add-one}
 use native.Mathlib.Decide.{le-ind}
 use native.Mathlib.Omega.{arith}
@@ -55,18 +55,7 @@ sumTo-const n s = sumTo-same n s (λ _. s) (λ _ _. refl)
 pub sumTo-below : (n m : ℕ) (f : ℕ → ℕ) → ((i : ℕ) → i < n → f i ≤ m) → sumTo n f ≤ n * m
 sumTo-below n m f e = omega (arith, sumTo-le n f (λ _. m) e, sumTo-const n m)
 
-pub sumTo-add : (n : ℕ) (f g : ℕ → ℕ) → sumTo n (λ i. f i + g i) ≡ sumTo n f + sumTo n g
-unfolding sumTo
-sumTo-add zero f g = refl
-sumTo-add (suc n) f g = omega (arith, sumTo-add n f g)
-
 pub sumTo-times : (n s : ℕ) (f : ℕ → ℕ) → sumTo n (λ i. s * f i) ≡ s * sumTo n f
 unfolding sumTo
 sumTo-times zero s f = sym (mul-zero s)
 sumTo-times (suc n) s f = rw (sumTo-times n s f, mul-add)
-
--- a sum cut in two
-pub sumTo-split : (m n : ℕ) (f : ℕ → ℕ) → sumTo (m + n) f ≡ sumTo m f + sumTo n (λ i. f (m + i))
-unfolding sumTo
-sumTo-split m zero f = rw (add-zero m, add-zero)
-sumTo-split m (suc n) f = rw (add-suc, sumTo-split m n f, add-assoc)

@@ -50,10 +50,6 @@ module _ {A : Type 0} where
   behind w xs at ys zs e k =
       rw (e, ← drop-drop (length zs) (at + length ys) w, k, drop-drop (length zs) (at + length ys) xs, length-append ys zs, ← append-assoc (take at xs) ys zs, ← add-assoc at (length ys) (length zs))
 
-  again : (w xs : List A) (at : ℕ) (ys : List A) → take at w ≡ take at xs → drop (at + length ys) w ≡ drop (at + length ys) xs → written w at ys ≡ written xs at ys
-  unfolding written
-  again w xs at ys e k = rw (e, k)
-
   module _ (xs : List A) (at : ℕ) (ys : List A) (fits : at + length ys ≤ length xs) where
     long : length (take at xs ++ ys) ≡ at + length ys
     long = simp (length-append, length-take) (omega arith)
@@ -78,10 +74,6 @@ module _ {A : Type 0} where
     pub part-written : part (written xs at ys) at (length ys) ≡ ys
     unfolding written
     part-written = part-middle (take at xs) ys (drop (at + length ys) xs) at (length ys) (length-take-le at xs (omega arith)) refl
-
-    -- the same again changes nothing
-    pub written-twice : written (written xs at ys) at ys ≡ written xs at ys
-    written-twice = again (written xs at ys) xs at ys take-written drop-written
 
     pub part-before : (b n : ℕ) → b + n ≤ at → part (written xs at ys) b n ≡ part xs b n
     part-before b n h = part-same (written xs at ys) xs at b n take-written h

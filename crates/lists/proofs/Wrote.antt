@@ -1,9 +1,8 @@
 -- What was written into a lent buffer so far, one thing right behind another: a record, and the laws by which it grows.
 --
--- How to prove straight-line code that lends parts one after another, as `a(&mut out[..k]); b(&mut out[k..to]); c(&mut out[to..]);`:
---     returns        wrote-whole (wrote-rest (wrote-next (wrote-front out k (omega arith) (A .kept .0) (A .ensures)) to (omega arith) (omega arith) (B .kept .0) (B .ensures))
---                      (C .kept .0) (C .ensures)) (le-refl (length out))
--- where out is the list at the start, and A, B, C are the calls' paths, as `c .before .before .a`.
+-- How to prove straight-line code that lends parts one after another, as `a(&mut out[..k]); b(&mut out[k..]);`:
+--     returns        wrote-whole (wrote-rest (wrote-front out k (omega arith) (A .kept .0) (A .ensures)) (B .kept .0) (B .ensures)) (le-refl (length out))
+-- where out is the list at the start, and A, B are the calls' paths, as `c .before .before .a`.
 -- Assumes nothing.
 use mathlib.Core.Path.{_≡_, refl, sym, ap, _∙_}
 use mathlib.Core.List.{List, [], _∷_, _++_}
@@ -13,7 +12,7 @@ use native.Mathlib.Omega.{arith}
 use lib.ListN.{length, take, drop, set, length-set, length-append, length-take, length-drop}
 use lib.Seq.{length-take-le}
 use Rattle.lists.specs.Blocks.{part, written}
-use Rattle.lists.proofs.Written.{lent, written-none, written-whole, written-set, written-front, written-lent, written-twice, written-more, front-written, length-written, part-written, part-before, part-behind}
+use Rattle.lists.proofs.Written.{lent, written-none, written-whole, written-set, written-front, written-lent, written-more, front-written, length-written, part-behind}
 
 -- from out₀, by writing xs from place at₀ on, up to at
 pub record Wrote {A : Type 0} (out₀ : List A) (at₀ : ℕ) (xs : List A) (at : ℕ) (out : List A) : Type 0 where
@@ -56,16 +55,6 @@ module _ {A : Type 0} {out₀ : List A} {at₀ : ℕ} where
   pub wrote-at : {xs : List A} {at to : ℕ} {out : List A} → Wrote out₀ at₀ xs at out → at ≡ to → Wrote out₀ at₀ xs to out
   wrote-at {xs} {at} {to} {out} r e = rw e at r
 
-  -- the same, counted from the list as it is now: for a loop that begins after the first writing
-  pub wrote-here : {xs : List A} {at : ℕ} {out : List A} → Wrote out₀ at₀ xs at out → Wrote out at₀ xs at out
-  wrote-here {xs} {at} {out} r =
-      record {
-        place = r .place;
-        room = omega arith;
-        kept = refl;
-        eq = r .eq ∙ sym (written-twice out₀ at₀ xs (omega arith)) ∙ ap (λ (l : List A). written l at₀ xs) (sym (r .eq));
-      }
-
   -- one writing right behind another
   pub wrote-join : {xs ys : List A} {at to : ℕ} {out out′ : List A} → Wrote out₀ at₀ xs at out → Wrote out at ys to out′ → Wrote out₀ at₀ (xs ++ ys) to out′
   wrote-join {xs} {ys} {at} {to} {out} {out′} r q =
@@ -80,17 +69,11 @@ module _ {A : Type 0} {out₀ : List A} {at₀ : ℕ} where
             ∙ written-more out₀ at₀ xs (omega arith) ys;
       }
 
-  -- what was written is read back; what stands before and behind it is as it was
-  pub wrote-part : {xs : List A} {at : ℕ} {out : List A} → Wrote out₀ at₀ xs at out → part out at₀ (length xs) ≡ xs
-  wrote-part {xs} {at} {out} r = ap (λ (l : List A). part l at₀ (length xs)) (r .eq) ∙ part-written out₀ at₀ xs (omega arith)
-
-  pub wrote-before : {xs : List A} {at : ℕ} {out : List A} → Wrote out₀ at₀ xs at out → (b n : ℕ) → b + n ≤ at₀ → part out b n ≡ part out₀ b n
-  wrote-before {xs} {at} {out} r b n h = ap (λ (l : List A). part l b n) (r .eq) ∙ part-before out₀ at₀ xs (omega arith) b n h
-
+  -- what stands behind is as it was
   pub wrote-behind : {xs : List A} {at : ℕ} {out : List A} → Wrote out₀ at₀ xs at out → (b n : ℕ) → at ≤ b → part out b n ≡ part out₀ b n
   wrote-behind {xs} {at} {out} r b n h = ap (λ (l : List A). part l b n) (r .eq) ∙ part-behind out₀ at₀ xs (omega arith) b n (omega arith)
 
--- parts lent one after another, in straight-line code: the front `&mut out[..k]`, the next `&mut out[at..to]`, the rest `&mut out[at..]`
+-- parts lent one after another, in straight-line code: the front `&mut out[..k]`, the rest `&mut out[at..]`
 pub wrote-front : {A : Type 0} (out₀ : List A) (k : ℕ) {ys zs : List A} → k ≤ length out₀ → length ys ≡ length (take k out₀) → ys ≡ zs → Wrote out₀ 0 zs k (ys ++ drop k out₀)
 wrote-front out₀ k {ys} {zs} h e z =
     let l : length ys ≡ k = e ∙ length-take-le k out₀ h in
@@ -104,9 +87,6 @@ wrote-front out₀ k {ys} {zs} h e z =
     z
 
 module _ {A : Type 0} {out₀ : List A} {at₀ : ℕ} {xs : List A} {at : ℕ} {out : List A} (r : Wrote out₀ at₀ xs at out) where
-  pub wrote-next : (to : ℕ) {ys zs : List A} → at ≤ to → to ≤ length out₀ → length ys ≡ length (take (to - at) (drop at out)) → ys ≡ zs → Wrote out₀ at₀ (xs ++ zs) to (lent at to out ys)
-  wrote-next to {ys} {zs} h k e z = wrote-join r (wrote-lent h (omega arith) e z)
-
   pub wrote-rest : {ys zs : List A} → length ys ≡ length (take (length out - at) (drop at out)) → ys ≡ zs → Wrote out₀ at₀ (xs ++ zs) (length out₀) (lent at (length out) out ys)
   wrote-rest {ys} {zs} e z = wrote-at (wrote-join r (wrote-lent (omega arith) (le-refl (length out)) e z)) (r .kept)
 

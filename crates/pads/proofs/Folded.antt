@@ -2,6 +2,7 @@
 -- modulo q. Twice folded, at 2^32 and at 2^24, a number of 64 bits is below 2^25. With m the reciprocal 2^34 / q + 1, the quotient of z below 2^26
 -- is z * m / 2^34 exactly. Assumes nothing.
 use mathlib.Core.Path.{_≡_, _∙_, sym, ap}
+use mathlib.Core.Bool.{Bool, true, false}
 use Prim.Native.Nat.{ℕ, _+_, _-_, _*_, _/_, _%_, _≤_, _<_}
 use native.Mathlib.Nat.{mod-lt, div-add-mod', div-le-self, mul-le-mul, lt-of-mul-lt-mul-left, add-mul-mod-self-right, mod-add-mod, mod-mod, add-comm, le-pred-of-lt}
 use native.Mathlib.Omega.{arith}
@@ -9,6 +10,7 @@ use lib.Arith.{digits-div}
 use lib.Dec.{lit<}
 use Rattle.residue.specs.Residue.{add, sub}
 use Rattle.pads.specs.Factored.{FactorsOf, Folded}
+use Rattle.pads.specs.Moved.{shifted}
 use Rattle.pads.specs.declared.remainder.Factors.{Factors}
 
 -- ---- the folds
@@ -98,12 +100,13 @@ module _ (q m z : ℕ) (modulus : 1 < q) (byte : q < 256) (reciprocal : m ≡ 17
 
 -- ---- a residue joined to a folded number
 
-pub added-is : (a : ℕ) {q x z r : ℕ} → Folded q x z → r ≡ (z + a) % q → r ≡ add q a (x % q)
-unfolding add
-added-is a {q} {x} {z} {r} s e =
+pub put-on : (minus : Bool) (a : ℕ) {q x z r : ℕ} → minus ≡ false → Folded q x z → r ≡ (z + a) % q → r ≡ shifted minus q a (x % q)
+unfolding shifted add
+put-on minus a {q} {x} {z} {r} b s e =
     e ∙ sym (mod-add-mod z q a) ∙ ap (λ (n : ℕ). (n + a) % q) (s .same) ∙ ap (λ (n : ℕ). n % q) (add-comm (x % q) a)
+    ∙ ap (λ (m : Bool). shifted m q a (x % q)) (sym b)
 
-apart : (a q t u d r z top : ℕ) → top ≡ t * q → u * q + r ≡ z → t ≡ u + 1 + d → r ≤ q → top + a - z ≡ a + (q - r) + d * q
+apart : (a q t u d r z top : ℕ) → top ≡ t * q → u * q + r ≡ z → t ≡ u + 1 + d → r ≤ q → top - z + a ≡ a + (q - r) + d * q
 apart a q t u d r z top e f g h =
     let whole : top ≡ (u + 1 + d) * q = e ∙ ap (λ (n : ℕ). n * q) g in
     omega arith
@@ -119,9 +122,9 @@ top-above {q} {top} h e =
     let whole : top ≡ 33554432 / q * q + q = e ∙ omega arith in
     (omega arith, omega arith)
 
-pub taken-is : (a : ℕ) {q x z top r : ℕ} → 1 < q → top ≡ (33554432 / q + 1) * q → Folded q x z → r ≡ (top + a - z) % q → r ≡ sub q a (x % q)
-unfolding sub
-taken-is a {q} {x} {z} {top} {r} h e s d =
+pub taken-off : (minus : Bool) (a : ℕ) {q x z top r : ℕ} → minus ≡ true → 1 < q → top ≡ (33554432 / q + 1) * q → Folded q x z → r ≡ (top - z + a) % q → r ≡ shifted minus q a (x % q)
+unfolding shifted sub
+taken-off minus a {q} {x} {z} {top} {r} b h e s d =
     let above : z < top = omega (arith, s .small, top-above h e .0) in
     let u : ℕ = z / q in
     let t : ℕ = 33554432 / q + 1 in
@@ -132,3 +135,4 @@ taken-is a {q} {x} {z} {top} {r} h e s d =
     ∙ ap (λ (n : ℕ). n % q) (apart a q t u (t - (u + 1)) (z % q) z top e parts (omega arith) (omega arith))
     ∙ add-mul-mod-self-right (a + (q - z % q)) (t - (u + 1)) q
     ∙ ap (λ (n : ℕ). (a + (q - n)) % q) (s .same ∙ sym (mod-mod x q))
+    ∙ ap (λ (m : Bool). shifted m q a (x % q)) (sym b)

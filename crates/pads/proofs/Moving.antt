@@ -2,7 +2,7 @@
 -- Assumes nothing.
 use mathlib.Core.Path.{_≡_, refl, sym, ap, subst, _∙_}
 use mathlib.Core.Bool.{Bool, true, false}
-use mathlib.Core.List.{List, [], _∷_, _++_}
+use mathlib.Core.List.{List, _++_}
 use Prim.Native.Nat.{ℕ, zero, suc, _+_, _-_, _*_, _≤_, _<_}
 use native.Mathlib.Nat.{le-refl}
 use native.Mathlib.Numerals.{add-one}
@@ -17,23 +17,26 @@ use Rattle.lists.proofs.Written.{lent}
 use Rattle.lists.proofs.Wrote.{wrote-behind}
 use Rattle.residue.specs.Vector.{zipWith, addV, subV, AllBelow}
 use Rattle.residue.proofs.Laws.{addV-assoc}
-use Rattle.residue.proofs.Parts.{addV-append, subV-append, below-take, below-drop}
-use Rattle.residue.proofs.Vectors.{addV-length, subV-length, addV-below, subV-below}
+use Rattle.residue.proofs.Parts.{zip-append, below-take, below-drop}
+use Rattle.residue.proofs.Vectors.{zip-length, zip-below, add-below, sub-below}
 use Rattle.residue.proofs.VectorRing.{vring}
 use Rattle.residue.proofs.VectorRing.VExpr.{vec, _⊞_, _⊟_}
-use Rattle.pads.specs.Moved.{moved, Asked}
-use Rattle.pads.specs.Pad.{Under, Pad, padInput, shakePad, padSum, padRow}
+use Rattle.pads.specs.Moved.{shifted, moved, Asked}
+use Rattle.pads.specs.Pad.{Under, padInput, shakePad, padSum, padRow}
 use Rattle.pads.proofs.Sizes.{shakePad-length, padSum-length}
 
 moved-length : (minus : Bool) (q : ℕ) (xs ys : List ℕ) → length xs ≡ length ys → length (moved minus q xs ys) ≡ length xs
 unfolding moved
-moved-length false q xs ys e = addV-length q xs ys e
-moved-length true q xs ys e = subV-length q xs ys e
+moved-length minus q xs ys e = zip-length (shifted minus q) xs ys e
+
+shifted-below : (minus : Bool) {q : ℕ} → 0 < q → (a b : ℕ) → shifted minus q a b < q
+unfolding shifted
+shifted-below false h a b = add-below h a b
+shifted-below true h a b = sub-below h a b
 
 moved-below : (minus : Bool) {q : ℕ} → 0 < q → (xs ys : List ℕ) → AllBelow q (moved minus q xs ys)
 unfolding moved
-moved-below false h xs ys = addV-below h xs ys
-moved-below true h xs ys = subV-below h xs ys
+moved-below minus {q} h xs ys = record { entry = zip-below (shifted minus q) q (shifted-below minus h) xs ys }
 
 zeros : (n i : ℕ) → _≡_ {A = ℕ} (getD (replicate n 0) i 0) 0
 zeros zero i = refl
@@ -42,7 +45,7 @@ zeros (suc n) (suc i) = zeros n i
 
 -- nothing put on or taken off
 moved-zeros : (minus : Bool) {q : ℕ} → 0 < q → (xs : List ℕ) → AllBelow q xs → moved minus q xs (replicate (length xs) 0) ≡ xs
-unfolding moved
+unfolding moved shifted addV subV
 moved-zeros false h xs below =
     vring h (length xs) (vec xs ⊞ vec (replicate (length xs) 0)) (vec xs) (refl, length-replicate {A = ℕ} (length xs) 0) refl tt below (λ i. omega (arith, zeros (length xs) i))
 moved-zeros true h xs below =
@@ -51,26 +54,20 @@ moved-zeros true h xs below =
 -- twice is once with the sum
 moved-twice : (minus : Bool) {q : ℕ} → 0 < q → (xs ys zs : List ℕ) → length xs ≡ length ys → length xs ≡ length zs
     → moved minus q (moved minus q xs ys) zs ≡ moved minus q xs (addV q ys zs)
-unfolding moved
+unfolding moved shifted addV subV
 moved-twice false h xs ys zs s t = addV-assoc h xs ys s zs t
 moved-twice true h xs ys zs s t =
     vring h (length xs) (vec xs ⊟ vec ys ⊟ vec zs) (vec xs ⊟ (vec ys ⊞ vec zs)) (omega arith) (omega arith) tt tt (λ i. omega arith)
 
 moved-append : (minus : Bool) (q : ℕ) (xs ys xs′ ys′ : List ℕ) → length xs ≡ length ys → moved minus q (xs ++ xs′) (ys ++ ys′) ≡ moved minus q xs ys ++ moved minus q xs′ ys′
 unfolding moved
-moved-append false q xs ys xs′ ys′ e = addV-append q xs ys xs′ ys′ e
-moved-append true q xs ys xs′ ys′ e = subV-append q xs ys xs′ ys′ e
-
-moved-none : (minus : Bool) (q : ℕ) → moved minus q [] [] ≡ []
-unfolding moved addV subV zipWith
-moved-none false q = refl
-moved-none true q = refl
+moved-append minus q xs ys xs′ ys′ e = zip-append (shifted minus q) xs ys xs′ ys′ e
 
 -- block by block is all at once
 moved-blocks : (minus : Bool) (q K : ℕ) (f g : ℕ → List ℕ) (n : ℕ) → ((i : ℕ) → i < n → length (f i) ≡ K) → ((i : ℕ) → i < n → length (g i) ≡ K)
     → blocks n (λ i. moved minus q (f i) (g i)) ≡ moved minus q (blocks n f) (blocks n g)
-unfolding blocks
-moved-blocks minus q K f g zero s t = sym (moved-none minus q)
+unfolding blocks moved zipWith
+moved-blocks minus q K f g zero s t = refl
 moved-blocks minus q K f g (suc n) s t =
     let s′ : (i : ℕ) → i < n → length (f i) ≡ K = λ i h. s i (omega arith) in
     let t′ : (i : ℕ) → i < n → length (g i) ≡ K = λ i h. t i (omega arith) in

@@ -1,14 +1,14 @@
 -- Numbers reduced modulo q, one after another, onto a vector or off it.
 -- Assumes nothing.
-use mathlib.Core.Path.{_≡_, refl, sym, ap, _∙_}
-use mathlib.Core.Bool.{Bool, true, false}
-use mathlib.Core.List.{List, [], _∷_, _++_, map}
-use Prim.Native.Nat.{ℕ, zero, suc, _+_, _*_, _%_, _≤_, _<_}
-use native.Mathlib.Nat.{not-suc-le-zero, le-of-suc-le-suc}
+use mathlib.Core.Path.{_≡_, sym, ap, _∙_}
+use mathlib.Core.Bool.{Bool}
+use mathlib.Core.List.{List, _++_, map}
+use Prim.Native.Nat.{ℕ, _+_, _*_, _%_, _≤_, _<_}
 use lib.ListN.{length, getD, set, take, drop, length-map}
 use lib.Seq.{take-at, length-take-le}
-use Rattle.residue.specs.Vector.{zipWith, addV, subV}
+use Rattle.residue.specs.Vector.{zipWith}
 use Rattle.residue.proofs.InPlace.{Turned, zip-turn}
+use Rattle.residue.proofs.Vectors.{map-at}
 use Rattle.shake.specs.Numbers.{numbers}
 use Rattle.shake.specs.Shake.{shake256}
 use Rattle.pads.specs.Moved.{reduced, moved}
@@ -20,9 +20,7 @@ reduced-length q xs = length-map xs (λ x. x % q)
 
 pub reduced-at : (q : ℕ) (xs : List ℕ) (i : ℕ) → i < length xs → getD (reduced q xs) i 0 ≡ getD xs i 0 % q
 unfolding reduced
-reduced-at q [] i h = absurd (not-suc-le-zero h)
-reduced-at q (x ∷ xs) zero h = refl
-reduced-at q (x ∷ xs) (suc i) h = reduced-at q xs i (le-of-suc-le-suc h)
+reduced-at q xs i h = map-at (λ x. x % q) xs i h
 
 -- one turn of the loop that applies f to each entry and to the number beside it, reduced
 pub number-turn : (f : ℕ → ℕ → ℕ) (q : ℕ) (ns : List ℕ) {xs out : List ℕ} {i v : ℕ} → Turned (zipWith f xs (reduced q ns)) xs i out → length xs ≡ length ns → i < length ns
@@ -30,15 +28,6 @@ pub number-turn : (f : ℕ → ℕ → ℕ) (q : ℕ) (ns : List ℕ) {xs out : 
 number-turn f q ns {xs} {out} {i} {v} t s h d =
     zip-turn f (reduced q ns) t (s ∙ sym (reduced-length q ns)) (rw (reduced-length q ns) h)
     (d ∙ ap (f (getD out i 0)) (sym (reduced-at q ns i h)))
-
--- by the flag
-pub put-on : (minus : Bool) (q : ℕ) (xs ys : List ℕ) {out : List ℕ} → minus ≡ false → out ≡ addV q xs ys → out ≡ moved minus q xs ys
-unfolding moved
-put-on minus q xs ys e h = h ∙ ap (λ (b : Bool). moved b q xs ys) (sym e)
-
-pub taken-off : (minus : Bool) (q : ℕ) (xs ys : List ℕ) {out : List ℕ} → minus ≡ true → out ≡ subV q xs ys → out ≡ moved minus q xs ys
-unfolding moved
-taken-off minus q xs ys e h = h ∙ ap (λ (b : Bool). moved b q xs ys) (sym e)
 
 -- what a callee left in the front of a list that was lent it, read back
 pub front-back : (k : ℕ) (xs ys : List ℕ) → k ≤ length xs → length ys ≡ length (take k xs) → take k (ys ++ drop k xs) ≡ ys

@@ -5,7 +5,8 @@ use mathlib.Core.Bool.{Bool, true, false}
 use mathlib.Core.List.{List, map}
 use Prim.Native.Nat.{ℕ, _*_, _%_, _≤_, _<_}
 use lib.ListN.{length}
-use Rattle.residue.specs.Vector.{addV, subV, AllBelow}
+use Rattle.residue.specs.Residue.{add, sub}
+use Rattle.residue.specs.Vector.{zipWith, AllBelow}
 use Rattle.pads.specs.Pad.{Under}
 
 -- the place of a row, from its numbers
@@ -16,10 +17,14 @@ placed modulus wire component = record { modulus = modulus; wire = wire; compone
 unfoldable pub reduced : ℕ → List ℕ → List ℕ
 reduced q xs = map (λ x. x % q) xs
 
--- ys put on xs, or taken off it, modulo q
+-- b put on a, or taken off it, modulo q
+unfoldable pub shifted : Bool → ℕ → ℕ → ℕ → ℕ
+shifted false q a b = add q a b
+shifted true q a b = sub q a b
+
+-- the same of vectors
 unfoldable pub moved : Bool → ℕ → List ℕ → List ℕ → List ℕ
-moved false q xs ys = addV q xs ys
-moved true q xs ys = subV q xs ys
+moved minus q xs ys = zipWith (shifted minus q) xs ys
 
 -- what is asked of the receiving modulus q, the key length K and the buffer that pads are put on or taken off
 pub record Asked (q K : ℕ) (out : List ℕ) : Type 0 where

@@ -1,5 +1,5 @@
 // Pads put on a lent buffer, or taken off it: the numbers of one pad, one sender's pad, the pads of all senders, and those of all
-// senders for all receivers. The work memory for the numbers and the factors of the modulus are made once and passed down.
+// senders for all receivers. The work memory for the numbers and the factors of the modulus are made once a row and passed down.
 ghost use mathlib.Core.Path.{_≡_};
 ghost use Prim.Native.Nat.{_*_};
 ghost use lib.ListN.{length};
@@ -9,46 +9,19 @@ ghost use Rattle.pads.specs.Moved.{placed, reduced, moved, Asked, Row};
 ghost use Rattle.pads.specs.Pad.{padInput, shakePad, padSum, padRow};
 use crate::input::pad_numbers;
 use crate::remainder::Factors;
-use crate::remainder::added;
 use crate::remainder::factors_of;
-use crate::remainder::taken;
+use crate::remainder::shifted;
 
-// Adds the numbers, reduced modulo `q`, to `out`.
-fn add_numbers(q: u8, f: Factors, numbers: &[u64], out: &mut [u8])
-    requires { ⌜ FactorsOf q f ⌝ }
-    requires { ⌜ length (now out) ≡ length (now numbers) ⌝ }
-    ensures { λ _. ⌜ now (out .exit) ≡ addV q (now (out .entry)) (reduced q (now (numbers .entry))) ⌝ }
-{
-    let mut i = 0;
-    while i < numbers.len() {
-        out[i] = added(q, f, out[i], numbers[i]);
-        i += 1;
-    }
-}
-
-// Takes the numbers, reduced modulo `q`, off `out`.
-fn sub_numbers(q: u8, f: Factors, numbers: &[u64], out: &mut [u8])
-    requires { ⌜ FactorsOf q f ⌝ }
-    requires { ⌜ length (now out) ≡ length (now numbers) ⌝ }
-    ensures { λ _. ⌜ now (out .exit) ≡ subV q (now (out .entry)) (reduced q (now (numbers .entry))) ⌝ }
-{
-    let mut i = 0;
-    while i < numbers.len() {
-        out[i] = taken(q, f, out[i], numbers[i]);
-        i += 1;
-    }
-}
-
-// Either of the two.
+// Puts the numbers, reduced modulo `q`, on `out`, or takes them off it.
 fn move_numbers(minus: bool, q: u8, f: Factors, numbers: &[u64], out: &mut [u8])
     requires { ⌜ FactorsOf q f ⌝ }
     requires { ⌜ length (now out) ≡ length (now numbers) ⌝ }
     ensures { λ _. ⌜ now (out .exit) ≡ moved minus q (now (out .entry)) (reduced q (now (numbers .entry))) ⌝ }
 {
-    if minus {
-        sub_numbers(q, f, numbers, out);
-    } else {
-        add_numbers(q, f, numbers, out);
+    let mut i = 0;
+    while i < numbers.len() {
+        out[i] = shifted(minus, q, f, out[i], numbers[i]);
+        i += 1;
     }
 }
 
@@ -163,124 +136,6 @@ fn work() -> [u64; 128]
     ensures { λ r. ⌜ length r ≡ 128 ⌝ }
 {
     [0u64; 128]
-}
-
-// out := out + one sender's pad
-pub fn add_pad(
-    q: u8,
-    modulus: u8,
-    wire: u32,
-    component: u8,
-    receiver: u8,
-    key: &[u8],
-    out: &mut [u8],
-)
-    requires { ⌜ Asked q (length (now out)) (now out) ⌝ }
-    ensures { λ _. ⌜ now (out .exit) ≡ addV q (now (out .entry)) (shakePad q (length (now (out .entry))) (padInput (placed modulus wire component) receiver (now (key .entry)))) ⌝ }
-{
-    let mut numbers = work();
-    move_pad(
-        false,
-        q,
-        factors_of(q),
-        modulus,
-        wire,
-        component,
-        receiver,
-        key,
-        &mut numbers,
-        out,
-    );
-}
-
-// out := out - one sender's pad
-pub fn sub_pad(
-    q: u8,
-    modulus: u8,
-    wire: u32,
-    component: u8,
-    receiver: u8,
-    key: &[u8],
-    out: &mut [u8],
-)
-    requires { ⌜ Asked q (length (now out)) (now out) ⌝ }
-    ensures { λ _. ⌜ now (out .exit) ≡ subV q (now (out .entry)) (shakePad q (length (now (out .entry))) (padInput (placed modulus wire component) receiver (now (key .entry)))) ⌝ }
-{
-    let mut numbers = work();
-    move_pad(
-        true,
-        q,
-        factors_of(q),
-        modulus,
-        wire,
-        component,
-        receiver,
-        key,
-        &mut numbers,
-        out,
-    );
-}
-
-// out := out + the pads of all senders for one receiver; sender j's key is part j of the keys
-pub fn add_pads(
-    q: u8,
-    modulus: u8,
-    wire: u32,
-    component: u8,
-    receiver: u8,
-    n: usize,
-    keys: &[u8],
-    out: &mut [u8],
-)
-    requires { ⌜ Asked q (length (now out)) (now out) ⌝ }
-    requires { ⌜ length (now keys) ≡ n * length (now out) ⌝ }
-    ensures { λ _. ⌜ now (out .exit) ≡ addV q (now (out .entry)) (padSum shakePad (length (now (out .entry))) q (placed modulus wire component) (now (keys .entry)) receiver n) ⌝ }
-{
-    let mut numbers = work();
-    move_pads(
-        false,
-        q,
-        factors_of(q),
-        modulus,
-        wire,
-        component,
-        receiver,
-        n,
-        keys,
-        &mut numbers,
-        out,
-    );
-}
-
-// out := out - the pads of all senders for one receiver
-pub fn sub_pads(
-    q: u8,
-    modulus: u8,
-    wire: u32,
-    component: u8,
-    receiver: u8,
-    n: usize,
-    keys: &[u8],
-    out: &mut [u8],
-)
-    requires { ⌜ Asked q (length (now out)) (now out) ⌝ }
-    requires { ⌜ length (now keys) ≡ n * length (now out) ⌝ }
-    ensures { λ _. ⌜ now (out .exit) ≡ subV q (now (out .entry)) (padSum shakePad (length (now (out .entry))) q (placed modulus wire component) (now (keys .entry)) receiver n) ⌝ }
-{
-    let mut numbers = work();
-    move_pads(
-        true,
-        q,
-        factors_of(q),
-        modulus,
-        wire,
-        component,
-        receiver,
-        n,
-        keys,
-        &mut numbers,
-        out,
-    );
 }
 
 // out := out + the pads of all senders for all receivers, each `k` bytes

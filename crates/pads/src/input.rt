@@ -10,7 +10,7 @@ ghost use Rattle.pads.specs.Moved.{placed};
 use shake::Sponge;
 
 // One sponge, lent for each of six fields in turn.
-pub fn six_fields(
+fn six_fields(
     tag: &[u8],
     modulus: &[u8],
     wire: &[u8],

@@ -2,8 +2,8 @@
 // the number to less than 2^25, the residue joins it whole, and one product with the reciprocal of q gives the quotient exactly.
 ghost use mathlib.Core.Path.{_≡_};
 ghost use Prim.Native.Nat.{_%_, _<_};
-ghost use Rattle.residue.specs.Residue.{add, sub};
 ghost use Rattle.pads.specs.Factored.{FactorsOf, Folded};
+ghost use Rattle.pads.specs.Moved.{shifted};
 
 // What takes the place of a division by q: 2^32 and 2^24 modulo q, the multiple of q next above 2^25, and the reciprocal 2^34 / q + 1.
 pub struct Factors {
@@ -49,20 +49,15 @@ fn remainder(q: u8, f: Factors, z: u64) -> u8
     (z - quotient * modulus) as u8
 }
 
-// a + x modulo `q`
-pub fn added(q: u8, f: Factors, a: u8, x: u64) -> u8
+// a + x modulo `q`, or a - x, for which the folded number is taken from the multiple of `q`.
+pub fn shifted(minus: bool, q: u8, f: Factors, a: u8, x: u64) -> u8
     requires { ⌜ FactorsOf q f ⌝ }
-    ensures { λ r. ⌜ r ≡ add q a (x % q) ⌝ }
+    ensures { λ r. ⌜ r ≡ shifted minus q a (x % q) ⌝ }
 {
     let z = folded(q, f, x);
-    remainder(q, f, z + (a as u64))
-}
-
-// a - x modulo `q`
-pub fn taken(q: u8, f: Factors, a: u8, x: u64) -> u8
-    requires { ⌜ FactorsOf q f ⌝ }
-    ensures { λ r. ⌜ r ≡ sub q a (x % q) ⌝ }
-{
-    let z = folded(q, f, x);
-    remainder(q, f, (f.top as u64) + (a as u64) - z)
+    if minus {
+        remainder(q, f, (f.top as u64) - z + (a as u64))
+    } else {
+        remainder(q, f, z + (a as u64))
+    }
 }

@@ -10,7 +10,7 @@ use lib.ListN.{length, getD}
 use Rattle.residue.specs.Prime.{Prime}
 use Rattle.residue.specs.Residue.{add, sub, mul}
 use Rattle.residue.specs.Vector.{keyV, AllBelow, NotZero}
-use Rattle.residue.proofs.Ring.{Expr, ring}
+use Rattle.residue.proofs.Ring.{ring}
 use Rattle.residue.proofs.Ring.Expr.{var, _⊕_, _⊖_, _⊗_}
 use Rattle.residue.proofs.Vectors.{keyV-at, mul-below, sub-below}
 
@@ -31,7 +31,7 @@ descent h zero d l z b x e = absurd (omega arith)
 descent {p} h (suc n) d l z b x e = ⊎-elim
     (λ (w : 1 ≡ d). (let one : x ≡ d * x = rw (← w) (omega arith) in ap (λ (m : ℕ). m % p) one ∙ e))
     (λ (w : 1 < d). (let smaller = mod-lt p z in
-    descent h n (p % d) (omega arith) (h .rest d w b) (omega arith) x (step p d x e)))
+    descent h n (p % d) (omega arith) (h .remainder d w b) (omega arith) x (step p d x e)))
     (eq-or-lt-of-le z)
 
 -- a prime that divides d * x and not d divides x

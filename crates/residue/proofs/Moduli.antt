@@ -5,14 +5,14 @@ use mathlib.Core.Path.{_≡_, refl, _∙_, sym, ap, subst}
 use mathlib.Core.Logic.{⊎-elim}
 use mathlib.Core.Bool.{Bool, true, false, cond, _&&_, _||_, true≢false}
 use mathlib.Core.List.{List}
-use Prim.Native.Nat.{ℕ, zero, suc, _%_, _≤_, _<_}
+use Prim.Native.Nat.{ℕ, zero, suc, _+_, _-_, _%_, _≤_, _<_}
 use native.Mathlib.Nat.{le-of-suc-le-suc, not-suc-le-zero, eq-or-lt-of-le, le-refl, le-suc, le-trans, le-of-lt}
 use native.Mathlib.Decide.{le-ind}
 use native.Mathlib.Omega.{arith}
 use lib.Dec.{leb, ltb, eqb}
 use lib.ListN.{length, getD}
 use borrow.Author.Tests.{ltb-true, leb-true, eqb-true, le-ltb, lt-ltb, le-leb, eq-eqb, ne-eqb}
-use Rattle.residue.specs.Prime.{remaindersBelow, isPrime, Prime, primesBelow, PrimeAt, Primes}
+use Rattle.residue.specs.Prime.{remaindersBelow, isPrime, Prime, primesBelow, primeWithin, primeFrom, PrimeAt, Primes}
 use Rattle.residue.proofs.Table.{and-left, and-right, every, at}
 
 and-both : (a b : Bool) → a ≡ true → b ≡ true → (a && b) ≡ true
@@ -35,7 +35,7 @@ pub isPrime→Prime : (p : ℕ) → isPrime p ≡ true → Prime p
 unfolding isPrime
 isPrime→Prime p e = record {
   two = leb-true 2 p (and-left (leb 2 p) (remaindersBelow p p) e);
-  rest = λ d h l. remainders p p (and-right (leb 2 p) (remaindersBelow p p) e) d h l;
+  remainder = λ d h l. remainders p p (and-right (leb 2 p) (remaindersBelow p p) e) d h l;
 }
 
 or-right : (a b : Bool) → b ≡ true → (a || b) ≡ true
@@ -56,7 +56,7 @@ remainders-hold p (suc n) h =
 -- and at every prime
 pub Prime→isPrime : {p : ℕ} → Prime p → isPrime p ≡ true
 unfolding isPrime
-Prime→isPrime {p} h = and-both (leb 2 p) _ (le-leb 2 p (h .two)) (remainders-hold p p (h .rest))
+Prime→isPrime {p} h = and-both (leb 2 p) _ (le-leb 2 p (h .two)) (remainders-hold p p (h .remainder))
 
 -- a prime is one more for the numbers above it
 pub primesBelow-prime : (n : ℕ) → isPrime n ≡ true → primesBelow (suc n) ≡ suc (primesBelow n)
@@ -121,24 +121,12 @@ prime-place e h = omega (arith, primesBelow-past e h, bytes-primes)
 pub prime-entry : {p : ℕ} {xs : List ℕ} → Primes xs → isPrime p ≡ true → p < 256 → getD xs (primesBelow p) 0 ≡ p
 prime-entry t e h = place-unique (t .entry _ (prime-place e h)) (record { prime = e; place = refl })
 
--- so one look at a number's place tells whether it is prime
-pub entry-tells : {p i : ℕ} {xs : List ℕ} → Primes xs → p < 256 → i ≡ primesBelow p → i < 54 → eqb (getD xs i 0) p ≡ isPrime p
-entry-tells {p} {i} {xs} t b e h = go (isPrime p) refl
-  where
-    at-place : PrimeAt i (getD xs i 0)
-    at-place = t .entry i h
-
-    go : (q : Bool) → isPrime p ≡ q → eqb (getD xs i 0) p ≡ isPrime p
-    go true w = eq-eqb (getD xs i 0) p (place-unique at-place (record { prime = w; place = sym e })) ∙ sym w
-    go false w =
-        ne-eqb (getD xs i 0) p (λ s. true≢false (sym (at-place .prime) ∙ ap isPrime s ∙ w)) ∙ sym w
-
-pub none-tells : {p i : ℕ} → p < 256 → i ≡ primesBelow p → 54 ≤ i → false ≡ isPrime p
-none-tells {p} {i} b e h = go (isPrime p) refl
-  where
-    go : (q : Bool) → isPrime p ≡ q → false ≡ isPrime p
-    go true w = absurd (let below = prime-place w b in omega arith)
-    go false w = sym w
+-- a byte that is prime is at most 251
+pub byte-prime-most : {p : ℕ} → isPrime p ≡ true → p < 256 → p ≤ 251
+unfolding primesBelow isPrime remaindersBelow
+byte-prime-most {p} e h =
+    let not-above : 251 < p → ⊥ = λ w. omega (arith, primesBelow-mono w, prime-place e h, bytes-primes) in
+    omega arith
 
 -- a table ascends
 pub ascending : {xs : List ℕ} {i j : ℕ} → Primes xs → i < j → j < 54 → getD xs i 0 < getD xs j 0
@@ -161,3 +149,61 @@ pub first-least : {x r q : ℕ} → PrimeAt (primesBelow x) r → isPrime q ≡ 
 first-least {x} {r} {q} a e h =
     let not-below : q < r → ⊥ = λ w. omega (arith, primesBelow-past e w, primesBelow-mono h, a .place) in
     omega arith
+
+-- which is what trying one number after another gives
+within-is : {r : ℕ} → isPrime r ≡ true → (left x : ℕ) → x ≤ r → r < x + left → ((q : ℕ) → isPrime q ≡ true → x ≤ q → r ≤ q) → r ≡ primeWithin x left
+unfolding primeWithin
+within-is p zero x h l least = absurd (omega arith)
+within-is {r} p (suc left) x h l least = go (isPrime x) refl (λ w. within-is p left (suc x) w (omega arith) (λ q t k. least q t (omega arith)))
+  where
+    go : (b : Bool) → isPrime x ≡ b → (x < r → r ≡ primeWithin (suc x) left) → r ≡ cond b x (primeWithin (suc x) left)
+    go true e later = omega (arith, least x e (le-refl x))
+    go false e later =
+        later (⊎-elim (λ (w : x ≡ r). absurd (true≢false (sym p ∙ ap isPrime (sym w) ∙ e))) (λ (w : x < r). w) (eq-or-lt-of-le h))
+
+within-none : (left x : ℕ) → ((q : ℕ) → x ≤ q → q < x + left → isPrime q ≡ false) → 0 ≡ primeWithin x left
+unfolding primeWithin
+within-none zero x h = refl
+within-none (suc left) x h = rw (h x (le-refl x) (omega arith)) (within-none left (suc x) (λ q k l. h q (omega arith) (omega arith)))
+
+pub entry-first : (x : ℕ) {i r : ℕ} → i ≡ primesBelow x → i < 54 → PrimeAt i r → r ≡ primeFrom x
+unfolding primeFrom
+entry-first x {i} {r} e h a =
+    let b : PrimeAt (primesBelow x) r = subst (λ (k : ℕ). PrimeAt k r) e a in
+    let byte : 256 ≤ r → ⊥ = λ w. omega (arith, primesBelow-mono w, bytes-primes, a .place) in
+    within-is (b .prime) (256 - x) x (first-reaches b) (omega (arith, first-reaches b)) (λ q t k. first-least b t k)
+
+pub none-first : (x : ℕ) {i : ℕ} → i ≡ primesBelow x → 54 ≤ i → 0 ≡ primeFrom x
+unfolding primeFrom
+none-first x {i} e h = within-none (256 - x) x (λ q k l. go q k (omega arith) (isPrime q) refl)
+  where
+    go : (q : ℕ) → x ≤ q → q < 256 → (b : Bool) → isPrime q ≡ b → isPrime q ≡ false
+    go q k l true w = absurd (omega (arith, prime-place w l, primesBelow-mono k))
+    go q k l false w = w
+
+-- so a byte is prime exactly where it is the smallest from itself on
+within-prime : (left x : ℕ) → 0 < primeWithin x left → isPrime (primeWithin x left) ≡ true
+unfolding primeWithin
+within-prime zero x h = absurd (omega arith)
+within-prime (suc left) x h = go (isPrime x) refl (within-prime left (suc x)) h
+  where
+    go : (b : Bool) → isPrime x ≡ b → (0 < primeWithin (suc x) left → isPrime (primeWithin (suc x) left) ≡ true)
+        → 0 < cond b x (primeWithin (suc x) left) → isPrime (cond b x (primeWithin (suc x) left)) ≡ true
+    go true e later k = e
+    go false e later k = later k
+
+zero-first : primeFrom 0 ≡ 2
+unfolding primeFrom primeWithin isPrime remaindersBelow
+zero-first = refl
+
+pub first-tells : {p r : ℕ} → p < 256 → r ≡ primeFrom p → eqb r p ≡ isPrime p
+unfolding primeFrom
+first-tells {p} {r} b s = rw s (go (isPrime p) refl)
+  where
+    itself : (n : ℕ) → primeFrom n ≡ n → isPrime n ≡ true
+    itself zero e = absurd (omega (arith, zero-first))
+    itself (suc n) e = subst (λ (m : ℕ). isPrime m ≡ true) e (within-prime (256 - suc n) (suc n) (omega (arith, e)))
+
+    go : (q : Bool) → isPrime p ≡ q → eqb (primeFrom p) p ≡ isPrime p
+    go true w = eq-eqb (primeFrom p) p (sym (within-is w (256 - p) p (le-refl p) (omega arith) (λ q t k. k))) ∙ sym w
+    go false w = ne-eqb (primeFrom p) p (λ e. true≢false (sym (itself p e) ∙ w)) ∙ sym w

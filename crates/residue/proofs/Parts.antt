@@ -5,11 +5,10 @@ use mathlib.Core.List.{List, [], _∷_, _++_, map}
 use Prim.Native.Nat.{ℕ, zero, suc, _+_}
 use native.Mathlib.Nat.{suc-inj}
 use native.Mathlib.Omega.{arith}
-use lib.ListN.{length, getD, take, drop, length-take, length-drop}
+use lib.ListN.{length, take, drop, length-take, length-drop}
 use lib.Seq.{getD-take, getD-drop}
-use Rattle.residue.specs.Residue.{add, sub, mul}
-use Rattle.residue.specs.Vector.{zipWith, addV, subV, mulV, keyV, AllBelow}
-use Rattle.residue.proofs.Vectors.{mulV-length}
+use Rattle.residue.specs.Residue.{add, mul}
+use Rattle.residue.specs.Vector.{zipWith, addV, mulV, keyV, AllBelow}
 
 zip-nil : (f : ℕ → ℕ → ℕ) (xs : List ℕ) → zipWith f xs [] ≡ []
 unfolding zipWith
@@ -30,7 +29,7 @@ zip-drop f (suc n) [] ys = refl
 zip-drop f (suc n) (x ∷ xs) [] = rw (zip-nil f (drop n xs))
 zip-drop f (suc n) (x ∷ xs) (y ∷ ys) = zip-drop f n xs ys
 
-zip-append : (f : ℕ → ℕ → ℕ) (xs ys xs′ ys′ : List ℕ) → length xs ≡ length ys → zipWith f (xs ++ xs′) (ys ++ ys′) ≡ zipWith f xs ys ++ zipWith f xs′ ys′
+pub zip-append : (f : ℕ → ℕ → ℕ) (xs ys xs′ ys′ : List ℕ) → length xs ≡ length ys → zipWith f (xs ++ xs′) (ys ++ ys′) ≡ zipWith f xs ys ++ zipWith f xs′ ys′
 unfolding zipWith
 zip-append f [] [] xs′ ys′ e = refl
 zip-append f [] (y ∷ ys) xs′ ys′ e = absurd (omega arith)
@@ -47,10 +46,6 @@ map-drop f zero xs = refl
 map-drop f (suc n) [] = refl
 map-drop f (suc n) (x ∷ xs) = map-drop f n xs
 
-map-append : (f : ℕ → ℕ) (xs ys : List ℕ) → map f (xs ++ ys) ≡ map f xs ++ map f ys
-map-append f [] ys = refl
-map-append f (x ∷ xs) ys = ap (λ (l : List ℕ). f x ∷ l) (map-append f xs ys)
-
 module _ (p : ℕ) where
   pub addV-take : (n : ℕ) (xs ys : List ℕ) → take n (addV p xs ys) ≡ addV p (take n xs) (take n ys)
   unfolding addV
@@ -60,22 +55,6 @@ module _ (p : ℕ) where
   unfolding addV
   addV-drop n xs ys = zip-drop (add p) n xs ys
 
-  pub addV-append : (xs ys xs′ ys′ : List ℕ) → length xs ≡ length ys → addV p (xs ++ xs′) (ys ++ ys′) ≡ addV p xs ys ++ addV p xs′ ys′
-  unfolding addV
-  addV-append xs ys xs′ ys′ e = zip-append (add p) xs ys xs′ ys′ e
-
-  pub subV-take : (n : ℕ) (xs ys : List ℕ) → take n (subV p xs ys) ≡ subV p (take n xs) (take n ys)
-  unfolding subV
-  subV-take n xs ys = zip-take (sub p) n xs ys
-
-  pub subV-drop : (n : ℕ) (xs ys : List ℕ) → drop n (subV p xs ys) ≡ subV p (drop n xs) (drop n ys)
-  unfolding subV
-  subV-drop n xs ys = zip-drop (sub p) n xs ys
-
-  pub subV-append : (xs ys xs′ ys′ : List ℕ) → length xs ≡ length ys → subV p (xs ++ xs′) (ys ++ ys′) ≡ subV p xs ys ++ subV p xs′ ys′
-  unfolding subV
-  subV-append xs ys xs′ ys′ e = zip-append (sub p) xs ys xs′ ys′ e
-
   pub mulV-take : (n c : ℕ) (xs : List ℕ) → take n (mulV p c xs) ≡ mulV p c (take n xs)
   unfolding mulV
   mulV-take n c xs = map-take (mul p c) n xs
@@ -84,10 +63,6 @@ module _ (p : ℕ) where
   unfolding mulV
   mulV-drop n c xs = map-drop (mul p c) n xs
 
-  pub mulV-append : (c : ℕ) (xs ys : List ℕ) → mulV p c (xs ++ ys) ≡ mulV p c xs ++ mulV p c ys
-  unfolding mulV
-  mulV-append c xs ys = map-append (mul p c) xs ys
-
   pub keyV-take : (n : ℕ) (k : List ℕ) (e : ℕ) (d : List ℕ) → take n (keyV p k e d) ≡ keyV p (take n k) e (take n d)
   unfolding keyV
   keyV-take n k e d = addV-take n k (mulV p e d) ∙ ap (addV p (take n k)) (mulV-take n e d)
@@ -95,11 +70,6 @@ module _ (p : ℕ) where
   pub keyV-drop : (n : ℕ) (k : List ℕ) (e : ℕ) (d : List ℕ) → drop n (keyV p k e d) ≡ keyV p (drop n k) e (drop n d)
   unfolding keyV
   keyV-drop n k e d = addV-drop n k (mulV p e d) ∙ ap (addV p (drop n k)) (mulV-drop n e d)
-
-  pub keyV-append : (k k′ : List ℕ) (e : ℕ) (d d′ : List ℕ) → length k ≡ length d → keyV p (k ++ k′) e (d ++ d′) ≡ keyV p k e d ++ keyV p k′ e d′
-  unfolding keyV
-  keyV-append k k′ e d d′ s =
-      ap (addV p (k ++ k′)) (mulV-append e d d′) ∙ addV-append k (mulV p e d) k′ (mulV p e d′) (omega (arith, mulV-length p e d))
 
   pub below-take : (n : ℕ) {xs : List ℕ} → AllBelow p xs → AllBelow p (take n xs)
   below-take n {xs} h = record {

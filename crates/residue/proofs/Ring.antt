@@ -1,8 +1,8 @@
 -- Polynomial identities modulo p, each in one line. An expression over numbers is written as an `Expr`; its value modulo p is a
 -- difference of two natural polynomials, `pos` and `neg`, up to multiples of p. So two expressions have one value modulo p as
 -- soon as `pos e + neg f ≡ pos f + neg e`, which `omega arith` shows. Holds for every p above 0. Assumes nothing.
-use mathlib.Core.Path.{_≡_, refl, _∙_, sym, ap}
-use Prim.Native.Nat.{ℕ, _+_, _-_, _*_, _/_, _%_, _≤_, _<_}
+use mathlib.Core.Path.{_≡_, _∙_, sym, ap}
+use Prim.Native.Nat.{ℕ, _+_, _-_, _*_, _/_, _%_, _<_}
 use native.Mathlib.Nat.{mod-lt, mod-eq-of-lt, div-add-mod, add-mul-mod-self-left}
 use native.Mathlib.Omega.{arith}
 use Rattle.residue.specs.Residue.{add, sub, mul}

@@ -10,7 +10,7 @@ use Rattle.residue.specs.Residue.{add, sub, mul}
 use Rattle.residue.specs.Vector.{zipWith, addV, subV, mulV, keyV, AllBelow}
 use Rattle.residue.proofs.Reduced.{add-multiple}
 
-zip-length : (f : ℕ → ℕ → ℕ) (xs ys : List ℕ) → length xs ≡ length ys → length (zipWith f xs ys) ≡ length xs
+pub zip-length : (f : ℕ → ℕ → ℕ) (xs ys : List ℕ) → length xs ≡ length ys → length (zipWith f xs ys) ≡ length xs
 unfolding zipWith
 zip-length f [] ys e = refl
 zip-length f (x ∷ xs) [] e = absurd (omega arith)
@@ -24,7 +24,7 @@ zip-at f (x ∷ xs) [] e i h = absurd (omega arith)
 zip-at f (x ∷ xs) (y ∷ ys) e zero h = refl
 zip-at f (x ∷ xs) (y ∷ ys) e (suc i) h = zip-at f xs ys (suc-inj e) i (le-of-suc-le-suc h)
 
-zip-below : (f : ℕ → ℕ → ℕ) (p : ℕ) → ((a b : ℕ) → f a b < p) → (xs ys : List ℕ) (i : ℕ) → i < length (zipWith f xs ys)
+pub zip-below : (f : ℕ → ℕ → ℕ) (p : ℕ) → ((a b : ℕ) → f a b < p) → (xs ys : List ℕ) (i : ℕ) → i < length (zipWith f xs ys)
     → getD (zipWith f xs ys) i 0 < p
 unfolding zipWith
 zip-below f p t [] ys i h = absurd (not-suc-le-zero h)
@@ -32,7 +32,7 @@ zip-below f p t (x ∷ xs) [] i h = absurd (not-suc-le-zero h)
 zip-below f p t (x ∷ xs) (y ∷ ys) zero h = t x y
 zip-below f p t (x ∷ xs) (y ∷ ys) (suc i) h = zip-below f p t xs ys i (le-of-suc-le-suc h)
 
-map-at : (f : ℕ → ℕ) (xs : List ℕ) (i : ℕ) → i < length xs → getD (map f xs) i 0 ≡ f (getD xs i 0)
+pub map-at : (f : ℕ → ℕ) (xs : List ℕ) (i : ℕ) → i < length xs → getD (map f xs) i 0 ≡ f (getD xs i 0)
 map-at f [] i h = absurd (not-suc-le-zero h)
 map-at f (x ∷ xs) zero h = refl
 map-at f (x ∷ xs) (suc i) h = map-at f xs i (le-of-suc-le-suc h)
@@ -92,9 +92,6 @@ addV-below {p} h xs ys = record { entry = zip-below (add p) p (add-below h) xs y
 pub subV-below : {p : ℕ} → 0 < p → (xs ys : List ℕ) → AllBelow p (subV p xs ys)
 unfolding subV
 subV-below {p} h xs ys = record { entry = zip-below (sub p) p (sub-below h) xs ys }
-
-pub mulV-below : {p : ℕ} → 0 < p → (c : ℕ) (xs : List ℕ) → AllBelow p (mulV p c xs)
-mulV-below {p} h c xs = record { entry = λ i l. rw (mulV-at p c xs i (omega (arith, mulV-length p c xs))) (mul-below h _ _) }
 
 pub keyV-below : {p : ℕ} → 0 < p → (k : List ℕ) (e : ℕ) (d : List ℕ) → AllBelow p (keyV p k e d)
 unfolding keyV

@@ -21,9 +21,9 @@ subV p xs ys = zipWith (sub p) xs ys
 unfoldable pub mulV : ℕ → ℕ → List ℕ → List ℕ
 mulV p c xs = map (mul p c) xs
 
--- the key of external value e: the zero key and e times the offset
+-- the key of external value e: zero key plus e times the offset
 unfoldable pub keyV : ℕ → List ℕ → ℕ → List ℕ → List ℕ
-keyV p zero e offset = addV p zero (mulV p e offset)
+keyV p zeroKey e offset = addV p zeroKey (mulV p e offset)
 
 -- each entry is below p
 pub record AllBelow (p : ℕ) (xs : List ℕ) : Type 0 where
@@ -39,9 +39,3 @@ pub record NotZero (xs : List ℕ) : Type 0 where
 pub record Aligned (p : ℕ) (xs ys : List ℕ) : Type 0 where
   pub positive : 0 < p
   pub size : length xs ≡ length ys
-
--- what a sum or a difference asks besides: residues
-pub record Operands (p : ℕ) (xs ys : List ℕ) : Type 0 where
-  pub aligned : Aligned p xs ys
-  pub left : AllBelow p xs
-  pub right : AllBelow p ys

@@ -3,36 +3,10 @@
 ghost use mathlib.Core.Path.{_≡_};
 ghost use Prim.Native.Nat.{_<_};
 ghost use lib.ListN.{length};
-ghost use Rattle.residue.specs.Vector.{addV, subV, mulV, keyV, Aligned, Operands};
-use crate::residues::add;
+ghost use Rattle.residue.specs.Vector.{addV, subV, mulV, keyV, Aligned};
 use crate::residues::multiple_added;
 use crate::residues::reciprocal;
 use crate::residues::reduce;
-use crate::residues::sub;
-
-// out := out + b
-pub fn add_to(p: u8, out: &mut [u8], b: &[u8])
-    requires { ⌜ Operands p (now out) (now b) ⌝ }
-    ensures { λ _. ⌜ now (out .exit) ≡ addV p (now (out .entry)) (now (b .entry)) ⌝ }
-{
-    let mut i = 0;
-    while i < b.len() {
-        out[i] = add(p, out[i], b[i]);
-        i += 1;
-    }
-}
-
-// out := out - b
-pub fn sub_from(p: u8, out: &mut [u8], b: &[u8])
-    requires { ⌜ Operands p (now out) (now b) ⌝ }
-    ensures { λ _. ⌜ now (out .exit) ≡ subV p (now (out .entry)) (now (b .entry)) ⌝ }
-{
-    let mut i = 0;
-    while i < b.len() {
-        out[i] = sub(p, out[i], b[i]);
-        i += 1;
-    }
-}
 
 // out := c * out
 pub fn scale(p: u8, c: u8, out: &mut [u8])

@@ -6,12 +6,11 @@ mod primes;
 mod residues;
 
 pub use keys::add_multiple;
-pub use keys::add_to;
 pub use keys::difference;
 pub use keys::key_of;
 pub use keys::scale;
-pub use keys::sub_from;
 pub use primes::is_modulus;
+pub use primes::prime_from;
 pub use primes::prime_table;
 pub use primes::primes_below;
 pub use residues::add;

@@ -1,6 +1,6 @@
 // The moduli: a table of the primes from 2 to 251, and the questions that it answers.
 ghost use mathlib.Core.Path.{_≡_};
-ghost use Rattle.residue.specs.Prime.{isPrime, primesBelow, Primes};
+ghost use Rattle.residue.specs.Prime.{isPrime, primesBelow, primeFrom, Primes};
 
 const PRIMES: [u8; 54] = [
     2,
@@ -85,11 +85,18 @@ pub fn primes_below(x: u8) -> usize
     low
 }
 
-// Whether `p` is a modulus, so a prime: a byte's primes are all in the table.
+// The smallest prime at least `x`; above 251 no byte is one, and the answer is 0.
+pub fn prime_from(x: u8) -> u8
+    ensures { λ r. ⌜ r ≡ primeFrom x ⌝ }
+{
+    let table = prime_table();
+    let place = primes_below(x);
+    if place < 54 { table[place] } else { 0 }
+}
+
+// Whether `p` is a modulus, so a prime: then, and only then, it is the smallest from itself on.
 pub fn is_modulus(p: u8) -> bool
     ensures { λ r. ⌜ r ≡ isPrime p ⌝ }
 {
-    let table = prime_table();
-    let place = primes_below(p);
-    if place < 54 { table[place] == p } else { false }
+    prime_from(p) == p
 }

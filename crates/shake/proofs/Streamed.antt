@@ -251,7 +251,3 @@ streamed m h =
 
     bytes : Bytes (padded m)
     bytes = subst Bytes (sym (padded-is m h)) (bytes-append m (tail (136 - length m % 136)) h (bytes-tail (136 - length m % 136)))
-
-pub absorbed-length : (m : List ℕ) → Bytes m → length (absorbed m) ≡ 25
-unfolding closed
-absorbed-length m h = ap length (sym (streamed m h)) ∙ keccakF-length (mixed (mixed (withField empty m .lanes) (withField empty m .at) 0x1F) 135 0x80)

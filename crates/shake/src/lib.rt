@@ -1,10 +1,9 @@
 // SHAKE256 of FIPS 202: a sponge that takes a message in, field by field, and gives as many bytes or 8-byte numbers as one likes.
-// `shake256` and `shake256_numbers` are the functions on plain slices; `absorb` is the step between, on a sponge that is lent.
-// Each equals the definition on bits and blocks in specs/, for every message and every length of output.
+// `shake256` is the function on plain slices; `absorb` takes one field into a sponge that is lent, and `finished` and `squeeze_numbers`
+// give the numbers. Each equals the definition on bits and blocks in specs/, for every message and every length of output.
 // Rests on the permutation of the crate keccak.
 
 ghost use mathlib.Core.Path.{_≡_};
-ghost use mathlib.Core.List.{_++_};
 ghost use Prim.Native.Nat.{_*_, _<_};
 ghost use lib.ListN.{length};
 ghost use Rattle.shake.specs.Numbers.{numbers};
@@ -129,26 +128,9 @@ pub fn absorb(sponge: &mut Sponge, field: &[u8])
     *sponge = absorbed(*sponge, field);
 }
 
-// One sponge, lent for each of two fields in turn.
-pub fn two_fields(first: &[u8], second: &[u8]) -> Sponge
-    ensures { λ r. ⌜ r ≡ withField (withField empty (now (first .entry))) (now (second .entry)) ⌝ }
-{
-    let mut sponge = start();
-    absorb(&mut sponge, first);
-    absorb(&mut sponge, second);
-    sponge
-}
-
 // SHAKE256 of a message: as many bytes as the buffer has.
 pub fn shake256(message: &[u8], out: &mut [u8])
     ensures { λ _. ⌜ now (out .exit) ≡ shake256 (now (message .entry)) (length (now (out .entry))) ⌝ }
 {
     squeeze(finished(absorbed(start(), message)), out);
-}
-
-// SHAKE256 of a message in two fields, as 8-byte little-endian numbers: as many as the buffer has.
-pub fn shake256_numbers(first: &[u8], second: &[u8], out: &mut [u64])
-    ensures { λ _. ⌜ now (out .exit) ≡ numbers (shake256 (now (first .entry) ++ now (second .entry)) (8 * length (now (out .entry)))) ⌝ }
-{
-    squeeze_numbers(finished(two_fields(first, second)), out);
 }

@@ -17,75 +17,26 @@ Inv-loop field lanes₀ at₀ i₀ lanes at i = (i ≤ length field) × (at < 13
 abbrev μ-loop : tie.MeasureT-loop
 μ-loop field lanes₀ at₀ i₀ lanes at i = length field - i
 
-loop-holds : tie.Need-loop-holds Inv-loop μ-loop
-loop-holds c = (omega arith, omega arith, search needs, refl)
-
-mul-shift : tie.Need-mul-shift Inv-loop μ-loop
-mul-shift c = omega arith
-
-shared-slice-read-wide : tie.Need-shared-slice-read-wide Inv-loop μ-loop
-shared-slice-read-wide c = omega arith
-
-wide-requires : tie.Need-wide-requires Inv-loop μ-loop
-wide-requires c κs = search needs
-
-mul-lanes : tie.Need-mul-lanes Inv-loop μ-loop
-mul-lanes c = omega arith
-
-array-read-lanes : tie.Need-array-read-lanes Inv-loop μ-loop
-array-read-lanes c = omega arith
-
-shl-lanes : tie.Need-shl-lanes Inv-loop μ-loop
-shl-lanes c = omega arith
-
-mul-lanes-2 : tie.Need-mul-lanes-2 Inv-loop μ-loop
-mul-lanes-2 c = omega arith
-
-array-write-lanes : tie.Need-array-write-lanes Inv-loop μ-loop
-array-write-lanes c = omega arith
-
-add-at : tie.Need-add-at Inv-loop μ-loop
-add-at c = omega arith
-
-keccak-f-requires : tie.Need-keccak-f-requires Inv-loop μ-loop
-keccak-f-requires c κs = search needs
-
-add-i : tie.Need-add-i Inv-loop μ-loop
-add-i c = omega arith
-
-loop-less : tie.Need-loop-less Inv-loop μ-loop
-loop-less c = omega arith
-
-loop-again : tie.Need-loop-again Inv-loop μ-loop
-loop-again c =
+pub absorbed-spec : {M : Type 1} → statement M
+absorbed-spec = tie.close (tie.spec Inv-loop μ-loop
+    (λ c. (omega arith, omega arith, search needs, refl))
+    (λ c. omega arith)
+    (λ c. omega arith)
+    (λ c κs. search needs)
+    (λ c. omega arith)
+    (λ c. omega arith)
+    (λ c. omega arith)
+    (λ c. omega arith)
+    (λ c. omega arith)
+    (λ c. omega arith)
+    (λ c κs. search needs)
+    (λ c. omega arith)
+    (λ c. omega arith)
+    (λ c.
     let l = c .before .before .before .before .loop in let x = c .before .before .before .before .before .before .before in
     again (l .lanes) (l .at) (c .if1 .lanes) (c .if1 .at) (x .args .field .now) (l .i) (x .args .sponge) (omega arith) (l .inv .1) (l .inv .2) (l .inv .3)
     (⊎-elim
     (λ t. full (l .lanes) (l .at) (getD (x .args .field .now) (l .i) 0) (c .before .wide .result) (c .if1 .lanes) (c .if1 .at) (c .before .wide .ensures) (omega (arith, c .before .before .shared-slice-known2 .given (l .i))) (t .1 .result) (t .0 .taken) (t .1 .ensures) (t .2) (t .3))
     (λ t. within (l .lanes) (l .at) (getD (x .args .field .now) (l .i) 0) (c .before .wide .result) (c .if1 .lanes) (c .if1 .at) (c .before .wide .ensures) (omega (arith, c .before .before .shared-slice-known2 .given (l .i))) (t .0 .left) (t .1) (t .2))
-    (c .if1 .came))
-
-returns : tie.Need-returns Inv-loop μ-loop
-returns c = ended _ _ (c .before .before .before .before .args .field .now) (c .before .loop .i) (c .loop-test .left) (c .before .loop .inv .3)
-
-pub absorbed-spec : {M : Type 1} → statement M
-absorbed-spec =
-    tie.close
-    (tie.spec
-    Inv-loop
-    μ-loop
-    loop-holds
-    mul-shift
-    shared-slice-read-wide
-    wide-requires
-    mul-lanes
-    array-read-lanes
-    shl-lanes
-    mul-lanes-2
-    array-write-lanes
-    add-at
-    keccak-f-requires
-    add-i
-    loop-less
-    loop-again
-    returns)
+    (c .if1 .came)))
+    (λ c. ended _ _ (c .before .before .before .before .args .field .now) (c .before .loop .i) (c .loop-test .left) (c .before .loop .inv .3)))

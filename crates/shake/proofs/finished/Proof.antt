@@ -8,48 +8,16 @@ use borrow.Author.Needs.{needs}
 use Rattle.shake.proofs.finished.Statement.{statement}
 use Rattle.shake.proofs.finished.Tie as tie
 
-mul-shift : tie.Need-mul-shift
-mul-shift c = search needs
-
-mul-lanes : tie.Need-mul-lanes
-mul-lanes c = search needs
-
-array-read-lanes : tie.Need-array-read-lanes
-array-read-lanes c = search needs
-
-shl-lanes : tie.Need-shl-lanes
-shl-lanes c = search needs
-
-mul-lanes-2 : tie.Need-mul-lanes-2
-mul-lanes-2 c = search needs
-
-array-write-lanes : tie.Need-array-write-lanes
-array-write-lanes c = search needs
-
-array-read-lanes-2 : tie.Need-array-read-lanes-2
-array-read-lanes-2 c = search needs
-
-array-write-lanes-2 : tie.Need-array-write-lanes-2
-array-write-lanes-2 c = search needs
-
-keccak-f-requires : tie.Need-keccak-f-requires
-keccak-f-requires c κs = search needs
-
-returns : tie.Need-returns
-unfolding closed
-returns c = c .keccak-f .ensures ∙ ap keccakF (padded-lanes (c .before .before .args .sponge .lanes) (c .before .before .args .sponge .at) _ refl)
-
 pub finished-spec : {M : Type 1} → statement M
-finished-spec =
-    tie.close
-    (tie.spec
-    mul-shift
-    mul-lanes
-    array-read-lanes
-    shl-lanes
-    mul-lanes-2
-    array-write-lanes
-    array-read-lanes-2
-    array-write-lanes-2
-    keccak-f-requires
-    returns)
+unfolding closed
+finished-spec = tie.close (tie.spec
+    (λ c. search needs)
+    (λ c. search needs)
+    (λ c. search needs)
+    (λ c. search needs)
+    (λ c. search needs)
+    (λ c. search needs)
+    (λ c. search needs)
+    (λ c. search needs)
+    (λ c κs. search needs)
+    (λ c. c .keccak-f .ensures ∙ ap keccakF (padded-lanes (c .before .before .args .sponge .lanes) (c .before .before .args .sponge .at) _ refl)))

@@ -18,74 +18,28 @@ Inv-loop out₀ lanes₀ at₀ i₀ out lanes at i = Written 136 byteAt lanes₀
 abbrev μ-loop : tie.MeasureT-loop
 μ-loop out₀ lanes₀ at₀ i₀ out lanes at i = length out₀ - i
 
-loop-holds : tie.Need-loop-holds Inv-loop μ-loop
-loop-holds c = none-written 136 byteAt _ _ (search needs)
-
 -- the place to read, on whichever way the turn came
 below : (c : tie.Joined1 Inv-loop μ-loop) → c .if1 .at < 136
 below c = ⊎-elim (λ t. omega (arith, t .3)) (λ t. omega (arith, t .0 .left, t .2)) (c .if1 .came)
 
-keccak-f-requires : tie.Need-keccak-f-requires Inv-loop μ-loop
-keccak-f-requires c κs = search needs
-
-mul-shift : tie.Need-mul-shift Inv-loop μ-loop
-mul-shift c = omega arith
-
-mul-out : tie.Need-mul-out Inv-loop μ-loop
-mul-out c = omega (arith, below (c .before))
-
-array-read-out : tie.Need-array-read-out Inv-loop μ-loop
-array-read-out c = omega (arith, below (c .before))
-
-shr-out : tie.Need-shr-out Inv-loop μ-loop
-shr-out c = omega arith
-
-cast-out : tie.Need-cast-out Inv-loop μ-loop
-cast-out c = omega arith
-
-slice-write-out : tie.Need-slice-write-out Inv-loop μ-loop
-slice-write-out c = omega arith
-
-add-at : tie.Need-add-at Inv-loop μ-loop
-add-at c = omega (arith, below (c .before))
-
-add-i : tie.Need-add-i Inv-loop μ-loop
-add-i c = omega arith
-
-loop-less : tie.Need-loop-less Inv-loop μ-loop
-loop-less c = omega arith
-
-loop-again : tie.Need-loop-again Inv-loop μ-loop
-loop-again c =
+pub squeeze-spec : {M : Type 1} → statement M
+squeeze-spec = tie.close (tie.spec Inv-loop μ-loop
+    (λ c. none-written 136 byteAt _ _ (search needs))
+    (λ c κs. search needs)
+    (λ c. omega arith)
+    (λ c. omega (arith, below (c .before)))
+    (λ c. omega (arith, below (c .before)))
+    (λ c. omega arith)
+    (λ c. omega arith)
+    (λ c. omega arith)
+    (λ c. omega (arith, below (c .before)))
+    (λ c. omega arith)
+    (λ c. omega arith)
+    (λ c.
     let l = c .before .before .before .loop in
     ⊎-elim
     (λ t. more-full 136 byteAt _ _ (l .out) (l .lanes) (l .at) (l .i) (l .inv) (omega arith) (c .before .if1 .lanes) (c .before .if1 .at) _ (t .1 .result) (lit< tt) (t .0 .taken) (t .1 .ensures) (t .2) (t .3) refl)
     (λ t. more-within 136 byteAt _ _ (l .out) (l .lanes) (l .at) (l .i) (l .inv) (omega arith) (c .before .if1 .lanes) (c .before .if1 .at) _ (t .0 .left) (t .1) (t .2) refl)
-    (c .before .if1 .came)
-
-same-length : tie.Need-same-length Inv-loop μ-loop
-same-length c = omega arith
-
-returns : tie.Need-returns Inv-loop μ-loop
-returns c = all-written 136 byteAt _ _ _ _ _ _ (c .before .loop .inv) (omega arith) ∙ bytes-squeezed (length (c .before .before .before .args .out .now)) (c .before .before .before .args .state) (search needs)
-
-pub squeeze-spec : {M : Type 1} → statement M
-squeeze-spec =
-    tie.close
-    (tie.spec
-    Inv-loop
-    μ-loop
-    loop-holds
-    keccak-f-requires
-    mul-shift
-    mul-out
-    array-read-out
-    shr-out
-    cast-out
-    slice-write-out
-    add-at
-    add-i
-    loop-less
-    loop-again
-    same-length
-    returns)
+    (c .before .if1 .came))
+    (λ c. omega arith)
+    (λ c. all-written 136 byteAt _ _ _ _ _ _ (c .before .loop .inv) (omega arith) ∙ bytes-squeezed (length (c .before .before .before .args .out .now)) (c .before .before .before .args .state) (search needs)))

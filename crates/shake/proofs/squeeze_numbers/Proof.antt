@@ -18,66 +18,26 @@ Inv-loop out₀ lanes₀ j₀ i₀ out lanes j i = Written 17 laneAt lanes₀ (l
 abbrev μ-loop : tie.MeasureT-loop
 μ-loop out₀ lanes₀ j₀ i₀ out lanes j i = length out₀ - i
 
-loop-holds : tie.Need-loop-holds Inv-loop μ-loop
-loop-holds c = none-written 17 laneAt _ _ (search needs)
-
 -- the place to read, on whichever way the turn came
 below : (c : tie.Joined1 Inv-loop μ-loop) → c .if1 .j < 17
 below c = ⊎-elim (λ t. omega (arith, t .3)) (λ t. omega (arith, t .0 .left, t .2)) (c .if1 .came)
 
-keccak-f-requires : tie.Need-keccak-f-requires Inv-loop μ-loop
-keccak-f-requires c κs = search needs
-
-mul-out : tie.Need-mul-out Inv-loop μ-loop
-mul-out c = omega (arith, below (c .before))
-
-array-read-out : tie.Need-array-read-out Inv-loop μ-loop
-array-read-out c = omega (arith, below (c .before))
-
-mul-out-2 : tie.Need-mul-out-2 Inv-loop μ-loop
-mul-out-2 c = omega arith
-
-slice-write-out : tie.Need-slice-write-out Inv-loop μ-loop
-slice-write-out c = omega arith
-
-add-j : tie.Need-add-j Inv-loop μ-loop
-add-j c = omega (arith, below (c .before))
-
-add-i : tie.Need-add-i Inv-loop μ-loop
-add-i c = omega arith
-
-loop-less : tie.Need-loop-less Inv-loop μ-loop
-loop-less c = omega arith
-
-loop-again : tie.Need-loop-again Inv-loop μ-loop
-loop-again c =
+pub squeeze-numbers-spec : {M : Type 1} → statement M
+squeeze-numbers-spec = tie.close (tie.spec Inv-loop μ-loop
+    (λ c. none-written 17 laneAt _ _ (search needs))
+    (λ c κs. search needs)
+    (λ c. omega (arith, below (c .before)))
+    (λ c. omega (arith, below (c .before)))
+    (λ c. omega arith)
+    (λ c. omega arith)
+    (λ c. omega (arith, below (c .before)))
+    (λ c. omega arith)
+    (λ c. omega arith)
+    (λ c.
     let l = c .before .before .before .loop in
     ⊎-elim
     (λ t. more-full 17 laneAt _ _ (l .out) (l .lanes) (l .j) (l .i) (l .inv) (omega arith) (c .before .if1 .lanes) (c .before .if1 .j) _ (t .1 .result) (lit< tt) (t .0 .taken) (t .1 .ensures) (t .2) (t .3) refl)
     (λ t. more-within 17 laneAt _ _ (l .out) (l .lanes) (l .j) (l .i) (l .inv) (omega arith) (c .before .if1 .lanes) (c .before .if1 .j) _ (t .0 .left) (t .1) (t .2) refl)
-    (c .before .if1 .came)
-
-same-length : tie.Need-same-length Inv-loop μ-loop
-same-length c = omega arith
-
-returns : tie.Need-returns Inv-loop μ-loop
-returns c = all-written 17 laneAt _ _ _ _ _ _ (c .before .loop .inv) (omega arith) ∙ lanes-squeezed (length (c .before .before .before .args .out .now)) (c .before .before .before .args .state) (search needs) (λ i h. let f : mir.Val.Fits mir.Syntax.w64 (lib.ListN.getD (c .before .before .before .args .state) i 0) = search needs in f .fits)
-
-pub squeeze-numbers-spec : {M : Type 1} → statement M
-squeeze-numbers-spec =
-    tie.close
-    (tie.spec
-    Inv-loop
-    μ-loop
-    loop-holds
-    keccak-f-requires
-    mul-out
-    array-read-out
-    mul-out-2
-    slice-write-out
-    add-j
-    add-i
-    loop-less
-    loop-again
-    same-length
-    returns)
+    (c .before .if1 .came))
+    (λ c. omega arith)
+    (λ c. all-written 17 laneAt _ _ _ _ _ _ (c .before .loop .inv) (omega arith) ∙ lanes-squeezed (length (c .before .before .before .args .out .now)) (c .before .before .before .args .state) (search needs) (λ i h. let f : mir.Val.Fits mir.Syntax.w64 (lib.ListN.getD (c .before .before .before .args .state) i 0) = search needs in f .fits)))

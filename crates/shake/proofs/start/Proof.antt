@@ -6,9 +6,7 @@ use Rattle.shake.specs.Stream.{empty}
 use Rattle.shake.proofs.start.Statement.{statement}
 use Rattle.shake.proofs.start.Tie as tie
 
-returns : tie.Need-returns
-unfolding empty zeroState
-returns c = refl
-
 pub start-spec : {M : Type 1} → statement M
-start-spec = tie.close (tie.spec returns)
+unfolding empty zeroState
+start-spec = tie.close (tie.spec
+    (λ c. refl))

@@ -3,7 +3,7 @@
 use mathlib.Core.Path.{sym, ap, _∙_}
 use native.Mathlib.Omega.{arith}
 use borrow.Author.Needs.{needs}
-use lib.ListN.{length, take, drop}
+use lib.ListN.{length}
 use lib.Seq.{length-take-le, length-front}
 use Rattle.pads.specs.Moved.{placed}
 use Rattle.pads.specs.Pad.{padInput}
@@ -11,44 +11,26 @@ use Rattle.pads.proofs.Reduced.{front-back, pad-moved}
 use Rattle.pads.proofs.entries.move_pad.Statement.{statement}
 use Rattle.pads.proofs.entries.move_pad.Tie as tie
 
-slice-relend-prefix-pad-numbers : tie.Need-slice-relend-prefix-pad-numbers
-slice-relend-prefix-pad-numbers c = omega (arith, c .before .before .before .pre .1 .0 .short, c .before .before .before .pre .1 .1)
-
-slice-aggregate-pad-numbers : tie.Need-slice-aggregate-pad-numbers
-slice-aggregate-pad-numbers c =
-    let a = c .before .before .before .before .args in
-    sym (length-take-le (length (a .out .now)) (a .numbers .now) (omega (arith, c .before .before .before .before .pre .1 .0 .short, c .before .before .before .before .pre .1 .1)))
-
-pad-numbers-requires : tie.Need-pad-numbers-requires
-pad-numbers-requires c κs = search needs
-
-slice-reshare-prefix-move-numbers : tie.Need-slice-reshare-prefix-move-numbers
-slice-reshare-prefix-move-numbers c =
-    let a = c .before .before .before .before .before .before .before .args in
-    omega (arith, length-front (a .numbers .now) (c .before .before .pad-numbers .last .1 .1 .1 .1 .1 .0) (length (a .out .now)) (c .before .before .pad-numbers .kept .1 .1 .1 .1 .1 .0), c .before .before .before .before .before .before .before .pre .1 .0 .short, c .before .before .before .before .before .before .before .pre .1 .1)
-
-slice-aggregate-move-numbers : tie.Need-slice-aggregate-move-numbers
-slice-aggregate-move-numbers c =
-    let a = c .before .before .before .before .before .before .before .before .args in
-    sym (ap length (front-back (length (a .out .now)) (a .numbers .now) (c .before .before .before .pad-numbers .last .1 .1 .1 .1 .1 .0) (omega (arith, c .before .before .before .before .before .before .before .before .pre .1 .0 .short, c .before .before .before .before .before .before .before .before .pre .1 .1)) (c .before .before .before .pad-numbers .kept .1 .1 .1 .1 .1 .0)) ∙ c .before .before .before .pad-numbers .kept .1 .1 .1 .1 .1 .0 ∙ length-take-le (length (a .out .now)) (a .numbers .now) (omega (arith, c .before .before .before .before .before .before .before .before .pre .1 .0 .short, c .before .before .before .before .before .before .before .before .pre .1 .1)))
-
-move-numbers-requires : tie.Need-move-numbers-requires
-move-numbers-requires c κs =
-    let a = c .before .before .before .before .before .before .before .before .before .args in
-    (c .before .before .before .before .before .before .before .before .before .pre .0, sym (ap length (front-back (length (a .out .now)) (a .numbers .now) (c .before .before .before .before .pad-numbers .last .1 .1 .1 .1 .1 .0) (omega (arith, c .before .before .before .before .before .before .before .before .before .pre .1 .0 .short, c .before .before .before .before .before .before .before .before .before .pre .1 .1)) (c .before .before .before .before .pad-numbers .kept .1 .1 .1 .1 .1 .0)) ∙ c .before .before .before .before .pad-numbers .kept .1 .1 .1 .1 .1 .0 ∙ length-take-le (length (a .out .now)) (a .numbers .now) (omega (arith, c .before .before .before .before .before .before .before .before .before .pre .1 .0 .short, c .before .before .before .before .before .before .before .before .before .pre .1 .1))))
-
-same-length : tie.Need-same-length
-same-length c =
-    let a = c .before .before .before .before .before .before .before .before .before .before .before .before .args in
-    length-front (a .numbers .now) (c .before .before .before .before .before .before .before .pad-numbers .last .1 .1 .1 .1 .1 .0) (length (a .out .now)) (c .before .before .before .before .before .before .before .pad-numbers .kept .1 .1 .1 .1 .1 .0)
-
-same-length-2 : tie.Need-same-length-2
-same-length-2 c = search needs
-
-returns : tie.Need-returns
-returns c =
-    let a = c .before .before .before .before .before .before .before .before .before .before .before .before .args in
-    pad-moved (a .minus) (a .q) (padInput (placed (a .modulus) (a .wire) (a .component)) (a .receiver) (a .key .now)) (a .out .now) (a .numbers .now) (c .before .before .before .before .before .before .before .pad-numbers .last .1 .1 .1 .1 .1 .0) (omega (arith, c .before .before .before .before .before .before .before .before .before .before .before .before .pre .1 .0 .short, c .before .before .before .before .before .before .before .before .before .before .before .before .pre .1 .1)) (c .before .before .before .before .before .before .before .pad-numbers .kept .1 .1 .1 .1 .1 .0) (c .before .before .before .before .before .before .before .pad-numbers .ensures) (c .before .before .move-numbers .ensures)
-
 pub move-pad-spec : {M : Type 1} → statement M
-move-pad-spec = tie.close (tie.spec slice-relend-prefix-pad-numbers slice-aggregate-pad-numbers pad-numbers-requires slice-reshare-prefix-move-numbers slice-aggregate-move-numbers move-numbers-requires same-length same-length-2 returns)
+move-pad-spec = tie.close (tie.spec
+    (λ c. omega (arith, c .before .before .before .pre .1 .0 .short, c .before .before .before .pre .1 .1))
+    (λ c.
+    let a = c .before .before .before .before .args in
+    sym (length-take-le (length (a .out .now)) (a .numbers .now) (omega (arith, c .before .before .before .before .pre .1 .0 .short, c .before .before .before .before .pre .1 .1))))
+    (λ c κs. search needs)
+    (λ c.
+    let a = c .before .before .before .before .before .before .before .args in
+    omega (arith, length-front (a .numbers .now) (c .before .before .pad-numbers .last .1 .1 .1 .1 .1 .0) (length (a .out .now)) (c .before .before .pad-numbers .kept .1 .1 .1 .1 .1 .0), c .before .before .before .before .before .before .before .pre .1 .0 .short, c .before .before .before .before .before .before .before .pre .1 .1))
+    (λ c.
+    let a = c .before .before .before .before .before .before .before .before .args in
+    sym (ap length (front-back (length (a .out .now)) (a .numbers .now) (c .before .before .before .pad-numbers .last .1 .1 .1 .1 .1 .0) (omega (arith, c .before .before .before .before .before .before .before .before .pre .1 .0 .short, c .before .before .before .before .before .before .before .before .pre .1 .1)) (c .before .before .before .pad-numbers .kept .1 .1 .1 .1 .1 .0)) ∙ c .before .before .before .pad-numbers .kept .1 .1 .1 .1 .1 .0 ∙ length-take-le (length (a .out .now)) (a .numbers .now) (omega (arith, c .before .before .before .before .before .before .before .before .pre .1 .0 .short, c .before .before .before .before .before .before .before .before .pre .1 .1))))
+    (λ c κs.
+    let a = c .before .before .before .before .before .before .before .before .before .args in
+    (c .before .before .before .before .before .before .before .before .before .pre .0, sym (ap length (front-back (length (a .out .now)) (a .numbers .now) (c .before .before .before .before .pad-numbers .last .1 .1 .1 .1 .1 .0) (omega (arith, c .before .before .before .before .before .before .before .before .before .pre .1 .0 .short, c .before .before .before .before .before .before .before .before .before .pre .1 .1)) (c .before .before .before .before .pad-numbers .kept .1 .1 .1 .1 .1 .0)) ∙ c .before .before .before .before .pad-numbers .kept .1 .1 .1 .1 .1 .0 ∙ length-take-le (length (a .out .now)) (a .numbers .now) (omega (arith, c .before .before .before .before .before .before .before .before .before .pre .1 .0 .short, c .before .before .before .before .before .before .before .before .before .pre .1 .1)))))
+    (λ c.
+    let a = c .before .before .before .before .before .before .before .before .before .before .before .before .args in
+    length-front (a .numbers .now) (c .before .before .before .before .before .before .before .pad-numbers .last .1 .1 .1 .1 .1 .0) (length (a .out .now)) (c .before .before .before .before .before .before .before .pad-numbers .kept .1 .1 .1 .1 .1 .0))
+    (λ c. search needs)
+    (λ c.
+    let a = c .before .before .before .before .before .before .before .before .before .before .before .before .args in
+    pad-moved (a .minus) (a .q) (padInput (placed (a .modulus) (a .wire) (a .component)) (a .receiver) (a .key .now)) (a .out .now) (a .numbers .now) (c .before .before .before .before .before .before .before .pad-numbers .last .1 .1 .1 .1 .1 .0) (omega (arith, c .before .before .before .before .before .before .before .before .before .before .before .before .pre .1 .0 .short, c .before .before .before .before .before .before .before .before .before .before .before .before .pre .1 .1)) (c .before .before .before .before .before .before .before .pad-numbers .kept .1 .1 .1 .1 .1 .0) (c .before .before .before .before .before .before .before .pad-numbers .ensures) (c .before .before .move-numbers .ensures)))

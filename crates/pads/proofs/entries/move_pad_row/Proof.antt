@@ -3,7 +3,6 @@
 use mathlib.Core.Path.{_≡_, refl, sym, ap, _∙_}
 use Prim.Native.Nat.{_-_, _*_}
 use native.Mathlib.Omega.{arith}
-use borrow.Author.Needs.{needs}
 use lib.ListN.{length}
 use Rattle.lists.proofs.Steps.{level-start, steps-fits, steps-long}
 use Rattle.pads.specs.Moved.{placed}
@@ -17,46 +16,20 @@ Inv-loop minus q f modulus wire component n k keys numbers₀ out₀ at₀ i₀ 
 abbrev μ-loop : tie.MeasureT-loop
 μ-loop minus q f modulus wire component n k keys numbers₀ out₀ at₀ i₀ numbers out at i = n - i
 
-loop-holds : tie.Need-loop-holds Inv-loop μ-loop
-loop-holds c = (c .before .before .before .pre .1 .1 .0, level-start (omega (arith, c .before .before .before .pre .1 .1 .1 .receivers)))
-
-add-to : tie.Need-add-to Inv-loop μ-loop
-add-to c = omega (arith, steps-fits (c .before .loop .inv .1) (c .loop-test .taken), c .before .loop .inv .1 .kept)
-
-cast-receiver : tie.Need-cast-receiver Inv-loop μ-loop
-cast-receiver c = record { fits = omega (arith, c .before .before .before .before .before .pre .1 .1 .1 .parties) }
-
-sub-move-pads : tie.Need-sub-move-pads Inv-loop μ-loop
-sub-move-pads c = omega arith
-
-part-move-pads-start : tie.Need-part-move-pads-start Inv-loop μ-loop
-part-move-pads-start c = omega (arith, steps-fits (c .before .before .loop .inv .1) (c .before .loop-test .taken))
-
-part-move-pads-end : tie.Need-part-move-pads-end Inv-loop μ-loop
-part-move-pads-end c = omega (arith, steps-fits (c .before .before .loop .inv .1) (c .before .loop-test .taken))
-
-move-pads-requires : tie.Need-move-pads-requires Inv-loop μ-loop
-move-pads-requires c κs = (c .before .before .before .before .before .before .before .pre .0, (receiver-asked _ _ _ _ _ _ _ (c .before .before .before .loop .inv .1) (c .before .before .loop-test .taken) refl (c .before .before .before .before .before .before .before .pre .1 .0), (c .before .before .before .loop .inv .0, c .before .before .before .before .before .before .before .pre .1 .1 .1 .senders ∙ ap (λ m. c .before .before .before .before .before .before .before .args .n * m) (sym (steps-long (c .before .before .before .loop .inv .1) (c .before .before .loop-test .taken) refl)))))
-
-add-i : tie.Need-add-i Inv-loop μ-loop
-add-i c = omega arith
-
-loop-less : tie.Need-loop-less Inv-loop μ-loop
-loop-less c = omega arith
-
-loop-again : tie.Need-loop-again Inv-loop μ-loop
-loop-again c = (c .before .before .before .before .move-pads .kept .1 .1 .1 .1 .1 .1 .1 .1 .1 .0 ∙ c .before .before .before .before .before .before .before .before .loop .inv .0, receivers-more _ _ _ _ _ _ _ (c .before .before .before .before .before .before .before .before .loop .inv .1) (c .before .before .before .before .before .before .before .loop-test .taken) refl (c .before .before .before .before .move-pads .kept .1 .1 .1 .1 .1 .1 .1 .1 .1 .1 .0) (c .before .before .before .before .move-pads .ensures))
-
-same-length : tie.Need-same-length Inv-loop μ-loop
-same-length c = c .before .loop .inv .0 ∙ sym (c .before .before .before .before .before .pre .1 .1 .0)
-
-same-length-2 : tie.Need-same-length-2 Inv-loop μ-loop
-same-length-2 c = c .before .loop .inv .1 .kept
-
-returns : tie.Need-returns Inv-loop μ-loop
-returns c =
-    let a = c .before .before .before .before .before .args in
-    receivers-all (a .minus) (a .q) (placed (a .modulus) (a .wire) (a .component)) (a .keys .now) (a .n) (a .k) (a .out .now) (c .before .loop .inv .1) (c .loop-test .left) (c .before .before .before .before .before .pre .1 .1 .1 .receivers)
-
 pub move-pad-row-spec : {M : Type 1} → statement M
-move-pad-row-spec = tie.close (tie.spec Inv-loop μ-loop loop-holds add-to cast-receiver sub-move-pads part-move-pads-start part-move-pads-end move-pads-requires add-i loop-less loop-again same-length same-length-2 returns)
+move-pad-row-spec = tie.close (tie.spec Inv-loop μ-loop
+    (λ c. (c .before .before .before .pre .1 .1 .0, level-start (omega (arith, c .before .before .before .pre .1 .1 .1 .receivers))))
+    (λ c. omega (arith, steps-fits (c .before .loop .inv .1) (c .loop-test .taken), c .before .loop .inv .1 .kept))
+    (λ c. record { fits = omega (arith, c .before .before .before .before .before .pre .1 .1 .1 .parties) })
+    (λ c. omega arith)
+    (λ c. omega (arith, steps-fits (c .before .before .loop .inv .1) (c .before .loop-test .taken)))
+    (λ c. omega (arith, steps-fits (c .before .before .loop .inv .1) (c .before .loop-test .taken)))
+    (λ c κs. (c .before .before .before .before .before .before .before .pre .0, (receiver-asked _ _ _ _ _ _ _ (c .before .before .before .loop .inv .1) (c .before .before .loop-test .taken) refl (c .before .before .before .before .before .before .before .pre .1 .0), (c .before .before .before .loop .inv .0, c .before .before .before .before .before .before .before .pre .1 .1 .1 .senders ∙ ap (λ m. c .before .before .before .before .before .before .before .args .n * m) (sym (steps-long (c .before .before .before .loop .inv .1) (c .before .before .loop-test .taken) refl))))))
+    (λ c. omega arith)
+    (λ c. omega arith)
+    (λ c. (c .before .before .before .before .move-pads .kept .1 .1 .1 .1 .1 .1 .1 .1 .1 .0 ∙ c .before .before .before .before .before .before .before .before .loop .inv .0, receivers-more _ _ _ _ _ _ _ (c .before .before .before .before .before .before .before .before .loop .inv .1) (c .before .before .before .before .before .before .before .loop-test .taken) refl (c .before .before .before .before .move-pads .kept .1 .1 .1 .1 .1 .1 .1 .1 .1 .1 .0) (c .before .before .before .before .move-pads .ensures)))
+    (λ c. c .before .loop .inv .0 ∙ sym (c .before .before .before .before .before .pre .1 .1 .0))
+    (λ c. c .before .loop .inv .1 .kept)
+    (λ c.
+    let a = c .before .before .before .before .before .args in
+    receivers-all (a .minus) (a .q) (placed (a .modulus) (a .wire) (a .component)) (a .keys .now) (a .n) (a .k) (a .out .now) (c .before .loop .inv .1) (c .loop-test .left) (c .before .before .before .before .before .pre .1 .1 .1 .receivers)))

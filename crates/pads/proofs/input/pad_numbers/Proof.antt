@@ -10,24 +10,14 @@ use Rattle.pads.specs.Pad.{padInput}
 use Rattle.pads.proofs.input.pad_numbers.Statement.{statement}
 use Rattle.pads.proofs.input.pad_numbers.Tie as tie
 
-pad-sponge-requires : tie.Need-pad-sponge-requires
-pad-sponge-requires c κs = search needs
-
-finished-requires : tie.Need-finished-requires
-finished-requires c κs = field-place (c .pad-sponge .result) _ (c .pad-sponge .ensures)
-
-squeeze-numbers-requires : tie.Need-squeeze-numbers-requires
-squeeze-numbers-requires c κs = search needs
-
-same-length : tie.Need-same-length
-same-length c = search needs
-
-returns : tie.Need-returns
-returns c =
+pub pad-numbers-spec : {M : Type 1} → statement M
+pad-numbers-spec = tie.close (tie.spec
+    (λ c κs. search needs)
+    (λ c κs. field-place (c .pad-sponge .result) _ (c .pad-sponge .ensures))
+    (λ c κs. search needs)
+    (λ c. search needs)
+    (λ c.
     let a = c .before .before .before .before .before .before .before .before .args in
     let under = placed (a .modulus) (a .wire) (a .component) in
     let bytes = input-bytes under (a .receiver) (a .key .now) (c .before .before .before .before .before .before .before .before .fits .modulus .fits) (c .before .before .before .before .before .before .before .before .fits .component .fits) (c .before .before .before .before .before .before .before .before .fits .receiver .fits) (λ i. c .before .before .before .before .before .before .before .shared-slice-known .given i .fits) in
-    c .before .before .squeeze-numbers .ensures ∙ ap numbers (is-shake256 (c .before .before .before .before .before .pad-sponge .result) (padInput under (a .receiver) (a .key .now)) (c .before .before .before .before .finished .result) _ bytes (c .before .before .before .before .before .pad-sponge .ensures) (c .before .before .before .before .finished .ensures))
-
-pub pad-numbers-spec : {M : Type 1} → statement M
-pad-numbers-spec = tie.close (tie.spec pad-sponge-requires finished-requires squeeze-numbers-requires same-length returns)
+    c .before .before .squeeze-numbers .ensures ∙ ap numbers (is-shake256 (c .before .before .before .before .before .pad-sponge .result) (padInput under (a .receiver) (a .key .now)) (c .before .before .before .before .finished .result) _ bytes (c .before .before .before .before .before .pad-sponge .ensures) (c .before .before .before .before .finished .ensures))))

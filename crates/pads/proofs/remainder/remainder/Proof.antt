@@ -2,25 +2,14 @@
 -- Assumes nothing.
 use native.Mathlib.Nat.{mod-lt}
 use native.Mathlib.Omega.{arith}
-use borrow.Author.Needs.{needs}
 use Rattle.pads.proofs.Folded.{product-fits, quotient-low, rest-is}
 use Rattle.pads.proofs.remainder.remainder.Statement.{statement}
 use Rattle.pads.proofs.remainder.remainder.Tie as tie
 
-mul-quotient : tie.Need-mul-quotient
-mul-quotient c = record { fits = product-fits _ _ _ (c .before .pre .0 .modulus) (c .before .fits .q .fits) (c .before .pre .0 .reciprocal) (c .before .pre .1) }
-
-mul-result : tie.Need-mul-result
-mul-result c = record { fits = omega (arith, quotient-low _ _ _ (c .before .pre .0 .modulus) (c .before .fits .q .fits) (c .before .pre .0 .reciprocal) (c .before .pre .1), c .before .pre .1) }
-
-sub-result : tie.Need-sub-result
-sub-result c = quotient-low _ _ _ (c .before .pre .0 .modulus) (c .before .fits .q .fits) (c .before .pre .0 .reciprocal) (c .before .pre .1)
-
-cast-result : tie.Need-cast-result
-cast-result c = record { fits = omega (arith, rest-is _ _ _ (c .before .pre .0 .modulus) (c .before .fits .q .fits) (c .before .pre .0 .reciprocal) (c .before .pre .1), mod-lt (c .before .args .z) {m = c .before .args .q} (omega (arith, c .before .pre .0 .modulus)), c .before .fits .q .fits) }
-
-returns : tie.Need-returns
-returns c = rest-is _ _ _ (c .before .pre .0 .modulus) (c .before .fits .q .fits) (c .before .pre .0 .reciprocal) (c .before .pre .1)
-
 pub remainder-spec : {M : Type 1} → statement M
-remainder-spec = tie.close (tie.spec mul-quotient mul-result sub-result cast-result returns)
+remainder-spec = tie.close (tie.spec
+    (λ c. record { fits = product-fits _ _ _ (c .before .pre .0 .modulus) (c .before .fits .q .fits) (c .before .pre .0 .reciprocal) (c .before .pre .1) })
+    (λ c. record { fits = omega (arith, quotient-low _ _ _ (c .before .pre .0 .modulus) (c .before .fits .q .fits) (c .before .pre .0 .reciprocal) (c .before .pre .1), c .before .pre .1) })
+    (λ c. quotient-low _ _ _ (c .before .pre .0 .modulus) (c .before .fits .q .fits) (c .before .pre .0 .reciprocal) (c .before .pre .1))
+    (λ c. record { fits = omega (arith, rest-is _ _ _ (c .before .pre .0 .modulus) (c .before .fits .q .fits) (c .before .pre .0 .reciprocal) (c .before .pre .1), mod-lt (c .before .args .z) {m = c .before .args .q} (omega (arith, c .before .pre .0 .modulus)), c .before .fits .q .fits) })
+    (λ c. rest-is _ _ _ (c .before .pre .0 .modulus) (c .before .fits .q .fits) (c .before .pre .0 .reciprocal) (c .before .pre .1)))

@@ -1,6 +1,6 @@
 -- `residue::keys::add_multiple` meets its contract: entry by entry, `out` turns into its sum with the multiple, which is a key of
 -- zero key `out` and offset `b`. Assumes nothing.
-use mathlib.Core.Path.{_≡_, _∙_, sym, ap}
+use mathlib.Core.Path.{_∙_, ap}
 use Prim.Native.Nat.{ℕ, _+_, _*_, _-_, _≤_}
 use native.Mathlib.Nat.{le-refl}
 use native.Mathlib.Omega.{arith}

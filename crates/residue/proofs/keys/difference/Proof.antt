@@ -5,21 +5,13 @@ use Rattle.residue.proofs.Differences.{difference-is}
 use Rattle.residue.proofs.keys.difference.Statement.{statement}
 use Rattle.residue.proofs.keys.difference.Tie as tie
 
-sub-key-of : tie.Need-sub-key-of
-sub-key-of c = omega arith
-
-key-of-requires : tie.Need-key-of-requires
-key-of-requires c κs =
-    let start = c .before .before .before .before in
-    (record { positive = start .pre .0; size = start .pre .1 .0 }, start .pre .1 .1)
-
-same-length : tie.Need-same-length
-same-length c = c .before .before .key-of .kept .1 .1 .1 .1 .0
-
-returns : tie.Need-returns
-returns c =
-    let start = c .before .before .before .before .before .before .before in
-    difference-is _ _ _ (start .pre .0) (start .pre .1 .0) (c .before .before .key-of .ensures)
-
 pub difference-spec : {M : Type 1} → statement M
-difference-spec = tie.close (tie.spec sub-key-of key-of-requires same-length returns)
+difference-spec = tie.close (tie.spec
+    (λ c. omega arith)
+    (λ c κs.
+    let start = c .before .before .before .before in
+    (record { positive = start .pre .0; size = start .pre .1 .0 }, start .pre .1 .1))
+    (λ c. c .before .before .key-of .kept .1 .1 .1 .1 .0)
+    (λ c.
+    let start = c .before .before .before .before .before .before .before in
+    difference-is _ _ _ (start .pre .0) (start .pre .1 .0) (c .before .before .key-of .ensures)))

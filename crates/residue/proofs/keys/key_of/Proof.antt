@@ -1,9 +1,8 @@
 -- `residue::keys::key_of` meets its contract: entry by entry, `out` turns into the key. Assumes nothing.
-use mathlib.Core.Path.{_≡_, _∙_, sym, ap}
-use Prim.Native.Nat.{ℕ, _+_, _*_, _-_, _≤_}
-use native.Mathlib.Nat.{le-refl}
+use mathlib.Core.Path.{_∙_, sym}
+use Prim.Native.Nat.{_-_, _≤_}
 use native.Mathlib.Omega.{arith}
-use lib.ListN.{length, getD}
+use lib.ListN.{length}
 use borrow.Author.Needs.{needs}
 use Rattle.residue.specs.Vector.{keyV}
 use Rattle.residue.proofs.Vectors.{keyV-length, key-entry}

@@ -1,9 +1,9 @@
 -- `residue::keys::scale` meets its contract: entry by entry, `out` turns into the multiple. Assumes nothing.
-use mathlib.Core.Path.{_≡_, _∙_, sym, ap}
+use mathlib.Core.Path.{_∙_, ap}
 use Prim.Native.Nat.{ℕ, _+_, _*_, _-_, _≤_}
 use native.Mathlib.Nat.{le-refl}
 use native.Mathlib.Omega.{arith}
-use lib.ListN.{length, getD}
+use lib.ListN.{length}
 use borrow.Author.Needs.{needs}
 use Rattle.residue.specs.Vector.{mulV}
 use Rattle.residue.proofs.Vectors.{mulV-length, multiple-entry}

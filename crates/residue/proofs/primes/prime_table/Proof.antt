@@ -6,9 +6,7 @@ use Rattle.residue.proofs.Moduli.{right, rightly}
 use Rattle.residue.proofs.primes.prime_table.Statement.{statement}
 use Rattle.residue.proofs.primes.prime_table.Tie as tie
 
-returns : tie.Need-returns
-unfolding right isPrime remaindersBelow primesBelow
-returns c = rightly refl refl
-
 pub prime-table-spec : {M : Type 1} → statement M
-prime-table-spec = tie.close (tie.spec returns)
+unfolding isPrime primesBelow remaindersBelow right
+prime-table-spec = tie.close (tie.spec
+    (λ c. rightly refl refl))

@@ -19,7 +19,7 @@ same-bytes-spec =
     (tie.spec
     Inv-loop
     μ-loop
-    (λ c. sym (same-sizes _ _ (c .if1 .taken)))
+    (λ c. sym (same-sizes _ _ (λ e. omega (arith, e, c .if1 .taken))))
     (λ c. agree-none _ _)
     (λ c. omega arith)
     (λ c. omega arith)
