@@ -14,7 +14,7 @@ use Rattle.words.specs.declared.gate.Wire.{Wire}
 use Rattle.circuit.specs.declared.Circuit.{Circuit}
 use Rattle.circuit.specs.Wires.{wireAt, modulusAt, moduliOf}
 use Rattle.counts.specs.declared.recipe.Recipe.{Recipe}
-use Rattle.counts.specs.declared.recipe.Recipe.the-variants.{Drawn, Free, Table, Product, Choice}
+use Rattle.counts.specs.declared.recipe.Recipe.the-variants.{Entered, Free, Table, Product, Choice}
 use Rattle.counts.specs.Recipe.{recipe}
 use Rattle.counts.specs.Counts.{rowsBy, rowsOf, recordKeysBy, Room, Counts}
 use Rattle.counts.proofs.Wires.{wire-at, padded-modulus}
@@ -49,7 +49,7 @@ summed-done {limit} {f} {circuit} {i} {total} most room r h e =
 
 -- the count of a wire goes by its recipe, and a table's by one modulus more
 pub rows-same : (how : Recipe) (f g : ℕ → ℕ) (p : ℕ) → ((a : ℕ) → f a ≡ g a) → rowsBy how f p ≡ rowsBy how g p
-rows-same Drawn f g p e = refl
+rows-same Entered f g p e = refl
 rows-same Free f g p e = refl
 rows-same (Table a) f g p e = e a
 rows-same (Product pair) f g p e = refl

@@ -14,13 +14,13 @@ use Rattle.words.specs.declared.gate.Wire.{Wire}
 use Rattle.circuit.specs.Wires.{wireAt, modulusAt}
 use Rattle.circuit.specs.declared.Circuit.{Circuit}
 use Rattle.counts.specs.declared.recipe.Recipe.{Recipe}
-use Rattle.counts.specs.declared.recipe.Recipe.the-variants.{Drawn, Free, Table, Product, Choice}
+use Rattle.counts.specs.declared.recipe.Recipe.the-variants.{Entered, Free, Table, Product, Choice}
 use Rattle.counts.specs.Recipe.{recipe}
 
--- the rows of a wire of modulus p: none where it is drawn or free, one for each value of the wire that a table is over, 2p for a
+-- the rows of a wire of modulus p: none where it is entered or free, one for each value of the wire that a table is over, 2p for a
 -- product, 2p + 2 for a choice
 abbrev pub rowsBy : Recipe → (ℕ → ℕ) → ℕ → ℕ
-rowsBy Drawn modulusOf p = 0
+rowsBy Entered modulusOf p = 0
 rowsBy Free modulusOf p = 0
 rowsBy (Table a) modulusOf p = modulusOf a
 rowsBy (Product g) modulusOf p = 2 * p
@@ -36,7 +36,7 @@ rowsIn wires = sumTo (length wires) (rowsOf wires)
 -- the keys that a wire's record has, and as many mask shares: zero key and share; for a product those of its first part too; for a
 -- choice those of two first parts. So I + P + 2M + 3S in all
 abbrev pub recordKeysBy : Recipe → ℕ
-recordKeysBy Drawn = 1
+recordKeysBy Entered = 1
 recordKeysBy Free = 0
 recordKeysBy (Table a) = 1
 recordKeysBy (Product g) = 2

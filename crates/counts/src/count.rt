@@ -32,7 +32,7 @@ pub fn row_count(wire: Wire, moduli: &[u8]) -> u32
     let how = recipe_of(wire);
     let p = widened(wire.modulus);
     match how {
-        Recipe::Drawn => 0,
+        Recipe::Entered => 0,
         Recipe::Free => 0,
         Recipe::Table(a) => modulus_of(moduli, a),
         Recipe::Product(_) => 2 * p,
@@ -63,7 +63,7 @@ pub fn record_count(wire: Wire) -> u32
 {
     let how = recipe_of(wire);
     match how {
-        Recipe::Drawn => 1,
+        Recipe::Entered => 1,
         Recipe::Free => 0,
         Recipe::Table(_) => 1,
         Recipe::Product(_) => 2,
