@@ -8,7 +8,7 @@ use Rattle.checks.specs.declared.Refusal.the-variants.{UnknownWord, NotDue, Not
 use Rattle.words.specs.declared.gate.Gate.the-variants.{Input}
 use Rattle.words.specs.declared.gate.Due.the-variants.{Inputs}
 use Rattle.words.specs.declared.gate.Step.the-variants.{Makes}
-use Rattle.words.specs.Reading.{wire}
+use Rattle.words.specs.Reading.{wireOf}
 use Rattle.words.proofs.Steps.{below-limit, failed, not-failed, not-passed, passed, past-limit, prime-told, two-tests}
 use Rattle.words.proofs.reading.input_word.Statement.{statement}
 use Rattle.words.proofs.reading.input_word.Tie as tie
@@ -56,7 +56,7 @@ returns-6 c =
     (passed NotPrime (prime-told (c6 .byte-from .ensures) (c5 .is-modulus .ensures) ∙ not-passed (c5 .is-modulus .result) (c4 .if3 .left))
     (passed OutOfRange (below-limit 8 (c3 .byte-from2 .ensures) (c2 .if4 .left))
     (passed TooMany (below-limit 1024 refl (c1 .if5 .left))
-    (c .makes .ensures ∙ ap₂ (λ (k m : ℕ). Makes (wire (Input (record { owner = k })) m) Inputs) (c3 .byte-from2 .ensures) (c6 .byte-from .ensures))))))
+    (c .makes .ensures ∙ ap₂ (λ (k m : ℕ). Makes (wireOf (Input (record { owner = k })) m) Inputs) (c3 .byte-from2 .ensures) (c6 .byte-from .ensures))))))
 
 pub input-word-spec : {M : Type 1} → statement M
 input-word-spec =

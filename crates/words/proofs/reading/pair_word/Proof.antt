@@ -9,7 +9,7 @@ use borrow.Author.Needs.{needs}
 use Rattle.checks.specs.declared.Refusal.the-variants.{UnknownWord, NotDue, NotMade, ModuliDiffer, TooMany}
 use Rattle.words.specs.declared.gate.Due.the-variants.{Gates}
 use Rattle.words.specs.declared.gate.Step.the-variants.{Makes}
-use Rattle.words.specs.Reading.{wire}
+use Rattle.words.specs.Reading.{wireOf}
 use Rattle.words.proofs.Steps.{failed, modulus-told, no-room, not-failed, not-passed, passed, room-left, two-alike, two-differ, two-made}
 use Rattle.words.proofs.reading.pair_word.Statement.{statement}
 use Rattle.words.proofs.reading.pair_word.Tie as tie
@@ -57,7 +57,7 @@ returns-6 c =
     (passed NotMade (two-made (length-take-le (c14 .args .made) (c14 .args .moduli .now) (c14 .pre)) (c8 .wire-from .ensures) (c7 .wire-from2 .ensures) (c6 .both-made .ensures) ∙ not-passed (c6 .both-made .result) (c5 .if3 .left))
     (passed ModuliDiffer (two-alike (take (c14 .args .made) (c14 .args .moduli .now)) (c8 .wire-from .ensures) (c7 .wire-from2 .ensures) (c4 .modulus-of .ensures) (c3 .modulus-of2 .ensures) (c2 .if4 .left))
     (passed TooMany (room-left (length-take-le (c14 .args .made) (c14 .args .moduli .now) (c14 .pre)) (c1 .if5 .left))
-    (c .makes .ensures ∙ ap (λ (m : ℕ). Makes (wire (c14 .args .gate) m) Gates) (modulus-told (take (c14 .args .made) (c14 .args .moduli .now)) (c8 .wire-from .ensures) (c4 .modulus-of .ensures)))))))
+    (c .makes .ensures ∙ ap (λ (m : ℕ). Makes (wireOf (c14 .args .gate) m) Gates) (modulus-told (take (c14 .args .made) (c14 .args .moduli .now)) (c8 .wire-from .ensures) (c4 .modulus-of .ensures)))))))
 
 pub pair-word-spec : {M : Type 1} → statement M
 pair-word-spec =

@@ -12,7 +12,7 @@ use Rattle.words.specs.declared.gate.Gate.the-variants.{Project}
 use Rattle.words.specs.declared.gate.Due.the-variants.{Entries}
 use Rattle.words.specs.declared.gate.Step.the-variants.{Makes}
 use Rattle.words.specs.Bits.{oneWire, outputModulus}
-use Rattle.words.specs.Reading.{wire}
+use Rattle.words.specs.Reading.{wireOf}
 use Rattle.words.proofs.Steps.{failed, modulus-told, no-room, not-failed, not-passed, one-made, passed, prime-told, room-left}
 use Rattle.words.proofs.reading.project_word.Statement.{statement}
 use Rattle.words.proofs.reading.project_word.Tie as tie
@@ -60,7 +60,7 @@ returns-6 c =
     (passed NotPrime (prime-told (c8 .byte-from .ensures) (c7 .is-modulus .ensures) ∙ not-passed (c7 .is-modulus .result) (c6 .if3 .left))
     (passed NotMade (one-made (length-take-le (c14 .args .made) (c14 .args .moduli .now) (c14 .pre .0)) (c5 .wire-from .ensures) (c4 .is-made .ensures) ∙ not-passed (c4 .is-made .result) (c3 .if4 .left))
     (passed TooMany (room-left (length-take-le (c14 .args .made) (c14 .args .moduli .now) (c14 .pre .0)) (c2 .if5 .left))
-    (c .makes .ensures ∙ ap₂ (λ (p v : ℕ). Makes (wire (Project (record { a = c5 .wire-from .result; table = c14 .args .at + 1 })) p) (Entries v p)) (c8 .byte-from .ensures) (modulus-told (take (c14 .args .made) (c14 .args .moduli .now)) (c5 .wire-from .ensures) (c1 .modulus-of .ensures)) ∙ ap (λ (k : ℕ). Makes (wire (Project (record { a = k; table = c14 .args .at + 1 })) (outputModulus (c14 .args .w))) (Entries (getD (take (c14 .args .made) (c14 .args .moduli .now)) (oneWire (c14 .args .w)) 0) (outputModulus (c14 .args .w)))) (c5 .wire-from .ensures))))))
+    (c .makes .ensures ∙ ap₂ (λ (p v : ℕ). Makes (wireOf (Project (record { a = c5 .wire-from .result; table = c14 .args .at + 1 })) p) (Entries v p)) (c8 .byte-from .ensures) (modulus-told (take (c14 .args .made) (c14 .args .moduli .now)) (c5 .wire-from .ensures) (c1 .modulus-of .ensures)) ∙ ap (λ (k : ℕ). Makes (wireOf (Project (record { a = k; table = c14 .args .at + 1 })) (outputModulus (c14 .args .w))) (Entries (getD (take (c14 .args .made) (c14 .args .moduli .now)) (oneWire (c14 .args .w)) 0) (outputModulus (c14 .args .w)))) (c5 .wire-from .ensures))))))
 
 pub project-word-spec : {M : Type 1} → statement M
 project-word-spec =

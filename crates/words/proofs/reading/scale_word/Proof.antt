@@ -11,7 +11,7 @@ use Rattle.words.specs.declared.gate.Gate.the-variants.{Scale}
 use Rattle.words.specs.declared.gate.Due.the-variants.{Gates}
 use Rattle.words.specs.declared.gate.Step.the-variants.{Makes}
 use Rattle.words.specs.Bits.{constant}
-use Rattle.words.specs.Reading.{wire}
+use Rattle.words.specs.Reading.{wireOf}
 use Rattle.words.proofs.Steps.{failed, in-bounds, modulus-told, no-room, not-failed, not-passed, one-made, passed, room-left}
 use Rattle.words.proofs.reading.scale_word.Statement.{statement}
 use Rattle.words.proofs.reading.scale_word.Tie as tie
@@ -59,7 +59,7 @@ returns-6 c =
     (passed NotMade (one-made (length-take-le (c14 .args .made) (c14 .args .moduli .now) (c14 .pre)) (c8 .wire-from .ensures) (c7 .is-made .ensures) ∙ not-passed (c7 .is-made .result) (c6 .if3 .left))
     (passed OutOfRange (in-bounds (c5 .byte-from .ensures) (modulus-told (take (c14 .args .made) (c14 .args .moduli .now)) (c8 .wire-from .ensures) (c4 .modulus-of .ensures)) (c3 .both .ensures) ∙ not-passed (c3 .both .result) (c2 .if4 .left))
     (passed TooMany (room-left (length-take-le (c14 .args .made) (c14 .args .moduli .now) (c14 .pre)) (c1 .if5 .left))
-    (c .makes .ensures ∙ ap (λ (k : ℕ). Makes (wire (Scale (record { constant = k; a = c8 .wire-from .result })) (c4 .modulus-of .result)) Gates) (c5 .byte-from .ensures) ∙ ap₂ (λ (k m : ℕ). Makes (wire (Scale (record { constant = constant (c14 .args .w); a = k })) m) Gates) (c8 .wire-from .ensures) (modulus-told (take (c14 .args .made) (c14 .args .moduli .now)) (c8 .wire-from .ensures) (c4 .modulus-of .ensures)))))))
+    (c .makes .ensures ∙ ap (λ (k : ℕ). Makes (wireOf (Scale (record { constant = k; a = c8 .wire-from .result })) (c4 .modulus-of .result)) Gates) (c5 .byte-from .ensures) ∙ ap₂ (λ (k m : ℕ). Makes (wireOf (Scale (record { constant = constant (c14 .args .w); a = k })) m) Gates) (c8 .wire-from .ensures) (modulus-told (take (c14 .args .made) (c14 .args .moduli .now)) (c8 .wire-from .ensures) (c4 .modulus-of .ensures)))))))
 
 pub scale-word-spec : {M : Type 1} → statement M
 scale-word-spec =

@@ -11,7 +11,7 @@ use Rattle.words.specs.declared.gate.Gate.the-variants.{Select}
 use Rattle.words.specs.declared.gate.Due.the-variants.{Gates}
 use Rattle.words.specs.declared.gate.Step.the-variants.{Makes}
 use Rattle.words.specs.Bits.{wireA}
-use Rattle.words.specs.Reading.{wire}
+use Rattle.words.specs.Reading.{wireOf}
 use Rattle.words.proofs.Steps.{failed, modulus-told, not-failed, not-passed, passed, two-alike, two-differ, two-made}
 use Rattle.words.proofs.reading.selection.Statement.{statement}
 use Rattle.words.proofs.reading.selection.Tie as tie
@@ -32,7 +32,7 @@ returns-3 c =
     let c1 = c .before in let c2 = c1 .before in let c3 = c2 .before in let c4 = c3 .before in let c5 = c4 .before in let c6 = c5 .before in let c7 = c6 .before in let c8 = c7 .before in let c9 = c8 .before in
     passed NotMade (two-made (length-take-le (c9 .args .made) (c9 .args .moduli .now) (c9 .pre)) (c7 .wire-from .ensures) (c6 .wire-from2 .ensures) (c5 .both-made .ensures) ∙ not-passed (c5 .both-made .result) (c4 .if1 .left))
     (passed ModuliDiffer (two-alike (take (c9 .args .made) (c9 .args .moduli .now)) (c7 .wire-from .ensures) (c6 .wire-from2 .ensures) (c3 .modulus-of .ensures) (c2 .modulus-of2 .ensures) (c1 .if2 .left))
-    (c .makes .ensures ∙ ap₂ (λ (k m : ℕ). Makes (wire (Select (record { bit = c9 .args .bit; a = k; b = c6 .wire-from2 .result })) m) Gates) (c7 .wire-from .ensures) (modulus-told (take (c9 .args .made) (c9 .args .moduli .now)) (c7 .wire-from .ensures) (c3 .modulus-of .ensures)) ∙ ap (λ (k : ℕ). Makes (wire (Select (record { bit = c9 .args .bit; a = wireA (c9 .args .w); b = k })) (getD (take (c9 .args .made) (c9 .args .moduli .now)) (wireA (c9 .args .w)) 0)) Gates) (c6 .wire-from2 .ensures)))
+    (c .makes .ensures ∙ ap₂ (λ (k m : ℕ). Makes (wireOf (Select (record { bit = c9 .args .bit; a = k; b = c6 .wire-from2 .result })) m) Gates) (c7 .wire-from .ensures) (modulus-told (take (c9 .args .made) (c9 .args .moduli .now)) (c7 .wire-from .ensures) (c3 .modulus-of .ensures)) ∙ ap (λ (k : ℕ). Makes (wireOf (Select (record { bit = c9 .args .bit; a = wireA (c9 .args .w); b = k })) (getD (take (c9 .args .made) (c9 .args .moduli .now)) (wireA (c9 .args .w)) 0)) Gates) (c6 .wire-from2 .ensures)))
 
 pub selection-spec : {M : Type 1} → statement M
 selection-spec =
