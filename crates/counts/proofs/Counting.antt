@@ -13,10 +13,11 @@ use Rattle.lists.proofs.Sums.{sumTo-next, times-next}
 use Rattle.words.specs.declared.gate.Wire.{Wire}
 use Rattle.circuit.specs.declared.Circuit.{Circuit}
 use Rattle.circuit.specs.Wires.{wireAt, modulusAt, moduliOf}
+use Rattle.circuit.specs.Held.{wiresIn, Room}
 use Rattle.counts.specs.declared.recipe.Recipe.{Recipe}
 use Rattle.counts.specs.declared.recipe.Recipe.the-variants.{Entered, Free, Table, Product, Choice}
 use Rattle.counts.specs.Recipe.{recipe}
-use Rattle.counts.specs.Counts.{rowsBy, rowsOf, recordKeysBy, Room, Counts}
+use Rattle.counts.specs.Counts.{rowsBy, rowsOf, recordKeysBy, Counts}
 use Rattle.counts.proofs.Wires.{wire-at, padded-modulus}
 
 -- i of n turns are taken, and each added at most a limit
@@ -39,7 +40,7 @@ summed-step {limit} {f} {n} {i} {total} {v} {count} r h k e =
 
 -- the wires of a circuit, all of them counted
 pub summed-done : {limit : ℕ} {f : ℕ → ℕ} {circuit : Circuit} {i total : ℕ} (most : ℕ) → Room circuit → Summed limit f (circuit .made) i total → circuit .made ≤ i → 1024 * limit ≡ most
-    → Counts most (sumTo (length (take (circuit .made) (circuit .wires))) f) total
+    → Counts most (sumTo (length (wiresIn circuit)) f) total
 summed-done {limit} {f} {circuit} {i} {total} most room r h e =
     let k : i ≡ circuit .made = omega arith in
     record {

@@ -1,5 +1,5 @@
--- Document 01, "The gates" and "What a seat contributes": how many rows and records a wire has, and how many a circuit; how many inputs
--- a party owns.
+-- Document 01, "The gates" and "What a seat contributes": how many rows, and keys in its record, a wire has,
+-- and how many a circuit; how many inputs a party owns.
 -- Assumes nothing.
 use mathlib.Core.Path.{_≡_}
 use mathlib.Core.Bool.{Bool, true, false}
@@ -12,7 +12,6 @@ use Rattle.words.specs.declared.gate.Gate.{Gate}
 use Rattle.words.specs.declared.gate.Gate.the-variants.{Input, Add, Scale, Multiply, Project, Select}
 use Rattle.words.specs.declared.gate.Wire.{Wire}
 use Rattle.circuit.specs.Wires.{wireAt, modulusAt}
-use Rattle.circuit.specs.declared.Circuit.{Circuit}
 use Rattle.counts.specs.declared.recipe.Recipe.{Recipe}
 use Rattle.counts.specs.declared.recipe.Recipe.the-variants.{Entered, Free, Table, Product, Choice}
 use Rattle.counts.specs.Recipe.{recipe}
@@ -64,11 +63,6 @@ ownedBy party (Select gate) = false
 
 abbrev pub inputsOf : ℕ → List Wire → ℕ
 inputsOf party wires = sumTo (length wires) (λ w. mark (ownedBy party (wireAt wires w .gate)))
-
--- a circuit's wires stand at the front of its array of 1,024
-pub record Room (circuit : Circuit) : Type 0 where
-  pub made : circuit .made ≤ 1024
-  pub wires : length (circuit .wires) ≡ 1024
 
 -- a number of the code is a count, and no larger than a limit
 pub record Counts (limit count r : ℕ) : Type 0 where

@@ -19,7 +19,7 @@ use Rattle.plain.specs.Plain.{chosenBy, plainBy}
 use Rattle.plain.specs.Ready.{Below, PairReady, ProjectionReady, ChoiceReady, Ready}
 
 -- the first byte of a word is its bits 7 to 0
-pub image-byte : (file : List ℕ) (i : ℕ) → getD file (4 * i) 0 < 256 → getD file (4 * i) 0 ≡ bits (wordAt file i) 7 0
+pub image-byte : (file : List ℕ) (i : ℕ) → getD file (4 * i) 0 < 256 → getD file (4 * i) 0 ≡ image (wordAt file i)
 image-byte file i h = omega arith
 
 pub choose-first : (bit a b : ℕ) → bit ≡ 0 → a ≡ chosenBy (eqb bit 0) a b

@@ -22,11 +22,11 @@ use Rattle.words.specs.declared.gate.Wire.{Wire}
 use Rattle.circuit.specs.declared.Circuit.{Circuit}
 use Rattle.circuit.specs.declared.Reading.{Reading}
 use Rattle.circuit.specs.Wires.{modulusAt, inputsIn}
-use Rattle.circuit.specs.File.{readFile, Holds}
+use Rattle.circuit.specs.File.{readFile}
 use Rattle.circuit.specs.Accepted.{AcceptedCircuit}
+use Rattle.circuit.specs.Held.{wiresIn, outputsIn, Held, Holds}
 use Rattle.circuit.proofs.Accepted.{accepted}
 use Rattle.session.specs.Session.{fileChecked, lengthsChecked, tooLarge, valuesChecked}
-use Rattle.session.specs.Held.{wiresIn, outputsIn, Held}
 use Rattle.session.proofs.Sessions.{file-accepted, lengths-passed, lengths-same}
 use Rattle.session.proofs.Searches.{first-length, second-length}
 use Rattle.session.proofs.Circuits.{held-of, made-is, given-is, inputs-made}

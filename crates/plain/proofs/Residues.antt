@@ -130,7 +130,7 @@ module _ {file : List ℕ} {wires : List Wire} {outputs values : List ℕ} (fed 
   same-value (GateFits.add f) = ap₂ (add (modulusAt wires w)) (lower-is _ (f .a .lower)) (lower-is _ (f .b .lower))
   same-value (GateFits.scale {gate = gate} f) = ap (mul (modulusAt wires w) (gate .constant)) (lower-is _ (f .a .lower))
   same-value (GateFits.multiply f) = ap₂ (mul (modulusAt wires w)) (lower-is _ (f .a .lower)) (lower-is _ (f .b .lower))
-  same-value (GateFits.project {gate = gate} f) = ap (λ (v : ℕ). bits (wordAt file (gate .table + v)) 7 0) (lower-is _ (f .lower))
+  same-value (GateFits.project {gate = gate} f) = ap (λ (v : ℕ). image (wordAt file (gate .table + v))) (lower-is _ (f .lower))
   same-value (GateFits.select {gate = gate} f) =
       cc (lower-is (gate .bit) (f .lower), lower-is (gate .a) (f .a .lower), lower-is (gate .b) (f .b .lower))
 

@@ -1,6 +1,6 @@
 // The checks after reading: the lengths of what is lent, and the inputs' values.
 ghost use Rattle.checks.specs.Checked.{Meets};
-ghost use Rattle.session.specs.Held.{wiresIn, outputsIn, Held};
+ghost use Rattle.circuit.specs.Held.{wiresIn, outputsIn, Held};
 ghost use Rattle.plain.specs.Call.{fedChecked};
 use checks::Answer;
 use checks::Refusal;

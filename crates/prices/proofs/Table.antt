@@ -13,8 +13,9 @@ use Rattle.checks.specs.declared.Refusal.{Refusal}
 use Rattle.checks.specs.declared.Answer.the-variants.{Accepted, Refused}
 use Rattle.words.specs.declared.gate.Wire.{Wire}
 use Rattle.circuit.specs.declared.Reading.{Reading}
-use Rattle.circuit.specs.File.{Read, Holds}
+use Rattle.circuit.specs.File.{Read}
 use Rattle.circuit.specs.Wires.{wireAt, modulusAt}
+use Rattle.circuit.specs.Held.{wiresIn, Holds}
 use Rattle.counts.specs.Counts.{rowsOf, rowsIn}
 use Rattle.counts.proofs.Wires.{wire-at}
 use Rattle.prices.specs.Characters.{refusedText, atText, headText, totalText}
@@ -87,7 +88,7 @@ module _ {out₀ : List ℕ} {a b c d : ℕ} {out₁ out₂ out₃ out₄ : List
 -- ---- what was read, and what the lines come to
 
 module _ {reading : Reading} {read : Read} (h : Holds reading read) where
-  pub listed-accepted : reading .answer ≡ Accepted → listing (take (reading .circuit .made) (reading .circuit .wires)) ≡ listed (read .answer) (read .wires)
+  pub listed-accepted : reading .answer ≡ Accepted → listing (wiresIn (reading .circuit)) ≡ listed (read .answer) (read .wires)
   unfolding listed
   listed-accepted e = rw (← h .answer, e, h .wires)
 

@@ -20,10 +20,9 @@ use Rattle.checks.proofs.Answers.{unless-met, unless-named, meets-noneBad, meet
 use Rattle.words.specs.declared.gate.Wire.{Wire}
 use Rattle.circuit.specs.declared.Circuit.{Circuit}
 use Rattle.circuit.specs.Wires.{wireAt, modulusAt}
-use Rattle.counts.specs.Counts.{Room}
+use Rattle.circuit.specs.Held.{wiresIn, Room}
 use Rattle.counts.proofs.Wires.{wire-at, modulus-at}
 use Rattle.session.specs.Session.{partiesChecked, sessionChecked, partyChecked, ownerAbsent, ownersChecked, sameNumbers, lengthsChecked, tooLarge, valuesChecked}
-use Rattle.session.specs.Held.{wiresIn}
 use Rattle.session.proofs.Sessions.{lengths-passed}
 
 -- ---- 11

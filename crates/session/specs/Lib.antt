@@ -1,4 +1,3 @@
 -- What several calls share: the session's checks, and a circuit as the reader hands it to a call.
 pub mod Session
-pub mod Held
 pub mod Sizes

@@ -43,7 +43,7 @@ ownerAbsent n (Select gate) = false
 unfoldable pub ownersChecked : ℕ → List Wire → Checked
 ownersChecked n wires = noneBad (length wires) (λ w. ownerAbsent n (wireAt wires w .gate)) OwnerAbsent
 
--- 14: each lent length is exact; the pairs are the lengths lent and wanted
+-- 14: each lent length is exact: the lengths lent are those wanted, one by one
 unfoldable pub sameNumbers : List ℕ → List ℕ → Bool
 sameNumbers [] [] = true
 sameNumbers [] (y ∷ ys) = false

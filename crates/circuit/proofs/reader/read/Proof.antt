@@ -3,7 +3,7 @@
 use mathlib.Core.Path.{_∙_, sym, subst}
 use native.Mathlib.Omega.{arith}
 use borrow.Author.Needs.{needs}
-use Rattle.circuit.specs.File.{Holds}
+use Rattle.circuit.specs.Held.{Holds}
 use Rattle.circuit.proofs.Turn.{no-word, no-head, head}
 use Rattle.circuit.proofs.reader.read.Statement.{statement}
 use Rattle.circuit.proofs.reader.read.Tie as tie

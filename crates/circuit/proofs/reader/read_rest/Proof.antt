@@ -9,7 +9,8 @@ use borrow.Author.Needs.{needs}
 use lib.ListN.{take}
 use Rattle.words.specs.declared.gate.Step.{Step}
 use Rattle.circuit.specs.Wires.{isInput}
-use Rattle.circuit.specs.File.{Holds, wordsIn}
+use Rattle.circuit.specs.File.{wordsIn}
+use Rattle.circuit.specs.Held.{Holds}
 use Rattle.circuit.proofs.Turn.{Loop, Turn, near, few, turn, stopped, wire-room, output-room, made-one, gone, given-one, ended-well, ended-early, ran-out, start}
 use Rattle.circuit.proofs.Entry.{ran}
 use Rattle.circuit.proofs.reader.read_rest.Statement.{statement}
@@ -138,8 +139,10 @@ loop-again-4 c =
 
 accepted-requires : tie.Need-accepted-requires Inv-loop μ-loop
 accepted-requires c κs =
-    let l = c .before .before .before .before .before .before .before .before .loop .inv .1 in
-    record { wiresRoom = l .wiresRoom; outputsRoom = l .outputsRoom; wiresMade = l .madeWithin; outputsGiven = l .givenWithin; inputsCounted = l .count }
+    let l = c .before .before .before .before .before .before .before .before .loop .inv .1 in (
+      record { room = record { made = l .madeWithin; wires = l .wiresRoom }; inputs = l .count; given = l .givenWithin; outputs = l .outputsRoom },
+      record { wires = l .wiresBlank; outputs = l .outputsBlank },
+    )
 
 returns-2 : tie.Need-returns-2 Inv-loop μ-loop
 returns-2 c =

@@ -1,5 +1,6 @@
 use native.Mathlib.Omega.{arith}
 use lib.ListN.{take}
+use Rattle.circuit.specs.Held.{wiresIn}
 use Rattle.prices.proofs.Texts.{number-short}
 use Rattle.prices.proofs.Table.{put-listing}
 use borrow.Author.Needs.{needs}
@@ -50,7 +51,7 @@ same-length c = search needs
 
 -- src/listing.rt:80:1
 returns : tie.Need-returns
-returns c = put-listing (take (c .before .before .before .before .before .before .before .before .before .before .before .before .before .before .before .before .before .before .before .before .args .circuit .made) (c .before .before .before .before .before .before .before .before .before .before .before .before .before .before .before .before .before .before .before .before .args .circuit .wires)) (c .before .before .before .before .rows .result) (c .before .before .before .before .rows .ensures .is) (c .before .before .before .before .before .before .before .before .before .before .before .before .before .before .before .before .put-text .ensures) (c .before .before .before .before .before .before .before .before .before .before .before .before .put-wires .ensures .placed) (c .before .before .before .before .before .before .before .put-text2 .ensures) (c .before .before .put-number .ensures)
+returns c = put-listing (wiresIn (c .before .before .before .before .before .before .before .before .before .before .before .before .before .before .before .before .before .before .before .before .args .circuit)) (c .before .before .before .before .rows .result) (c .before .before .before .before .rows .ensures .is) (c .before .before .before .before .before .before .before .before .before .before .before .before .before .before .before .before .put-text .ensures) (c .before .before .before .before .before .before .before .before .before .before .before .before .put-wires .ensures .placed) (c .before .before .before .before .before .before .before .put-text2 .ensures) (c .before .before .put-number .ensures)
 
 pub put-listing-spec : {M : Type 1} → statement M
 put-listing-spec =

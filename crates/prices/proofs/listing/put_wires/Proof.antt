@@ -4,6 +4,7 @@ use native.Mathlib.Omega.{arith}
 use borrow.Author.Needs.{needs}
 use lib.ListN.{take}
 use lib.Seq.{length-take-le}
+use Rattle.circuit.specs.Held.{wiresIn}
 use Rattle.counts.proofs.Counting.{rows-at}
 use Rattle.prices.proofs.Table.{LinesSoFar, lines-start, lines-step, lines-done}
 use Rattle.prices.proofs.listing.put_wires.Statement.{statement}
@@ -15,7 +16,7 @@ use Rattle.counts.proofs.moduli.Reads as moduli-reads
 use Rattle.prices.proofs.listing.put_wire.Reads as put-wire-reads
 
 abbrev Inv-loop : tie.InvT-loop
-Inv-loop out₀ at circuit moduli made end₀ w₀ out end w = LinesSoFar (take (circuit .made) (circuit .wires)) out₀ at w end out × (w ≤ circuit .made)
+Inv-loop out₀ at circuit moduli made end₀ w₀ out end w = LinesSoFar (wiresIn circuit) out₀ at w end out × (w ≤ circuit .made)
 
 abbrev μ-loop : tie.MeasureT-loop
 μ-loop out₀ at circuit moduli made end₀ w₀ out end w = circuit .made - w

@@ -4,8 +4,8 @@ use native.Mathlib.Omega.{arith}
 use lib.ListN.{length, take}
 use Rattle.lists.proofs.Search.{Looking, looking-start, looking-on, looking-found, looking-none}
 use Rattle.circuit.specs.Wires.{modulusAt}
+use Rattle.circuit.specs.Held.{wiresIn}
 use Rattle.session.specs.Session.{tooLarge}
-use Rattle.session.specs.Held.{wiresIn}
 use Rattle.session.proofs.Searches.{value-large, value-small}
 use Rattle.session.proofs.values.first_too_large.Statement.{statement}
 use Rattle.session.proofs.values.first_too_large.Tie as tie
