@@ -16,7 +16,7 @@ use Rattle.residue.specs.Prime.{isPrime}
 use Rattle.residue.proofs.Moduli.{isPrime→Prime}
 use Rattle.residue.proofs.Vectors.{add-below, mul-below}
 use Rattle.residue.specs.Residue.{add, mul}
-use Rattle.words.specs.Bits.{bits, wordAt}
+use Rattle.words.specs.Bits.{image, wordAt}
 use Rattle.words.specs.declared.gate.Gate.{Gate}
 use Rattle.words.specs.declared.gate.Gate.the-variants.{Input, Add, Scale, Multiply, Project, Select}
 use Rattle.words.specs.declared.gate.Wire.{Wire}
