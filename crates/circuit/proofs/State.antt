@@ -3,7 +3,7 @@
 -- Assumes nothing.
 use mathlib.Core.Path.{_≡_, refl, _∙_, sym, ap, subst}
 use mathlib.Core.Logic.{⊎-elim}
-use mathlib.Core.Bool.{Bool, true, false, true≢false}
+use mathlib.Core.Bool.{true, false, true≢false}
 use mathlib.Core.List.{List, [], _∷_, _++_}
 use Prim.Native.Nat.{ℕ, zero, suc, _+_, _*_, _≤_, _<_}
 use native.Mathlib.Nat.{mod-lt, not-suc-le-zero, zero-add, eq-or-lt-of-le, le-of-suc-le-suc}
@@ -19,7 +19,7 @@ use Rattle.words.specs.Bits.{wordAt}
 use Rattle.words.specs.Reading.{inputDue, gateDue, outputDue, afterEntry, wireOf, readWord}
 use Rattle.words.specs.declared.gate.Projection.{Projection}
 use Rattle.words.specs.declared.gate.Choice.{Choice}
-use Rattle.words.specs.declared.gate.Gate.the-variants.{Input, Add, Scale, Multiply, Project, Select}
+use Rattle.words.specs.declared.gate.Gate.the-variants.{Project, Select}
 use Rattle.words.specs.declared.gate.Wire.{Wire}
 use Rattle.words.specs.declared.gate.Due.{Due}
 use Rattle.words.specs.declared.gate.Due.the-variants.{Inputs, Gates, Outputs, Entries, Branches}

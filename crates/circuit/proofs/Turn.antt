@@ -5,10 +5,10 @@
 use mathlib.Core.Path.{_≡_, refl, _∙_, sym, ap, subst}
 use mathlib.Core.Bool.{Bool, true, false, cond, _&&_}
 use mathlib.Core.List.{List, [], _∷_, _++_, map-append}
-use Prim.Native.Nat.{ℕ, zero, suc, _+_, _-_, _*_, _≤_, _<_}
+use Prim.Native.Nat.{ℕ, suc, _+_, _-_, _*_, _≤_, _<_}
 use native.Mathlib.Numerals.{add-one}
 use native.Mathlib.Omega.{arith}
-use lib.Dec.{leb, ltb, eqb}
+use lib.Dec.{ltb}
 use lib.ListN.{length, take, drop, set, replicate, length-set, length-replicate}
 use lib.Seq.{length-take-le, take-suc-set, drop-set-lt, drop-drop}
 use borrow.Author.Tests.{le-leb, lt-leb, le-ltb, lt-ltb, ne-eqb, eq-eqb}
@@ -24,7 +24,7 @@ use Rattle.words.specs.declared.gate.Step.the-variants.{Refused, Makes, Goes, G
 use Rattle.circuit.specs.Wires.{noWire, moduliOf, isInput, inputsIn}
 use Rattle.circuit.specs.File.{Read, refused, accepted, wordsIn, ended, after, readFrom, headed, readFile}
 use Rattle.circuit.proofs.More.{inputs-le, inputs-more, length-more}
-use Rattle.circuit.proofs.State.{Sound, State, Next, next, nothing, Within, within}
+use Rattle.circuit.proofs.State.{State, Next, next, nothing, within}
 
 -- what the words after the head come to
 abbrev pub whole : List ℕ → Read

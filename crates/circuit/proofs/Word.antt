@@ -1,19 +1,16 @@
 -- What a word that is not refused has been through: each thing that one word can do, with the checks that it passed. A proof about
 -- every word goes by these cases instead of by the checks of the definition.
 -- Assumes nothing.
-use mathlib.Core.Path.{_≡_, refl, sym}
+use mathlib.Core.Path.{_≡_, refl}
 use mathlib.Core.Bool.{Bool, true, false, _&&_}
-use mathlib.Core.List.{List, [], _∷_}
+use mathlib.Core.List.{List}
 use Prim.Native.Nat.{ℕ, zero, suc, _+_, _-_, _<_}
-use native.Mathlib.Nat.{zero-add}
-use native.Mathlib.Omega.{arith}
 use lib.Dec.{ltb, eqb}
 use lib.ListN.{length, getD}
 use borrow.Author.Tests.{ltb-true, eqb-true}
 use Rattle.residue.specs.Prime.{isPrime}
 use Rattle.residue.proofs.Table.{and-left, and-right}
 use Rattle.checks.specs.declared.Refusal.{Refusal}
-use Rattle.checks.specs.declared.Refusal.the-variants.{UnknownWord}
 use Rattle.words.specs.Bits.{kind, owner, inputModulus, wireA, wireB, oneWire, constant, outputModulus, image}
 use Rattle.words.specs.Reading.{check, inputDue, gateDue, outputDue, afterEntry, wireOf, pairOf, entryWhere, branchesWhere, readWord}
 use Rattle.words.specs.declared.gate.Gate.the-variants.{Input, Add, Scale, Multiply, Project, Select}

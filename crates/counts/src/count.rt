@@ -1,7 +1,6 @@
 // Rows and records of a wire and of a circuit, and the inputs of a party.
-ghost use mathlib.Core.Path.{_≡_};
-ghost use Prim.Native.Nat.{_≤_, _<_};
-ghost use lib.ListN.{take, getD};
+ghost use Prim.Native.Nat.{_<_};
+ghost use lib.ListN.{getD};
 ghost use Rattle.counts.specs.Recipe.{recipe};
 ghost use Rattle.circuit.specs.Held.{wiresIn, Room};
 ghost use Rattle.counts.specs.Counts.{rowsBy, rowsIn, recordKeysBy, recordKeysIn, mark, ownedBy, inputsOf, Counts};

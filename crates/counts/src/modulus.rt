@@ -1,8 +1,8 @@
 // The moduli of a circuit's wires, and which numbers are among them.
 ghost use mathlib.Core.Path.{_≡_};
 ghost use mathlib.Core.List.{_++_};
-ghost use Prim.Native.Nat.{_-_, _≤_};
-ghost use lib.ListN.{take, replicate};
+ghost use Prim.Native.Nat.{_-_};
+ghost use lib.ListN.{replicate};
 ghost use Rattle.lists.specs.Blocks.{tab};
 ghost use Rattle.circuit.specs.Wires.{moduliOf};
 ghost use Rattle.circuit.specs.Held.{wiresIn, Room};

@@ -1,20 +1,20 @@
 -- How the call ends: the checks after reading, what acceptance hands to the evaluation, and the outputs that it writes.
 -- Assumes nothing.
-use mathlib.Core.Path.{_≡_, refl, sym, ap, ap₂, subst, _∙_}
+use mathlib.Core.Path.{_≡_, sym, ap, ap₂, subst, _∙_}
 use mathlib.Core.List.{List, [], _∷_}
 use Prim.Native.Nat.{ℕ, _≤_, _<_}
 use native.Mathlib.Omega.{arith}
 use borrow.Author.Tests.{leb-false}
-use lib.ListN.{length, getD, take}
+use lib.ListN.{length, getD}
 use lib.Seq.{getD-take}
 use Rattle.lists.specs.Blocks.{tab}
 use Rattle.lists.proofs.Blocks.{tab-ext}
 use Rattle.checks.specs.declared.Answer.{Answer}
 use Rattle.checks.specs.declared.Answer.the-variants.{Accepted, Refused}
 use Rattle.checks.specs.declared.Refusal.{Refusal}
-use Rattle.checks.specs.declared.Refusal.the-variants.{WrongLength, ValueTooLarge}
+use Rattle.checks.specs.declared.Refusal.the-variants.{ValueTooLarge}
 use Rattle.checks.specs.Combined.{followed}
-use Rattle.checks.specs.Checked.{Checked, Meets, andThen, afterwards, answered, noneBad}
+use Rattle.checks.specs.Checked.{Checked, Meets}
 use Rattle.checks.specs.Checked.Checked.{passed}
 use Rattle.checks.proofs.Passed.{andThen-left, andThen-right, noneBad-none}
 use Rattle.checks.proofs.Answers.{meets-answered, meets-andThen, meets-refused, meets-next, meets-accepted, afterwards-accepted, afterwards-refused}
@@ -23,7 +23,6 @@ use Rattle.circuit.specs.declared.Circuit.{Circuit}
 use Rattle.circuit.specs.declared.Reading.{Reading}
 use Rattle.circuit.specs.Wires.{modulusAt, inputsIn}
 use Rattle.circuit.specs.File.{readFile}
-use Rattle.circuit.specs.Accepted.{AcceptedCircuit}
 use Rattle.circuit.specs.Held.{wiresIn, outputsIn, Held, Holds}
 use Rattle.circuit.proofs.Accepted.{accepted}
 use Rattle.session.specs.Session.{fileChecked, lengthsChecked, tooLarge, valuesChecked}

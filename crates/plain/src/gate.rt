@@ -2,7 +2,7 @@
 ghost use mathlib.Core.Path.{_≡_};
 ghost use Prim.Native.Nat.{_+_, _<_};
 ghost use lib.Dec.{eqb};
-ghost use lib.ListN.{length, getD};
+ghost use lib.ListN.{getD};
 ghost use Rattle.residue.specs.Residue.{add, mul};
 ghost use Rattle.words.specs.Bits.{image, wordAt};
 ghost use Rattle.plain.specs.Plain.{chosenBy, plainBy};

@@ -1,10 +1,10 @@
 -- Laws of what is printed: the lines of the wires one after another, the listing around them, a refusal.
 -- Assumes nothing.
-use mathlib.Core.Path.{_≡_, refl, sym, ap, _∙_}
+use mathlib.Core.Path.{_≡_, sym, ap, _∙_}
 use mathlib.Core.List.{List, [], _∷_, _++_}
-use Prim.Native.Nat.{ℕ, suc, _+_, _*_, _^_, _≤_, _<_}
+use Prim.Native.Nat.{ℕ, _+_, _*_, _≤_, _<_}
 use native.Mathlib.Omega.{arith}
-use lib.ListN.{length, take, length-append}
+use lib.ListN.{length, take}
 use Rattle.lists.specs.Blocks.{blocks}
 use Rattle.lists.proofs.Blocks.{blocks-next}
 use Rattle.lists.proofs.Wrote.{Wrote, wrote-start, wrote-as, wrote-join}
@@ -24,7 +24,7 @@ use Rattle.prices.specs.Lines.{linesOf}
 use Rattle.prices.specs.Found.{comesTo, bytesFound, Finds}
 use Rattle.prices.specs.declared.lines.Found.{Found}
 use Rattle.prices.specs.Placed.{Placed, PlacedWithin}
-use Rattle.prices.proofs.Texts.{placed-wrote, wrote-placed, placed-four, number-short, number-long}
+use Rattle.prices.proofs.Texts.{placed-wrote, wrote-placed, placed-four}
 
 -- a text, under another name
 pub placed-as : {xs ys : List ℕ} {out₀ : List ℕ} {at to : ℕ} {out : List ℕ} → Placed out₀ at xs to out → xs ≡ ys → Placed out₀ at ys to out

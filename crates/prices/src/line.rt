@@ -19,14 +19,14 @@ pub enum Line {
     Bad,
 }
 
-// The value of a hexadecimal digit, and 16 for another character.
+// The value of a hexadecimal digit, and 16 for another character. 55 and 87 are 10 less than the characters A and a.
 fn hex_value(c: u8) -> u8
     ensures { λ r. ⌜ r ≡ hexValue c ⌝ }
 {
     match c {
         48..=57 => c - 48,
-        65..=70 => 10 + (c - 65),
-        97..=102 => 10 + (c - 97),
+        65..=70 => c - 55,
+        97..=102 => c - 87,
         _ => 16,
     }
 }

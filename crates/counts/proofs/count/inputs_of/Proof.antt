@@ -2,7 +2,6 @@
 use mathlib.Core.Path.{refl, sym, ap}
 use Prim.Native.Nat.{_-_}
 use native.Mathlib.Omega.{arith}
-use lib.ListN.{take}
 use Rattle.circuit.specs.Wires.{wireAt}
 use Rattle.circuit.specs.Held.{wiresIn}
 use Rattle.counts.specs.Counts.{mark, ownedBy}

@@ -2,7 +2,6 @@
 use mathlib.Core.Path.{refl}
 use Prim.Native.Nat.{_-_}
 use native.Mathlib.Omega.{arith}
-use lib.ListN.{take}
 use Rattle.circuit.specs.Held.{wiresIn}
 use Rattle.counts.specs.Counts.{recordKeysOf}
 use Rattle.counts.proofs.Counting.{Summed, summed-start, summed-step, summed-done, records-at}

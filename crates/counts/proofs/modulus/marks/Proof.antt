@@ -2,7 +2,6 @@
 use mathlib.Core.Path.{_≡_}
 use Prim.Native.Nat.{_≤_, _-_}
 use native.Mathlib.Omega.{arith}
-use lib.ListN.{take}
 use Rattle.circuit.specs.Wires.{modulusAt}
 use Rattle.circuit.specs.Held.{wiresIn}
 use Rattle.counts.proofs.Marked.{marked, marks-start, marks-step, marks-done}

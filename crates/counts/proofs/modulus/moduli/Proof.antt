@@ -1,7 +1,6 @@
 -- `counts::moduli` meets its contract: a loop that fills the table wire by wire. Assumes nothing.
 use Prim.Native.Nat.{_-_}
 use native.Mathlib.Omega.{arith}
-use lib.ListN.{take}
 use Rattle.circuit.specs.Wires.{moduliOf}
 use Rattle.circuit.specs.Held.{wiresIn}
 use Rattle.lists.proofs.Filled.{Filled}

@@ -1,5 +1,4 @@
 -- `counts::moduli_used` meets its contract: the marks that are set are those of the moduli in use. Assumes nothing.
-use lib.ListN.{take}
 use Rattle.circuit.specs.Held.{wiresIn}
 use Rattle.counts.specs.Moduli.{used}
 use Rattle.counts.proofs.Marked.{marks-summed}

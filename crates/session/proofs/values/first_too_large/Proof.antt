@@ -1,7 +1,7 @@
 -- `session::first_too_large` meets its contract: a loop that looks for the first. Assumes nothing.
-use Prim.Native.Nat.{ℕ, _-_, _≤_, _<_}
+use Prim.Native.Nat.{_-_}
 use native.Mathlib.Omega.{arith}
-use lib.ListN.{length, take}
+use lib.ListN.{length}
 use Rattle.lists.proofs.Search.{Looking, looking-start, looking-on, looking-found, looking-none}
 use Rattle.circuit.specs.Wires.{modulusAt}
 use Rattle.circuit.specs.Held.{wiresIn}
