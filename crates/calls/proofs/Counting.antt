@@ -9,9 +9,9 @@ use Rattle.checks.specs.Checked.{Meets}
 use Rattle.checks.proofs.Answers.{meets-answered, meets-andThen}
 use Rattle.words.specs.declared.gate.Wire.{Wire}
 use Rattle.circuit.specs.declared.Reading.{Reading}
-use Rattle.circuit.specs.File.{Read, readFile, Holds}
+use Rattle.circuit.specs.File.{Read, readFile}
+use Rattle.circuit.specs.Held.{wiresIn, Holds}
 use Rattle.counts.specs.Counts.{Counts}
-use Rattle.session.specs.Held.{wiresIn}
 use Rattle.session.specs.Session.{fileChecked, partiesChecked, partyChecked, ownersChecked}
 use Rattle.calls.specs.InputsOf.{inputsOfChecked}
 

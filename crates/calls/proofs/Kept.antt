@@ -104,8 +104,7 @@ kept-start file moduli marks tally m k i r s h =
       outputs = replicate 256 0;
       loop =
           rw i
-          (start file (replicate 1024 noWire) moduli (replicate 256 0) (length-replicate 1024 noWire) (ap length m ∙ length-replicate {A = ℕ} 1024 0)
-          (length-replicate {A = ℕ} 256 0) h);
+          (start file (replicate 1024 noWire) moduli (replicate 256 0) refl (ap length m ∙ length-replicate {A = ℕ} 1024 0) refl h);
       rows = r;
       rowsMost = omega arith;
       records = s;

@@ -1,5 +1,6 @@
 // How many inputs a party owns, as a call.
-ghost use Rattle.circuit.specs.File.{readFile, Holds};
+ghost use Rattle.circuit.specs.File.{readFile};
+ghost use Rattle.circuit.specs.Held.{Holds};
 ghost use Rattle.calls.specs.InputsOf.{CountsInputs};
 use checks::Answer;
 use checks::followed;

@@ -97,6 +97,7 @@ fn summary_after(file: &[u8]) -> Summary
         }
         let next = at + 1;
         let w = word_at(file, at);
+        // Fewer than 2^19 words are read before a refusal or the end: at most 257 for each wire, and the outputs.
         match judge_word(&moduli, made, given, at as u32, due, w) {
             Step::Refused(reason) => return refused(reason, at),
             Step::Makes(wire, then) => {

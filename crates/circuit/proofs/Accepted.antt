@@ -3,7 +3,7 @@
 -- Assumes nothing.
 use mathlib.Core.Path.{_≡_, refl}
 use mathlib.Core.Bool.{Bool, true, false}
-use mathlib.Core.List.{List, [], _∷_, _++_}
+use mathlib.Core.List.{List, []}
 use Prim.Native.Nat.{ℕ, zero, suc, _+_, _-_, _≤_, _<_}
 use native.Mathlib.Omega.{arith}
 use lib.Dec.{ltb}
@@ -12,18 +12,12 @@ use borrow.Author.Tests.{ltb-true}
 use Rattle.residue.proofs.Table.{and-left}
 use Rattle.checks.specs.declared.Refusal.{Refusal}
 use Rattle.checks.specs.declared.Answer.the-variants.{Accepted, Refused}
-use Rattle.words.specs.declared.gate.Owned.{Owned}
-use Rattle.words.specs.declared.gate.Pair.{Pair}
-use Rattle.words.specs.declared.gate.Scaling.{Scaling}
-use Rattle.words.specs.declared.gate.Projection.{Projection}
-use Rattle.words.specs.declared.gate.Choice.{Choice}
-use Rattle.words.specs.declared.gate.Gate.the-variants.{Input, Add, Scale, Multiply, Project, Select}
 use Rattle.words.specs.declared.gate.Wire.{Wire}
 use Rattle.words.specs.declared.gate.Due.{Due}
 use Rattle.words.specs.declared.gate.Due.the-variants.{Inputs}
 use Rattle.words.specs.declared.gate.Step.{Step}
 use Rattle.circuit.specs.File.{Read, wordsIn, ended, after, readFrom, headed, readFile}
-use Rattle.circuit.specs.Accepted.{OwnedFits, PairFits, ScalingFits, ProjectionFits, ChoiceFits, GateFits, AcceptedCircuit}
+use Rattle.circuit.specs.Accepted.{AcceptedCircuit}
 use Rattle.circuit.proofs.State.{Sound, State, Next, next, nothing}
 
 -- what acceptance is to give
@@ -82,23 +76,3 @@ begun false file h e = never e
 pub accepted : (file : List ℕ) → (readFile file) .answer ≡ Accepted → AcceptedCircuit file ((readFile file) .wires) ((readFile file) .outputs)
 unfolding readFile
 accepted file = begun _ file (λ e. ltb-true 0 (wordsIn file) (and-left (ltb 0 (wordsIn file)) _ e))
-
--- what a gate's fitting says, by its kind
-module _ {file : List ℕ} {wires : List Wire} {w : ℕ} where
-  pub input-fits : {gate : Owned} → GateFits file wires w (Input gate) → OwnedFits gate
-  input-fits (GateFits.input f) = f
-
-  pub add-fits : {gate : Pair} → GateFits file wires w (Add gate) → PairFits wires w gate
-  add-fits (GateFits.add f) = f
-
-  pub scale-fits : {gate : Scaling} → GateFits file wires w (Scale gate) → ScalingFits wires w gate
-  scale-fits (GateFits.scale f) = f
-
-  pub multiply-fits : {gate : Pair} → GateFits file wires w (Multiply gate) → PairFits wires w gate
-  multiply-fits (GateFits.multiply f) = f
-
-  pub project-fits : {gate : Projection} → GateFits file wires w (Project gate) → ProjectionFits file wires w gate
-  project-fits (GateFits.project f) = f
-
-  pub select-fits : {gate : Choice} → GateFits file wires w (Select gate) → ChoiceFits wires w gate
-  select-fits (GateFits.select f) = f

@@ -4,18 +4,16 @@ use mathlib.Core.Path.{_≡_, refl, _∙_, sym, ap, subst, subst⁻¹}
 use mathlib.Core.Logic.{⊎-elim}
 use mathlib.Core.Bool.{Bool, true, false, cond}
 use mathlib.Core.List.{List, [], _∷_, _++_}
-use Prim.Native.Nat.{ℕ, zero, suc, _+_, _≤_, _<_}
+use Prim.Native.Nat.{ℕ, suc, _+_, _≤_, _<_}
 use native.Mathlib.Nat.{lt-trans, eq-or-lt-of-le, le-of-suc-le-suc}
 use native.Mathlib.Omega.{arith}
-use lib.Dec.{ltb}
 use lib.ListN.{length, getD, length-append, length-map, List·getD-append, List·getD-map}
 use lib.Seq.{getD-append-seam}
-use borrow.Author.Tests.{lt-ltb, le-ltb}
 use Rattle.residue.specs.Prime.{isPrime}
 use Rattle.words.specs.declared.gate.Gate.{Gate}
 use Rattle.words.specs.declared.gate.Wire.{Wire}
 use Rattle.circuit.specs.Wires.{noWire, wireAt, modulusAt, moduliOf, isInput, inputsIn}
-use Rattle.circuit.specs.Accepted.{Alike, PairFits, ScalingFits, ProjectionFits, ChoiceFits, GateFits, WireFits}
+use Rattle.circuit.specs.Accepted.{Alike, GateFits, WireFits}
 
 pub made : (wires : List Wire) → length (moduliOf wires) ≡ length wires
 made wires = length-map wires (λ wire. wire .modulus)

@@ -3,7 +3,7 @@
 -- Assumes nothing.
 use mathlib.Core.Path.{_≡_, refl, _∙_, sym, ap, subst}
 use mathlib.Core.Logic.{⊎-elim}
-use mathlib.Core.Bool.{Bool, true, false, true≢false}
+use mathlib.Core.Bool.{true, false, true≢false}
 use mathlib.Core.List.{List, [], _∷_, _++_}
 use Prim.Native.Nat.{ℕ, zero, suc, _+_, _*_, _≤_, _<_}
 use native.Mathlib.Nat.{mod-lt, not-suc-le-zero, zero-add, eq-or-lt-of-le, le-of-suc-le-suc}
@@ -16,10 +16,10 @@ use Rattle.residue.specs.Prime.{isPrime}
 use Rattle.residue.proofs.Table.{and-left}
 use Rattle.checks.specs.declared.Refusal.{Refusal}
 use Rattle.words.specs.Bits.{wordAt}
-use Rattle.words.specs.Reading.{inputDue, gateDue, outputDue, afterEntry, wire, readWord}
+use Rattle.words.specs.Reading.{inputDue, gateDue, outputDue, afterEntry, wireOf, readWord}
 use Rattle.words.specs.declared.gate.Projection.{Projection}
 use Rattle.words.specs.declared.gate.Choice.{Choice}
-use Rattle.words.specs.declared.gate.Gate.the-variants.{Input, Add, Scale, Multiply, Project, Select}
+use Rattle.words.specs.declared.gate.Gate.the-variants.{Project, Select}
 use Rattle.words.specs.declared.gate.Wire.{Wire}
 use Rattle.words.specs.declared.gate.Due.{Due}
 use Rattle.words.specs.declared.gate.Due.the-variants.{Inputs, Gates, Outputs, Entries, Branches}
@@ -70,7 +70,7 @@ pub data State (file : List ℕ) (at : ℕ) : Due → List Wire → List ℕ →
       → Sound file t wires given
       → length wires < 1024
       → Table file wires gate q t at left
-      → State file at (Entries left q) (wires ++ (wire (Project gate) q ∷ [])) given
+      → State file at (Entries left q) (wires ++ (wireOf (Project gate) q ∷ [])) given
   in-choice :
       {wires : List Wire} {given : List ℕ} {t bit : ℕ}
       → Sound file t wires given
@@ -201,23 +201,23 @@ module _ (file : List ℕ) (t at : ℕ) (wires : List Wire) (given : List ℕ) (
   one-more v l =
       ⊎-elim (λ (e : v ≡ table .passed). rw (e, table .here) fit) (λ (h : v < table .passed). table .entries v h) (eq-or-lt-of-le (le-of-suc-le-suc l))
 
-  last : left ≡ 1 → GateFits file (wires ++ (wire (Project gate) q ∷ [])) (length wires) (Project gate)
+  last : left ≡ 1 → GateFits file (wires ++ (wireOf (Project gate) q ∷ [])) (length wires) (Project gate)
   last e =
       GateFits.project {gate = gate}
       (record {
         lower = table .lower;
         entries =
-            λ v l. rw (modulus-new wires (wire (Project gate) q))
-            (one-more v (omega (arith, table .all, e, subst (λ (n : ℕ). v < n) (modulus-kept wires (wire (Project gate) q ∷ []) (gate .a) (table .lower)) l)));
+            λ v l. rw (modulus-new wires (wireOf (Project gate) q))
+            (one-more v (omega (arith, table .all, e, subst (λ (n : ℕ). v < n) (modulus-kept wires (wireOf (Project gate) q ∷ []) (gate .a) (table .lower)) l)));
       })
 
-  one-left : left ≡ 1 → State file (suc at) Gates (wires ++ (wire (Project gate) q ∷ [])) given
+  one-left : left ≡ 1 → State file (suc at) Gates (wires ++ (wireOf (Project gate) q ∷ [])) given
   one-left e =
       in-gates
       (sound-gate file t (suc at) wires given _ s room (omega (arith, table .start, table .here, table .all, table .lowerByte)) refl
       (fits-new wires _ file (table .prime) (table .byte) (last e)))
 
-  more-left : (others : ℕ) → left ≡ suc (suc others) → State file (suc at) (Entries (suc others) q) (wires ++ (wire (Project gate) q ∷ [])) given
+  more-left : (others : ℕ) → left ≡ suc (suc others) → State file (suc at) (Entries (suc others) q) (wires ++ (wireOf (Project gate) q ∷ [])) given
   more-left others e =
       in-table {gate = gate} {left = suc others} s room
       (record {
@@ -233,7 +233,7 @@ module _ (file : List ℕ) (t at : ℕ) (wires : List Wire) (given : List ℕ) (
         entries = one-more;
       })
 
-  after-one : (n : ℕ) → left ≡ n → State file (suc at) (afterEntry n q) (wires ++ (wire (Project gate) q ∷ [])) given
+  after-one : (n : ℕ) → left ≡ n → State file (suc at) (afterEntry n q) (wires ++ (wireOf (Project gate) q ∷ [])) given
   unfolding afterEntry
   after-one zero e = absurd (omega (arith, table .some, e))
   after-one (suc zero) e = one-left e
@@ -250,7 +250,7 @@ at-entry {file} {at} (in-table {wires} {given} {gate} {t} {left} {q} s room tabl
 -- the branches of a selection
 module _ (file : List ℕ) (t : ℕ) (wires : List Wire) (given : List ℕ) (gate : Choice)
     (s : Sound file t wires given) (choosing : Choosing wires (gate .bit)) (two : Two (moduliOf wires) (gate .a) (gate .b)) where
-  chosen : State file (suc (suc t)) Gates (wires ++ (wire (Select gate) (getD (moduliOf wires) (gate .a) 0) ∷ [])) given
+  chosen : State file (suc (suc t)) Gates (wires ++ (wireOf (Select gate) (getD (moduliOf wires) (gate .a) 0) ∷ [])) given
   chosen =
       let f : Fine (getD (moduliOf wires) (gate .a) 0) = fine file t wires given s (gate .a) (two .first) in
       in-gates
@@ -268,7 +268,7 @@ at-branches :
     {file : List ℕ} {at : ℕ} {wires : List Wire} {given : List ℕ} {bit : ℕ} (a b : ℕ)
     → State file at (Branches bit) wires given
     → Two (moduliOf wires) a b
-    → State file (suc at) Gates (wires ++ (wire (Select (record { bit = bit; a = a; b = b })) (getD (moduliOf wires) a 0) ∷ [])) given
+    → State file (suc at) Gates (wires ++ (wireOf (Select (record { bit = bit; a = a; b = b })) (getD (moduliOf wires) a 0) ∷ [])) given
 at-branches {file} a b (in-choice {wires} {given} {t} {bit} s begun choosing) two =
     rw begun (chosen file t wires given (record { bit = bit; a = a; b = b }) s choosing two)
 
@@ -306,7 +306,7 @@ module _ {file : List ℕ} {at : ℕ} {due : Due} {wires : List Wire} {given : L
       → Fine q
       → gate .a < length (moduliOf wires)
       → gate .table ≡ at + 1
-      → State file (suc at) (Entries (getD (moduliOf wires) (gate .a) 0) q) (wires ++ (wire (Project gate) q ∷ [])) given
+      → State file (suc at) (Entries (getD (moduliOf wires) (gate .a) 0) q) (wires ++ (wireOf (Project gate) q ∷ [])) given
   make-project gate q r f l e =
       let s : Sound file at wires given = at-gates st (r .due) in
       let g : Fine (getD (moduliOf wires) (gate .a) 0) = fine file at wires given s (gate .a) l in

@@ -5,12 +5,12 @@
 use mathlib.Core.Path.{_≡_, refl, _∙_, sym, ap, subst}
 use mathlib.Core.Bool.{Bool, true, false, cond, _&&_}
 use mathlib.Core.List.{List, [], _∷_, _++_, map-append}
-use Prim.Native.Nat.{ℕ, zero, suc, _+_, _-_, _*_, _≤_, _<_}
+use Prim.Native.Nat.{ℕ, suc, _+_, _-_, _*_, _≤_, _<_}
 use native.Mathlib.Numerals.{add-one}
 use native.Mathlib.Omega.{arith}
-use lib.Dec.{leb, ltb, eqb}
-use lib.ListN.{length, take, set, length-set}
-use lib.Seq.{length-take-le, take-suc-set}
+use lib.Dec.{ltb}
+use lib.ListN.{length, take, drop, set, replicate, length-set, length-replicate}
+use lib.Seq.{length-take-le, take-suc-set, drop-set-lt, drop-drop}
 use borrow.Author.Tests.{le-leb, lt-leb, le-ltb, lt-ltb, ne-eqb, eq-eqb}
 use Rattle.checks.specs.declared.Refusal.{Refusal}
 use Rattle.checks.specs.declared.Refusal.the-variants.{NoHead, WrongEnd}
@@ -21,10 +21,10 @@ use Rattle.words.specs.declared.gate.Due.{Due}
 use Rattle.words.specs.declared.gate.Due.the-variants.{Inputs, Outputs}
 use Rattle.words.specs.declared.gate.Step.{Step}
 use Rattle.words.specs.declared.gate.Step.the-variants.{Refused, Makes, Goes, Gives, Ends}
-use Rattle.circuit.specs.Wires.{moduliOf, isInput, inputsIn}
+use Rattle.circuit.specs.Wires.{noWire, moduliOf, isInput, inputsIn}
 use Rattle.circuit.specs.File.{Read, refused, accepted, wordsIn, ended, after, readFrom, headed, readFile}
 use Rattle.circuit.proofs.More.{inputs-le, inputs-more, length-more}
-use Rattle.circuit.proofs.State.{Sound, State, Next, next, nothing, Within, within}
+use Rattle.circuit.proofs.State.{State, Next, next, nothing, within}
 
 -- what the words after the head come to
 abbrev pub whole : List ℕ → Read
@@ -40,6 +40,8 @@ pub record Loop (file : List ℕ) (wires : List Wire) (moduli outputs : List ℕ
   pub state : State file at due (take made wires) (take given outputs)
   pub same : take made moduli ≡ moduliOf (take made wires)
   pub count : inputs ≡ inputsIn (take made wires)
+  pub wiresBlank : drop made wires ≡ replicate (1024 - made) noWire
+  pub outputsBlank : drop given outputs ≡ replicate (256 - given) 0
   pub rest : readFrom file (wordsIn file - at) at due (take made wires) (take given outputs) ≡ whole file
 
 -- what a word at an index does
@@ -62,6 +64,16 @@ over :
     → refused WrongEnd at ≡ readFrom file left at due wires given
 unfolding readFrom
 over file left at due wires given e = rw e refl
+
+-- an array that is blank behind its first n elements, and one more of them
+blank-next :
+    {A : Type 0} (xs : List A) (n limit : ℕ) (x blank : A)
+    → drop n xs ≡ replicate (limit - n) blank
+    → n < limit
+    → drop (n + 1) (set xs n x) ≡ replicate (limit - (n + 1)) blank
+blank-next xs n limit x blank e h =
+    let left : limit - n ≡ suc (limit - (n + 1)) = omega arith in
+    drop-set-lt (n + 1) xs n x (omega arith) ∙ sym (drop-drop 1 n xs) ∙ ap (λ l. drop 1 l) (e ∙ ap (λ k. replicate k blank) left)
 
 makes-state :
     {file : List ℕ} {at : ℕ} {wires : List Wire} {given : List ℕ} {x : Wire} {due : Due}
@@ -148,6 +160,8 @@ module _ {file : List ℕ} {wires : List Wire} {moduli outputs : List ℕ} {made
             front′ ∙ ap (λ (ms : List ℕ). ms ++ (x .modulus ∷ [])) (l .same)
             ∙ sym (map-append (λ (wire : Wire). wire .modulus) (take made wires) (x ∷ []))
             ∙ ap moduliOf (sym front);
+        wiresBlank = blank-next wires made 1024 x noWire (l .wiresBlank) room;
+        outputsBlank = l .outputsBlank;
         count = counted (isInput (x .gate)) (l .count) ∙ sym (inputs-more (take made wires) x) ∙ ap inputsIn (sym front);
         rest = rw (front, add-one at) (t .rest);
       }
@@ -172,6 +186,8 @@ module _ {file : List ℕ} {wires : List Wire} {moduli outputs : List ℕ} {made
         state = rw (add-one at) (goes-state (t .next));
         same = l .same;
         count = l .count;
+        wiresBlank = l .wiresBlank;
+        outputsBlank = l .outputsBlank;
         rest = rw (add-one at) (t .rest);
       }
 
@@ -194,6 +210,8 @@ module _ {file : List ℕ} {wires : List Wire} {moduli outputs : List ℕ} {made
         state = rw (front, add-one at) (gives-state (t .next));
         same = l .same;
         count = l .count;
+        wiresBlank = l .wiresBlank;
+        outputsBlank = blank-next outputs given 256 b 0 (l .outputsBlank) room;
         rest = rw (front, add-one at) (t .rest);
       }
 
@@ -220,23 +238,25 @@ and-false false = refl
 -- before the first turn
 pub start :
     (file : List ℕ) (wires : List Wire) (moduli outputs : List ℕ)
-    → length wires ≡ 1024
+    → wires ≡ replicate 1024 noWire
     → length moduli ≡ 1024
-    → length outputs ≡ 256
+    → outputs ≡ replicate 256 0
     → 0 < wordsIn file
     → Loop file wires moduli outputs 0 0 0 Inputs 1
 unfolding inputsIn
 start file wires moduli outputs w m o h =
     record {
-      wiresRoom = w;
+      wiresRoom = ap length w ∙ length-replicate 1024 noWire;
       moduliRoom = m;
-      outputsRoom = o;
+      outputsRoom = ap length o ∙ length-replicate {A = ℕ} 256 0;
       madeWithin = omega arith;
       givenWithin = omega arith;
       inside = h;
       state = nothing file;
       same = refl;
       count = refl;
+      wiresBlank = w;
+      outputsBlank = o;
       rest = refl;
     }
 

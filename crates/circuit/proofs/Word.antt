@@ -1,21 +1,18 @@
 -- What a word that is not refused has been through: each thing that one word can do, with the checks that it passed. A proof about
 -- every word goes by these cases instead of by the checks of the definition.
 -- Assumes nothing.
-use mathlib.Core.Path.{_≡_, refl, sym}
+use mathlib.Core.Path.{_≡_, refl}
 use mathlib.Core.Bool.{Bool, true, false, _&&_}
-use mathlib.Core.List.{List, [], _∷_}
+use mathlib.Core.List.{List}
 use Prim.Native.Nat.{ℕ, zero, suc, _+_, _-_, _<_}
-use native.Mathlib.Nat.{zero-add}
-use native.Mathlib.Omega.{arith}
 use lib.Dec.{ltb, eqb}
 use lib.ListN.{length, getD}
 use borrow.Author.Tests.{ltb-true, eqb-true}
 use Rattle.residue.specs.Prime.{isPrime}
 use Rattle.residue.proofs.Table.{and-left, and-right}
 use Rattle.checks.specs.declared.Refusal.{Refusal}
-use Rattle.checks.specs.declared.Refusal.the-variants.{UnknownWord}
 use Rattle.words.specs.Bits.{kind, owner, inputModulus, wireA, wireB, oneWire, constant, outputModulus, image}
-use Rattle.words.specs.Reading.{check, inputDue, gateDue, outputDue, afterEntry, wire, wires, entryWhere, branchesWhere, readWord}
+use Rattle.words.specs.Reading.{check, inputDue, gateDue, outputDue, afterEntry, wireOf, pairOf, entryWhere, branchesWhere, readWord}
 use Rattle.words.specs.declared.gate.Gate.the-variants.{Input, Add, Scale, Multiply, Project, Select}
 use Rattle.words.specs.declared.gate.Due.{Due}
 use Rattle.words.specs.declared.gate.Due.the-variants.{Inputs, Gates, Outputs, Entries, Branches}
@@ -39,27 +36,27 @@ pub data Did (moduli : List ℕ) (given at : ℕ) (due : Due) (w : ℕ) : Step �
       Room (inputDue due) (length moduli)
       → isPrime (inputModulus w) ≡ true
       → owner w < 8
-      → Did moduli given at due w (Makes (wire (Input (record { owner = owner w })) (inputModulus w)) Inputs)
+      → Did moduli given at due w (Makes (wireOf (Input (record { owner = owner w })) (inputModulus w)) Inputs)
   add :
       Room (gateDue due) (length moduli)
       → Two moduli (wireA w) (wireB w)
-      → Did moduli given at due w (Makes (wire (Add (wires w)) (getD moduli (wireA w) 0)) Gates)
+      → Did moduli given at due w (Makes (wireOf (Add (pairOf w)) (getD moduli (wireA w) 0)) Gates)
   multiply :
       Room (gateDue due) (length moduli)
       → Two moduli (wireA w) (wireB w)
-      → Did moduli given at due w (Makes (wire (Multiply (wires w)) (getD moduli (wireA w) 0)) Gates)
+      → Did moduli given at due w (Makes (wireOf (Multiply (pairOf w)) (getD moduli (wireA w) 0)) Gates)
   scale :
       Room (gateDue due) (length moduli)
       → oneWire w < length moduli
       → 0 < constant w
       → constant w < getD moduli (oneWire w) 0
-      → Did moduli given at due w (Makes (wire (Scale (record { constant = constant w; a = oneWire w })) (getD moduli (oneWire w) 0)) Gates)
+      → Did moduli given at due w (Makes (wireOf (Scale (record { constant = constant w; a = oneWire w })) (getD moduli (oneWire w) 0)) Gates)
   project :
       Room (gateDue due) (length moduli)
       → isPrime (outputModulus w) ≡ true
       → oneWire w < length moduli
       → Did moduli given at due w
-      (Makes (wire (Project (record { a = oneWire w; table = at + 1 })) (outputModulus w)) (Entries (getD moduli (oneWire w) 0) (outputModulus w)))
+      (Makes (wireOf (Project (record { a = oneWire w; table = at + 1 })) (outputModulus w)) (Entries (getD moduli (oneWire w) 0) (outputModulus w)))
   entry :
       {left modulus : ℕ}
       → due ≡ Entries left modulus
@@ -75,7 +72,7 @@ pub data Did (moduli : List ℕ) (given at : ℕ) (due : Due) (w : ℕ) : Step �
       {bit : ℕ}
       → due ≡ Branches bit
       → Two moduli (wireA w) (wireB w)
-      → Did moduli given at due w (Makes (wire (Select (record { bit = bit; a = wireA w; b = wireB w })) (getD moduli (wireA w) 0)) Gates)
+      → Did moduli given at due w (Makes (wireOf (Select (record { bit = bit; a = wireA w; b = wireB w })) (getD moduli (wireA w) 0)) Gates)
   output :
       outputDue due ≡ true
       → oneWire w < length moduli

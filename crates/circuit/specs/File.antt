@@ -1,12 +1,11 @@
 -- Document 01, "The circuit file" and "Where each check stands": what reading a file's bytes comes to. The word at each index is
 -- read in turn; the first that is refused decides, with its own first reason.
 -- Assumes nothing.
-use mathlib.Core.Path.{_≡_}
 use mathlib.Core.Bool.{Bool, true, false, _&&_}
 use mathlib.Core.List.{List, [], _∷_, _++_}
-use Prim.Native.Nat.{ℕ, zero, suc, _+_, _-_, _*_, _/_, _≤_}
+use Prim.Native.Nat.{ℕ, zero, suc, _-_, _*_, _/_}
 use lib.Dec.{eqb, ltb, leb}
-use lib.ListN.{length, take}
+use lib.ListN.{length}
 use Rattle.checks.specs.declared.Answer.{Answer}
 use Rattle.checks.specs.declared.Answer.the-variants.{Accepted, Refused}
 use Rattle.checks.specs.declared.Refusal.{Refusal}
@@ -18,8 +17,7 @@ use Rattle.words.specs.declared.gate.Due.{Due}
 use Rattle.words.specs.declared.gate.Due.the-variants.{Inputs, Outputs}
 use Rattle.words.specs.declared.gate.Step.{Step}
 use Rattle.words.specs.declared.gate.Step.the-variants.{Makes, Goes, Gives, Ends}
-use Rattle.circuit.specs.Wires.{moduliOf, inputsIn}
-use Rattle.circuit.specs.declared.Reading.{Reading}
+use Rattle.circuit.specs.Wires.{moduliOf}
 
 -- an answer, and the wires and outputs of the circuit, none where it is refused
 pub record Read : Type 0 where
@@ -65,22 +63,3 @@ headed false file = refused NoHead 0
 
 unfoldable pub readFile : List ℕ → Read
 readFile file = headed (ltb 0 (wordsIn file) && eqb (wordAt file 0) 0x1000_0000) file
-
--- arrays that hold so many wires and outputs at their fronts
-pub record Full (wires : List Wire) (outputs : List ℕ) (made inputs given : ℕ) : Type 0 where
-  pub wiresRoom : length wires ≡ 1024
-  pub outputsRoom : length outputs ≡ 256
-  pub wiresMade : made ≤ 1024
-  pub outputsGiven : given ≤ 256
-  pub inputsCounted : inputs ≡ inputsIn (take made wires)
-
--- the struct that the code answers with holds what the definition says: the wires and outputs stand at the front of its arrays
-pub record Holds (reading : Reading) (read : Read) : Type 0 where
-  pub answer : reading .answer ≡ read .answer
-  pub wires : take (reading .circuit .made) (reading .circuit .wires) ≡ read .wires
-  pub made : reading .circuit .made ≡ length (read .wires)
-  pub inputs : reading .circuit .inputs ≡ inputsIn (read .wires)
-  pub outputs : take (reading .circuit .given) (reading .circuit .outputs) ≡ read .outputs
-  pub given : reading .circuit .given ≡ length (read .outputs)
-  pub roomForWires : length (reading .circuit .wires) ≡ 1024
-  pub roomForOutputs : length (reading .circuit .outputs) ≡ 256

@@ -1,5 +1,7 @@
--- The circuit file as a whole, and what an accepted circuit satisfies.
+-- The circuit file as a whole, what an accepted circuit satisfies, and how the code holds one.
 pub mod Wires
 pub mod File
-pub mod Entry
 pub mod Accepted
+pub mod Held
+-- what functions promise each other, in the code's terms
+pub mod Entry

@@ -2,13 +2,13 @@
 -- Assumes nothing.
 use mathlib.Core.Bool.{Bool, true, false, cond}
 use mathlib.Core.List.{List, [], _∷_, map}
-use Prim.Native.Nat.{ℕ, suc, _+_}
+use Prim.Native.Nat.{ℕ, suc}
 use lib.ListN.{getD}
 use Rattle.words.specs.declared.gate.Gate.{Gate}
 use Rattle.words.specs.declared.gate.Gate.the-variants.{Input, Add, Scale, Multiply, Project, Select}
 use Rattle.words.specs.declared.gate.Wire.{Wire}
 
--- what a look-up past the last wire gives, and what the code's array holds there: nothing is said of it
+-- what a look-up past the last wire gives, and what the code's array holds there
 abbrev pub noWire : Wire
 noWire = record { gate = Input (record { owner = 0 }); modulus = 0 }
 

@@ -5,7 +5,8 @@ ghost use mathlib.Core.List.{[]};
 ghost use Prim.Native.Nat.{_-_, _<_};
 ghost use lib.ListN.{take};
 ghost use Rattle.circuit.specs.Wires.{isInput};
-ghost use Rattle.circuit.specs.File.{Full, Holds, refused, accepted, wordsIn, readFrom, readFile};
+ghost use Rattle.circuit.specs.File.{refused, accepted, wordsIn, readFrom, readFile};
+ghost use Rattle.circuit.specs.Held.{circuitOf, Held, Blank, Holds};
 use super::Circuit;
 use super::Reading;
 use super::blank::no_moduli;
@@ -47,7 +48,7 @@ fn accepted(
     inputs: usize,
     given: usize,
 ) -> Reading
-    requires { ⌜ Full wires outputs made inputs given ⌝ }
+    requires { ⌜ Held (circuitOf wires outputs made inputs given) × Blank (circuitOf wires outputs made inputs given) ⌝ }
     ensures { λ r. ⌜ Holds r (accepted (take made wires) (take given outputs)) ⌝ }
 {
     Reading {
@@ -102,6 +103,7 @@ fn read_rest(file: &[u8]) -> Reading
         }
         let next = at + 1;
         let w = word_at(file, at);
+        // Fewer than 2^19 words are read before a refusal or the end: at most 257 for each wire, and the outputs.
         match read_word(&moduli, made, given, at as u32, due, w) {
             Step::Refused(reason) => return refused(reason, at),
             Step::Makes(wire, then) => {

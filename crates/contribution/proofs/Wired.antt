@@ -13,11 +13,11 @@ use Rattle.lists.proofs.Sums.{sumTo-ext, sumTo-times}
 use Rattle.lists.proofs.Blocks.{blocks-ext, getD-tab}
 use Rattle.circuit.specs.declared.Circuit.{Circuit}
 use Rattle.circuit.specs.Wires.{wireAt, modulusAt, moduliOf}
+use Rattle.circuit.specs.Held.{wiresIn, Room}
 use Rattle.counts.specs.Recipe.{recipe}
-use Rattle.counts.specs.Counts.{Counts, Room, mark, rowsBy, rowsOf, recordKeysBy, recordKeysOf}
+use Rattle.counts.specs.Counts.{Counts, mark, rowsBy, rowsOf, recordKeysBy, recordKeysOf}
 use Rattle.counts.proofs.Wires.{modulus-at}
 use Rattle.counts.proofs.Counting.{rows-at, records-at}
-use Rattle.session.specs.Held.{wiresIn}
 
 -- ---- sums of multiples, the factor behind
 

@@ -2,9 +2,8 @@
 -- Assumes nothing.
 use mathlib.Core.Path.{_≡_, refl, ap, ap₂, _∙_, sym}
 use mathlib.Core.List.{List, _++_}
-use Prim.Native.Nat.{ℕ, zero, suc, _+_, _*_, _-_, _≤_, _<_}
-use native.Mathlib.Nat.{le-refl, le-trans, mul-le-mul-right, zero-mul}
-use native.Mathlib.Numerals.{add-one}
+use Prim.Native.Nat.{ℕ, _+_, _*_, _-_, _≤_, _<_}
+use native.Mathlib.Nat.{le-trans, mul-le-mul-right}
 use native.Mathlib.Omega.{arith}
 use lib.ListN.{length, take, getD, replicate}
 use lib.Seq.{length-take-le}
@@ -13,10 +12,11 @@ use Rattle.lists.proofs.Sums.{sumTo-next, times-next}
 use Rattle.words.specs.declared.gate.Wire.{Wire}
 use Rattle.circuit.specs.declared.Circuit.{Circuit}
 use Rattle.circuit.specs.Wires.{wireAt, modulusAt, moduliOf}
+use Rattle.circuit.specs.Held.{wiresIn, Room}
 use Rattle.counts.specs.declared.recipe.Recipe.{Recipe}
-use Rattle.counts.specs.declared.recipe.Recipe.the-variants.{Drawn, Free, Table, Product, Choice}
+use Rattle.counts.specs.declared.recipe.Recipe.the-variants.{Entered, Free, Table, Product, Choice}
 use Rattle.counts.specs.Recipe.{recipe}
-use Rattle.counts.specs.Counts.{rowsBy, rowsOf, recordKeysBy, Room, Counts}
+use Rattle.counts.specs.Counts.{rowsBy, rowsOf, recordKeysBy, Counts}
 use Rattle.counts.proofs.Wires.{wire-at, padded-modulus}
 
 -- i of n turns are taken, and each added at most a limit
@@ -39,7 +39,7 @@ summed-step {limit} {f} {n} {i} {total} {v} {count} r h k e =
 
 -- the wires of a circuit, all of them counted
 pub summed-done : {limit : ℕ} {f : ℕ → ℕ} {circuit : Circuit} {i total : ℕ} (most : ℕ) → Room circuit → Summed limit f (circuit .made) i total → circuit .made ≤ i → 1024 * limit ≡ most
-    → Counts most (sumTo (length (take (circuit .made) (circuit .wires))) f) total
+    → Counts most (sumTo (length (wiresIn circuit)) f) total
 summed-done {limit} {f} {circuit} {i} {total} most room r h e =
     let k : i ≡ circuit .made = omega arith in
     record {
@@ -49,7 +49,7 @@ summed-done {limit} {f} {circuit} {i} {total} most room r h e =
 
 -- the count of a wire goes by its recipe, and a table's by one modulus more
 pub rows-same : (how : Recipe) (f g : ℕ → ℕ) (p : ℕ) → ((a : ℕ) → f a ≡ g a) → rowsBy how f p ≡ rowsBy how g p
-rows-same Drawn f g p e = refl
+rows-same Entered f g p e = refl
 rows-same Free f g p e = refl
 rows-same (Table a) f g p e = e a
 rows-same (Product pair) f g p e = refl

@@ -2,7 +2,7 @@
 -- Assumes nothing.
 use mathlib.Core.Path.{_≡_, refl, sym, ap, ap₂, _∙_}
 use mathlib.Core.Bool.{Bool, true, false, _||_}
-use mathlib.Core.List.{List, [], _∷_, _++_}
+use mathlib.Core.List.{List}
 use Prim.Native.Nat.{ℕ, zero, suc, _+_, _≤_, _<_}
 use native.Mathlib.Nat.{mul-one, le-refl}
 use native.Mathlib.Numerals.{add-one}
@@ -10,7 +10,7 @@ use native.Mathlib.Omega.{arith}
 use native.Mathlib.Decide.{ℕ-discrete}
 use borrow.Author.Tests.{eq-eqb, ne-eqb}
 use lib.Dec.{eqb}
-use lib.ListN.{length, getD, take, set, replicate, length-set}
+use lib.ListN.{length, getD, set, replicate, length-set}
 use lib.Seq.{getD-set-same, getD-set-other, length-take-le}
 use Rattle.lists.specs.Blocks.{tab, sumTo}
 use Rattle.lists.proofs.Sums.{sumTo-ext}
@@ -18,7 +18,8 @@ use Rattle.lists.proofs.Blocks.{length-tab, getD-tab, is-tab, replicate-tab, ta
 use Rattle.words.specs.declared.gate.Wire.{Wire}
 use Rattle.circuit.specs.declared.Circuit.{Circuit}
 use Rattle.circuit.specs.Wires.{modulusAt}
-use Rattle.counts.specs.Counts.{mark, Room, Counts}
+use Rattle.circuit.specs.Held.{wiresIn, Room}
+use Rattle.counts.specs.Counts.{mark, Counts}
 use Rattle.counts.specs.Moduli.{someBelow}
 use Rattle.counts.proofs.Wires.{modulus-at}
 use Rattle.counts.proofs.Counting.{Summed}
@@ -103,7 +104,7 @@ marks-summed n test {marks} {total} e r =
 -- the loop that marks the moduli of a circuit's wires
 module _ (circuit : Circuit) (room : Room circuit) where
   abbrev wires : List Wire
-  wires = take (circuit .made) (circuit .wires)
+  wires = wiresIn circuit
 
   pub marks-start : (out : List ℕ) → out ≡ replicate 256 0 → out ≡ marked 256 (modulusAt wires) 0
   marks-start out e = e ∙ marked-none 256 (modulusAt wires)

@@ -1,20 +1,20 @@
 -- Laws of a wire by its number, in a list and in the array that begins with it.
 -- Assumes nothing.
 use mathlib.Core.Path.{_≡_, refl, ap, _∙_}
-use mathlib.Core.List.{List, [], _∷_, _++_, map}
+use mathlib.Core.List.{List, [], _∷_, _++_}
 use Prim.Native.Nat.{ℕ, zero, suc, _+_, _-_, _≤_, _<_}
 use native.Mathlib.Nat.{sub-zero, zero-sub, suc-sub-suc}
 use native.Mathlib.Omega.{arith}
-use lib.ListN.{length, getD, take, drop, set, replicate, length-replicate, length-take}
+use lib.ListN.{length, getD, take, drop, set, replicate, length-replicate}
 use lib.Seq.{getD-take, length-take-le}
 use Rattle.lists.proofs.Filled.{Filled, filled-start, filled-step, filled-done}
 use Rattle.circuit.specs.declared.Circuit.{Circuit}
 use Rattle.circuit.specs.declared.Reading.{Reading}
-use Rattle.circuit.specs.File.{Read, Holds}
+use Rattle.circuit.specs.File.{Read}
 use Rattle.circuit.proofs.More.{made, modulus-of}
-use Rattle.counts.specs.Counts.{Room}
 use Rattle.words.specs.declared.gate.Wire.{Wire}
 use Rattle.circuit.specs.Wires.{noWire, wireAt, modulusAt, moduliOf}
+use Rattle.circuit.specs.Held.{wiresIn, Room, Holds}
 
 pub wire-at : (wires : List Wire) (made w : ℕ) → w < made → wireAt (take made wires) w ≡ wireAt wires w
 wire-at wires made w h = getD-take made wires w noWire h
@@ -44,10 +44,10 @@ padded-modulus wires n a = getD-padded (moduliOf wires) n a ∙ modulus-of wires
 -- the loop that writes the moduli down
 module _ (circuit : Circuit) (room : Room circuit) where
   abbrev all : List ℕ
-  all = moduliOf (take (circuit .made) (circuit .wires))
+  all = moduliOf (wiresIn circuit)
 
   length-all : length all ≡ circuit .made
-  length-all = made (take (circuit .made) (circuit .wires)) ∙ length-take-le (circuit .made) (circuit .wires) (omega arith)
+  length-all = made (wiresIn circuit) ∙ length-take-le (circuit .made) (circuit .wires) (omega arith)
 
   pub moduli-start : (out₀ : List ℕ) → out₀ ≡ replicate 1024 0 → Filled out₀ 0 (circuit .made) all out₀
   moduli-start out₀ e = filled-start length-all (omega (arith, room .made, ap length e ∙ length-replicate {A = ℕ} 1024 0))
@@ -55,7 +55,7 @@ module _ (circuit : Circuit) (room : Room circuit) where
   pub moduli-step : {out₀ out : List ℕ} {w : ℕ} → Filled out₀ w (circuit .made) all out → w < circuit .made → Filled out₀ (w + 1) (circuit .made) all (set out w (modulusAt (circuit .wires) w))
   moduli-step {out₀} {out} {w} r h =
       filled-step r h
-      (modulus-of (take (circuit .made) (circuit .wires)) w ∙ modulus-at (circuit .wires) (circuit .made) w h)
+      (modulus-of (wiresIn circuit) w ∙ modulus-at (circuit .wires) (circuit .made) w h)
 
   pub moduli-done : {out₀ out : List ℕ} {w : ℕ} → out₀ ≡ replicate 1024 0 → Filled out₀ w (circuit .made) all out → circuit .made ≤ w → out ≡ all ++ replicate (1024 - circuit .made) 0
   moduli-done {out₀} {out} {w} e r h =
@@ -64,8 +64,4 @@ module _ (circuit : Circuit) (room : Room circuit) where
 
 -- what the reader hands out has room for its wires
 pub room : {reading : Reading} {read : Read} → Holds reading read → Room (reading .circuit)
-room {reading} {read} h =
-    record {
-      made = omega (arith, length-take (reading .circuit .made) (reading .circuit .wires), ap length (h .wires), h .made, h .roomForWires);
-      wires = h .roomForWires;
-    }
+room h = h .held .room

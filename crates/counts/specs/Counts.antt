@@ -1,5 +1,5 @@
--- Document 01, "The gates" and "What a seat contributes": how many rows and records a wire has, and how many a circuit; how many inputs
--- a party owns.
+-- Document 01, "The gates" and "What a seat contributes": how many rows, and keys in its record, a wire has,
+-- and how many a circuit; how many inputs a party owns.
 -- Assumes nothing.
 use mathlib.Core.Path.{_≡_}
 use mathlib.Core.Bool.{Bool, true, false}
@@ -12,15 +12,14 @@ use Rattle.words.specs.declared.gate.Gate.{Gate}
 use Rattle.words.specs.declared.gate.Gate.the-variants.{Input, Add, Scale, Multiply, Project, Select}
 use Rattle.words.specs.declared.gate.Wire.{Wire}
 use Rattle.circuit.specs.Wires.{wireAt, modulusAt}
-use Rattle.circuit.specs.declared.Circuit.{Circuit}
 use Rattle.counts.specs.declared.recipe.Recipe.{Recipe}
-use Rattle.counts.specs.declared.recipe.Recipe.the-variants.{Drawn, Free, Table, Product, Choice}
+use Rattle.counts.specs.declared.recipe.Recipe.the-variants.{Entered, Free, Table, Product, Choice}
 use Rattle.counts.specs.Recipe.{recipe}
 
--- the rows of a wire of modulus p: none where it is drawn or free, one for each value of the wire that a table is over, 2p for a
+-- the rows of a wire of modulus p: none where it is entered or free, one for each value of the wire that a table is over, 2p for a
 -- product, 2p + 2 for a choice
 abbrev pub rowsBy : Recipe → (ℕ → ℕ) → ℕ → ℕ
-rowsBy Drawn modulusOf p = 0
+rowsBy Entered modulusOf p = 0
 rowsBy Free modulusOf p = 0
 rowsBy (Table a) modulusOf p = modulusOf a
 rowsBy (Product g) modulusOf p = 2 * p
@@ -36,7 +35,7 @@ rowsIn wires = sumTo (length wires) (rowsOf wires)
 -- the keys that a wire's record has, and as many mask shares: zero key and share; for a product those of its first part too; for a
 -- choice those of two first parts. So I + P + 2M + 3S in all
 abbrev pub recordKeysBy : Recipe → ℕ
-recordKeysBy Drawn = 1
+recordKeysBy Entered = 1
 recordKeysBy Free = 0
 recordKeysBy (Table a) = 1
 recordKeysBy (Product g) = 2
@@ -64,11 +63,6 @@ ownedBy party (Select gate) = false
 
 abbrev pub inputsOf : ℕ → List Wire → ℕ
 inputsOf party wires = sumTo (length wires) (λ w. mark (ownedBy party (wireAt wires w .gate)))
-
--- a circuit's wires stand at the front of its array of 1,024
-pub record Room (circuit : Circuit) : Type 0 where
-  pub made : circuit .made ≤ 1024
-  pub wires : length (circuit .wires) ≡ 1024
 
 -- a number of the code is a count, and no larger than a limit
 pub record Counts (limit count r : ℕ) : Type 0 where

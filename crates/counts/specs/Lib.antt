@@ -2,4 +2,5 @@
 pub mod Recipe
 pub mod Counts
 pub mod Moduli
+-- what functions promise each other, in the code's terms
 pub mod Tally

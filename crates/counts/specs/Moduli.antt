@@ -23,7 +23,7 @@ used wires p = someBelow (length wires) (λ w. eqb (modulusAt wires w) p)
 abbrev pub usedBelow : List Wire → ℕ → ℕ
 usedBelow wires p = sumTo p (λ q. mark (used wires q))
 
--- a modulus is a byte
+-- Q, how many moduli are in use; a modulus is a byte
 abbrev pub moduliUsed : List Wire → ℕ
 moduliUsed wires = usedBelow wires 256
 

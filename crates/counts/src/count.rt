@@ -1,9 +1,9 @@
 // Rows and records of a wire and of a circuit, and the inputs of a party.
-ghost use mathlib.Core.Path.{_≡_};
-ghost use Prim.Native.Nat.{_≤_, _<_};
-ghost use lib.ListN.{take, getD};
+ghost use Prim.Native.Nat.{_<_};
+ghost use lib.ListN.{getD};
 ghost use Rattle.counts.specs.Recipe.{recipe};
-ghost use Rattle.counts.specs.Counts.{rowsBy, rowsIn, recordKeysBy, recordKeysIn, mark, ownedBy, inputsOf, Room, Counts};
+ghost use Rattle.circuit.specs.Held.{wiresIn, Room};
+ghost use Rattle.counts.specs.Counts.{rowsBy, rowsIn, recordKeysBy, recordKeysIn, mark, ownedBy, inputsOf, Counts};
 use super::modulus::moduli;
 use super::number::same;
 use super::number::widened;
@@ -32,7 +32,7 @@ pub fn row_count(wire: Wire, moduli: &[u8]) -> u32
     let how = recipe_of(wire);
     let p = widened(wire.modulus);
     match how {
-        Recipe::Drawn => 0,
+        Recipe::Entered => 0,
         Recipe::Free => 0,
         Recipe::Table(a) => modulus_of(moduli, a),
         Recipe::Product(_) => 2 * p,
@@ -43,7 +43,7 @@ pub fn row_count(wire: Wire, moduli: &[u8]) -> u32
 // The rows of a circuit.
 pub fn rows(circuit: Circuit) -> u32
     requires { ⌜ Room circuit ⌝ }
-    ensures { λ r. ⌜ Counts 524288 (rowsIn (take (circuit .made) (circuit .wires))) r ⌝ }
+    ensures { λ r. ⌜ Counts 524288 (rowsIn (wiresIn circuit)) r ⌝ }
 {
     let table = moduli(circuit);
     let made = circuit.made;
@@ -63,7 +63,7 @@ pub fn record_count(wire: Wire) -> u32
 {
     let how = recipe_of(wire);
     match how {
-        Recipe::Drawn => 1,
+        Recipe::Entered => 1,
         Recipe::Free => 0,
         Recipe::Table(_) => 1,
         Recipe::Product(_) => 2,
@@ -74,7 +74,7 @@ pub fn record_count(wire: Wire) -> u32
 // The keys in all records of a party's contribution.
 pub fn records(circuit: Circuit) -> u32
     requires { ⌜ Room circuit ⌝ }
-    ensures { λ r. ⌜ Counts 3072 (recordKeysIn (take (circuit .made) (circuit .wires))) r ⌝ }
+    ensures { λ r. ⌜ Counts 3072 (recordKeysIn (wiresIn circuit)) r ⌝ }
 {
     let made = circuit.made;
     let mut total = 0;
@@ -104,7 +104,7 @@ pub fn owned(gate: Gate, party: u32) -> u32
 // How many inputs a party owns.
 pub fn inputs_of(circuit: Circuit, party: u32) -> u32
     requires { ⌜ Room circuit ⌝ }
-    ensures { λ r. ⌜ Counts 1024 (inputsOf party (take (circuit .made) (circuit .wires))) r ⌝ }
+    ensures { λ r. ⌜ Counts 1024 (inputsOf party (wiresIn circuit)) r ⌝ }
 {
     let made = circuit.made;
     let mut total = 0;

@@ -1,11 +1,12 @@
 // The moduli of a circuit's wires, and which numbers are among them.
 ghost use mathlib.Core.Path.{_≡_};
 ghost use mathlib.Core.List.{_++_};
-ghost use Prim.Native.Nat.{_-_, _≤_};
-ghost use lib.ListN.{take, replicate};
+ghost use Prim.Native.Nat.{_-_};
+ghost use lib.ListN.{replicate};
 ghost use Rattle.lists.specs.Blocks.{tab};
 ghost use Rattle.circuit.specs.Wires.{moduliOf};
-ghost use Rattle.counts.specs.Counts.{mark, Room, Counts};
+ghost use Rattle.circuit.specs.Held.{wiresIn, Room};
+ghost use Rattle.counts.specs.Counts.{mark, Counts};
 ghost use Rattle.counts.specs.Moduli.{used, moduliUsed, SetMarks};
 use super::number::place;
 use super::number::same;
@@ -21,7 +22,7 @@ pub fn no_moduli() -> [u8; 1024]
 // Each wire's modulus, and 0 past the last wire.
 pub fn moduli(circuit: Circuit) -> [u8; 1024]
     requires { ⌜ Room circuit ⌝ }
-    ensures { λ r. ⌜ r ≡ moduliOf (take (circuit .made) (circuit .wires)) ++ replicate (1024 - circuit .made) 0 ⌝ }
+    ensures { λ r. ⌜ r ≡ moduliOf (wiresIn circuit) ++ replicate (1024 - circuit .made) 0 ⌝ }
 {
     let mut moduli = no_moduli();
     let made = circuit.made;
@@ -43,7 +44,7 @@ pub fn no_marks() -> [u8; 256]
 // A mark for each byte: 1 where it is the modulus of some wire.
 pub fn marks(circuit: Circuit) -> [u8; 256]
     requires { ⌜ Room circuit ⌝ }
-    ensures { λ r. ⌜ r ≡ tab 256 (λ p. mark (used (take (circuit .made) (circuit .wires)) p)) ⌝ }
+    ensures { λ r. ⌜ r ≡ tab 256 (λ p. mark (used (wiresIn circuit) p)) ⌝ }
 {
     let mut marks = no_marks();
     let made = circuit.made;
@@ -73,7 +74,7 @@ pub fn marks_set(marks: [u8; 256]) -> u32
 // How many moduli the wires have.
 pub fn moduli_used(circuit: Circuit) -> u32
     requires { ⌜ Room circuit ⌝ }
-    ensures { λ r. ⌜ Counts 256 (moduliUsed (take (circuit .made) (circuit .wires))) r ⌝ }
+    ensures { λ r. ⌜ Counts 256 (moduliUsed (wiresIn circuit)) r ⌝ }
 {
     let marks = marks(circuit);
     marks_set(marks)

@@ -6,11 +6,11 @@ use words::Gate;
 use words::Pair;
 use words::Wire;
 
-// `Drawn`: a party draws key and mask. `Free`: a sum or multiple of its wires' keys, with no rows. `Table`: a row for each value of
+// `Entered`: an input, with no rows. `Free`: a sum or multiple of its wires' keys, with no rows. `Table`: a row for each value of
 // the wire named. `Product`: two rows for each value. `Choice`: a product with a bit, and the rows of the bit.
 // The last two carry the wires that they are made of.
 pub enum Recipe {
-    Drawn,
+    Entered,
     Free,
     Table(u16),
     Product(Pair),
@@ -22,7 +22,7 @@ pub fn recipe_of(wire: Wire) -> Recipe
 {
     let gate = wire.gate;
     match gate {
-        Gate::Input(_) => Recipe::Drawn,
+        Gate::Input(_) => Recipe::Entered,
         Gate::Add(_) => Recipe::Free,
         Gate::Scale(_) => Recipe::Free,
         Gate::Multiply(g) => Recipe::Product(g),

@@ -12,13 +12,13 @@ use Rattle.words.specs.declared.gate.Gate.{Gate}
 use Rattle.words.specs.declared.gate.Wire.{Wire}
 use Rattle.circuit.specs.declared.Circuit.{Circuit}
 use Rattle.circuit.specs.Wires.{wireAt, modulusAt, moduliOf}
+use Rattle.circuit.specs.Held.{wiresIn}
 use Rattle.circuit.proofs.More.{made}
 use Rattle.counts.specs.Recipe.{recipe}
 use Rattle.counts.specs.Counts.{rowsBy, rowsOf, recordKeysBy, recordKeysOf}
 use Rattle.counts.specs.Moduli.{usedBelow, moduliUsed}
 use Rattle.counts.proofs.Wires.{wire-at, modulus-at, padded-modulus}
 use Rattle.counts.proofs.Counting.{rows-at, records-at}
-use Rattle.session.specs.Held.{wiresIn}
 use Rattle.session.proofs.Circuits.{made-is}
 use Rattle.scheme.specs.Contribution.{recordAt, offsetAt, contributionSize}
 use Rattle.scheme.proofs.Places.{record-fits}

@@ -22,10 +22,10 @@ use Rattle.lists.proofs.Grown.{length-grown}
 use Rattle.words.specs.declared.gate.Wire.{Wire}
 use Rattle.circuit.specs.declared.Circuit.{Circuit}
 use Rattle.circuit.specs.Wires.{wireAt, modulusAt}
+use Rattle.circuit.specs.Held.{wiresIn}
 use Rattle.counts.specs.Recipe.{recipe}
 use Rattle.counts.specs.Counts.{rowsOf, recordKeysOf}
 use Rattle.counts.specs.Moduli.{moduliUsed}
-use Rattle.session.specs.Held.{wiresIn}
 use Rattle.pads.specs.Pad.{shakePad}
 use Rattle.scheme.specs.Contribution.{recordAt}
 use Rattle.scheme.specs.Draw.{drawn}

@@ -10,7 +10,7 @@ use Rattle.words.specs.declared.gate.Choice.{Choice}
 use Rattle.words.specs.declared.gate.Gate.{Gate}
 use Rattle.words.specs.declared.gate.Gate.the-variants.{Add, Scale}
 use Rattle.counts.specs.declared.recipe.Recipe.{Recipe}
-use Rattle.counts.specs.declared.recipe.Recipe.the-variants.{Drawn, Free, Table, Product, Choice as Chosen}
+use Rattle.counts.specs.declared.recipe.Recipe.the-variants.{Entered, Free, Table, Product, Choice as Chosen}
 use Rattle.evaluation.specs.declared.turn.Turn.{Turn}
 use Rattle.session.specs.Sizes.{Sizes}
 use Rattle.evaluation.specs.Given.{Rows}
@@ -69,7 +69,7 @@ pub record Listed (turn : Turn) (moduli contribution rows wkeys wexternals : Lis
 
 -- any wire, by its recipe
 pub data Ready (turn : Turn) (moduli contribution externals keys rows wkeys wexternals : List ℕ) (gate : Gate) : Recipe → Type 0 where
-  drawn : InputReady turn externals keys → Ready turn moduli contribution externals keys rows wkeys wexternals gate Drawn
+  drawn : InputReady turn externals keys → Ready turn moduli contribution externals keys rows wkeys wexternals gate Entered
   free : FreeReady turn wkeys wexternals gate → Ready turn moduli contribution externals keys rows wkeys wexternals gate Free
   table : {a : ℕ} → Listed turn moduli contribution rows wkeys wexternals a → Ready turn moduli contribution externals keys rows wkeys wexternals gate (Table a)
   product : {g : Pair} → ProductReady turn contribution rows wkeys wexternals g

@@ -57,7 +57,7 @@ pub fn open_wire(
     let how = recipe_of(wire);
     let gate = wire.gate;
     match how {
-        Recipe::Drawn => input(turn, externals, keys, out),
+        Recipe::Entered => input(turn, externals, keys, out),
         Recipe::Free => free(turn, gate, wkeys, wexternals, out),
         Recipe::Table(a) => {
             let p = modulus_of(moduli, a);

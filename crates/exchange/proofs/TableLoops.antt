@@ -15,9 +15,9 @@ use Rattle.lists.proofs.Filled.{Filled, filled-start, filled-step, filled-front
 use Rattle.words.specs.declared.gate.Wire.{Wire}
 use Rattle.circuit.specs.declared.Circuit.{Circuit}
 use Rattle.circuit.specs.Wires.{wireAt, modulusAt, moduliOf}
-use Rattle.counts.specs.Counts.{mark, ownedBy, Room, Counts}
+use Rattle.circuit.specs.Held.{wiresIn, outputsIn, Room, Held}
+use Rattle.counts.specs.Counts.{mark, ownedBy, Counts}
 use Rattle.counts.proofs.Wires.{wire-at, modulus-at, padded-modulus}
-use Rattle.session.specs.Held.{wiresIn, outputsIn, Held}
 use Rattle.round.specs.Externals.{ownInputs}
 use Rattle.round.proofs.OwnInputs.{owns, placeOf, own-length, own-at}
 use Rattle.exchange.specs.Tables.{Front}

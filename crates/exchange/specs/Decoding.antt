@@ -13,8 +13,8 @@ use Rattle.checks.specs.Checked.{Checked, andThen, noneBad}
 use Rattle.words.specs.declared.gate.Wire.{Wire}
 use Rattle.circuit.specs.declared.Circuit.{Circuit}
 use Rattle.circuit.specs.Wires.{modulusAt}
+use Rattle.circuit.specs.Held.{wiresIn, outputsIn, Held}
 use Rattle.session.specs.Session.{lengthsChecked, tooLarge}
-use Rattle.session.specs.Held.{wiresIn, outputsIn, Held}
 
 module _ (wires : List Wire) (outputs externals masks : List ℕ) where
   abbrev outputModulus : ℕ → ℕ

@@ -9,11 +9,11 @@ use Rattle.checks.specs.Checked.{Checked, andThen}
 use Rattle.words.specs.declared.gate.Wire.{Wire}
 use Rattle.circuit.specs.declared.Circuit.{Circuit}
 use Rattle.circuit.specs.Wires.{modulusAt, inputsIn}
+use Rattle.circuit.specs.Held.{wiresIn, Held}
 use Rattle.counts.specs.Counts.{recordKeysOf}
 use Rattle.scheme.specs.Contribution.{contributionSize}
 use Rattle.scheme.specs.Draw.{drawn}
 use Rattle.session.specs.Session.{sessionChecked, partyChecked, ownersChecked, lengthsChecked, valuesChecked}
-use Rattle.session.specs.Held.{wiresIn, Held}
 use Rattle.round.specs.Bytes.{contributionsChecked, offsetsChecked}
 use Rattle.round.specs.InputKeys.{inputKey}
 

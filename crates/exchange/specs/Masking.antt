@@ -12,9 +12,8 @@ use Rattle.checks.specs.Checked.{Checked, andThen, noneBad}
 use Rattle.words.specs.declared.gate.Wire.{Wire}
 use Rattle.circuit.specs.declared.Circuit.{Circuit}
 use Rattle.circuit.specs.Wires.{modulusAt}
-use Rattle.counts.specs.Counts.{Room}
+use Rattle.circuit.specs.Held.{wiresIn, Room}
 use Rattle.session.specs.Session.{partiesChecked, partyChecked, ownersChecked, lengthsChecked, tooLarge}
-use Rattle.session.specs.Held.{wiresIn}
 use Rattle.round.specs.Externals.{ownInputs}
 
 module _ (party : ℕ) (wires : List Wire) (values masks : List ℕ) where

@@ -2,8 +2,7 @@
 ghost use mathlib.Core.Path.{_≡_};
 ghost use lib.ListN.{length, getD, replicate};
 ghost use Rattle.circuit.specs.Wires.{modulusAt};
-ghost use Rattle.counts.specs.Counts.{Room};
-ghost use Rattle.session.specs.Held.{wiresIn, outputsIn, Held};
+ghost use Rattle.circuit.specs.Held.{wiresIn, outputsIn, Room, Held};
 ghost use Rattle.round.specs.Externals.{ownInputs};
 ghost use Rattle.exchange.specs.Tables.{Front};
 use circuit::Circuit;

@@ -10,7 +10,7 @@ use Rattle.words.specs.declared.gate.Pair.{Pair}
 use Rattle.words.specs.declared.gate.Choice.{Choice as Chosen}
 use Rattle.words.specs.declared.gate.Wire.{Wire}
 use Rattle.counts.specs.declared.recipe.Recipe.{Recipe}
-use Rattle.counts.specs.declared.recipe.Recipe.the-variants.{Drawn, Free, Table, Product, Choice}
+use Rattle.counts.specs.declared.recipe.Recipe.the-variants.{Entered, Free, Table, Product, Choice}
 use Rattle.counts.specs.Recipe.{recipe}
 use Rattle.counts.specs.Counts.{recordKeysBy, rowsBy}
 use Rattle.garbling.specs.Source.{tableOf, tableHere, productHere, choiceHere, rowsHere, Own, OverTable, OfPair, OfChoice, OfRecipe, Sourced}
@@ -67,7 +67,7 @@ module _ {n K size at : ℕ} {contributions ranks keys masks file moduli : List 
     so : {q : Recipe} {xs : List ℕ} → how ≡ q → xs ≡ rows q → xs ≡ rows (recipe wire)
     so {q} {xs} h k = k ∙ ap (λ (q : Recipe). rows q) (sym h ∙ e)
 
-    pub drawn-rows : how ≡ Drawn → out ≡ rows (recipe wire)
+    pub drawn-rows : how ≡ Entered → out ≡ rows (recipe wire)
     unfolding rowsHere
     drawn-rows h = so h (none out (known h .1 .1 ∙ zero-mul (n * K)))
 

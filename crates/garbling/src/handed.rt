@@ -3,7 +3,7 @@ ghost use mathlib.Core.Path.{_≡_};
 ghost use Prim.Native.Nat.{_≤_};
 ghost use lib.ListN.{length, getD, take};
 ghost use Rattle.lists.specs.Blocks.{tab};
-ghost use Rattle.session.specs.Held.{outputsIn};
+ghost use Rattle.circuit.specs.Held.{outputsIn};
 ghost use Rattle.plain.specs.Ready.{Gives};
 use super::gate::index;
 use circuit::Circuit;

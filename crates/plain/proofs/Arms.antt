@@ -1,13 +1,13 @@
 -- What each arm of a match on a gate goes by.
 -- Assumes nothing.
-use mathlib.Core.Path.{_≡_, refl, sym, ap, subst, _∙_}
+use mathlib.Core.Path.{_≡_, sym, ap, subst, _∙_}
 use mathlib.Core.List.{List}
-use Prim.Native.Nat.{ℕ, zero, suc, _+_, _*_, _/_, _%_, _<_}
+use Prim.Native.Nat.{ℕ, _*_, _<_}
 use native.Mathlib.Omega.{arith}
 use borrow.Author.Tests.{eq-eqb, ne-eqb}
 use lib.Dec.{eqb}
 use lib.ListN.{length, getD}
-use Rattle.words.specs.Bits.{bits, wordAt}
+use Rattle.words.specs.Bits.{image, wordAt}
 use Rattle.words.specs.declared.gate.Owned.{Owned}
 use Rattle.words.specs.declared.gate.Pair.{Pair}
 use Rattle.words.specs.declared.gate.Scaling.{Scaling}
@@ -19,7 +19,7 @@ use Rattle.plain.specs.Plain.{chosenBy, plainBy}
 use Rattle.plain.specs.Ready.{Below, PairReady, ProjectionReady, ChoiceReady, Ready}
 
 -- the first byte of a word is its bits 7 to 0
-pub image-byte : (file : List ℕ) (i : ℕ) → getD file (4 * i) 0 < 256 → getD file (4 * i) 0 ≡ bits (wordAt file i) 7 0
+pub image-byte : (file : List ℕ) (i : ℕ) → getD file (4 * i) 0 < 256 → getD file (4 * i) 0 ≡ image (wordAt file i)
 image-byte file i h = omega arith
 
 pub choose-first : (bit a b : ℕ) → bit ≡ 0 → a ≡ chosenBy (eqb bit 0) a b

@@ -13,8 +13,8 @@ use Rattle.lists.proofs.Filled.{Filled, filled-start, filled-step, filled-whole
 use Rattle.words.specs.declared.gate.Wire.{Wire}
 use Rattle.circuit.specs.declared.Circuit.{Circuit}
 use Rattle.circuit.specs.Wires.{wireAt, modulusAt}
+use Rattle.circuit.specs.Held.{wiresIn}
 use Rattle.counts.proofs.Wires.{wire-at}
-use Rattle.session.specs.Held.{wiresIn}
 use Rattle.plain.specs.Plain.{plainBy, plainTo}
 use Rattle.plain.specs.Ready.{Ready, Feeds, Done, Gives}
 use Rattle.plain.proofs.Residues.{ready, done-step}

@@ -1,20 +1,20 @@
 -- How the call ends: the checks after reading, what acceptance hands to the evaluation, and the outputs that it writes.
 -- Assumes nothing.
-use mathlib.Core.Path.{_≡_, refl, sym, ap, ap₂, subst, _∙_}
+use mathlib.Core.Path.{_≡_, sym, ap, ap₂, subst, _∙_}
 use mathlib.Core.List.{List, [], _∷_}
 use Prim.Native.Nat.{ℕ, _≤_, _<_}
 use native.Mathlib.Omega.{arith}
 use borrow.Author.Tests.{leb-false}
-use lib.ListN.{length, getD, take}
+use lib.ListN.{length, getD}
 use lib.Seq.{getD-take}
 use Rattle.lists.specs.Blocks.{tab}
 use Rattle.lists.proofs.Blocks.{tab-ext}
 use Rattle.checks.specs.declared.Answer.{Answer}
 use Rattle.checks.specs.declared.Answer.the-variants.{Accepted, Refused}
 use Rattle.checks.specs.declared.Refusal.{Refusal}
-use Rattle.checks.specs.declared.Refusal.the-variants.{WrongLength, ValueTooLarge}
+use Rattle.checks.specs.declared.Refusal.the-variants.{ValueTooLarge}
 use Rattle.checks.specs.Combined.{followed}
-use Rattle.checks.specs.Checked.{Checked, Meets, andThen, afterwards, answered, noneBad}
+use Rattle.checks.specs.Checked.{Checked, Meets}
 use Rattle.checks.specs.Checked.Checked.{passed}
 use Rattle.checks.proofs.Passed.{andThen-left, andThen-right, noneBad-none}
 use Rattle.checks.proofs.Answers.{meets-answered, meets-andThen, meets-refused, meets-next, meets-accepted, afterwards-accepted, afterwards-refused}
@@ -22,13 +22,12 @@ use Rattle.words.specs.declared.gate.Wire.{Wire}
 use Rattle.circuit.specs.declared.Circuit.{Circuit}
 use Rattle.circuit.specs.declared.Reading.{Reading}
 use Rattle.circuit.specs.Wires.{modulusAt, inputsIn}
-use Rattle.circuit.specs.File.{readFile, Holds}
-use Rattle.circuit.specs.Accepted.{AcceptedCircuit}
+use Rattle.circuit.specs.File.{readFile}
+use Rattle.circuit.specs.Held.{wiresIn, outputsIn, Held, Holds}
 use Rattle.circuit.proofs.Accepted.{accepted}
 use Rattle.session.specs.Session.{fileChecked, lengthsChecked, tooLarge, valuesChecked}
-use Rattle.session.specs.Held.{wiresIn, outputsIn, Held}
-use Rattle.session.proofs.Sessions.{file-accepted, lengths-passed, lengths-same}
-use Rattle.session.proofs.Searches.{first-length, second-length}
+use Rattle.session.proofs.Sessions.{file-accepted, lengths-same}
+use Rattle.session.proofs.Lent.{lengths-met}
 use Rattle.session.proofs.Circuits.{held-of, made-is, given-is, inputs-made}
 use Rattle.plain.specs.Plain.{plainTo, plainValues, plainOutputs}
 use Rattle.plain.specs.Call.{fedChecked, plainChecked, plainAfter}
@@ -36,7 +35,9 @@ use Rattle.plain.specs.Ready.{Fed, Feeds, Done, Gives}
 
 -- ---- the checks after reading
 
-module _ {circuit : Circuit} (held : Held circuit) (values : List ℕ) (bytes : ℕ) where
+module _ {circuit : Circuit} (held : Held circuit) (values : List ℕ) (bytes : ℕ) {inputs given lent : Answer}
+    (one : Meets (lengthsChecked (length values ∷ []) (circuit .inputs ∷ [])) inputs) (two : Meets (lengthsChecked (bytes ∷ []) (circuit .given ∷ [])) given)
+    (joined : lent ≡ followed inputs given) where
   abbrev wires : List Wire
   wires = wiresIn circuit
 
@@ -46,19 +47,23 @@ module _ {circuit : Circuit} (held : Held circuit) (values : List ℕ) (bytes : 
   abbrev rest : Checked
   rest = valuesChecked values (modulusAt wires)
 
-  pub wrong-values : (length values ≡ circuit .inputs → ⊥) → Meets (fedChecked wires outputs values bytes) (Refused WrongLength 0)
-  wrong-values n = meets-refused rest (first-length (length values) bytes (inputsIn wires) (length outputs) (λ e. n (e ∙ sym (held .inputs))))
+  lent-met : Meets (lengthsChecked (length values ∷ bytes ∷ []) (inputsIn wires ∷ length outputs ∷ [])) lent
+  lent-met =
+      subst (λ (l : List ℕ). Meets (lengthsChecked (length values ∷ bytes ∷ []) l) lent) (ap₂ (λ (a b : ℕ). a ∷ b ∷ []) (held .inputs) (sym (given-is held)))
+      (lengths-met (length values) (circuit .inputs) (bytes ∷ []) (circuit .given ∷ []) one two joined)
 
-  pub wrong-outputs : length values ≡ circuit .inputs → (bytes ≡ circuit .given → ⊥) → Meets (fedChecked wires outputs values bytes) (Refused WrongLength 0)
-  wrong-outputs e n =
-      meets-refused rest (second-length (length values) bytes (inputsIn wires) (length outputs) (e ∙ held .inputs) (λ g. n (g ∙ given-is held)))
+  pub lent-stops : {reason : Refusal} {place : ℕ} → lent ≡ Refused reason place → Meets (fedChecked wires outputs values bytes) (Refused reason place)
+  lent-stops e = meets-refused rest (subst (Meets _) e lent-met)
 
-  pub values-fit : length values ≡ circuit .inputs → length values ≤ circuit .made
-  values-fit e = omega (arith, inputs-made held)
+  module _ (e : lent ≡ Accepted) where
+    lengths-right : lengthsChecked (length values ∷ bytes ∷ []) (inputsIn wires ∷ length outputs ∷ []) ≡ passed
+    lengths-right = meets-accepted (subst (Meets _) e lent-met)
 
-  pub values-left : length values ≡ circuit .inputs → bytes ≡ circuit .given → {answer : Answer} → Meets rest answer → Meets (fedChecked wires outputs values bytes) answer
-  values-left e g m =
-      meets-next (lengths-passed (ap₂ (λ (a b : ℕ). a ∷ b ∷ []) (e ∙ held .inputs) (g ∙ sym (given-is held)))) m
+    pub values-fit : length values ≤ circuit .made
+    values-fit = omega (arith, ap (λ (l : List ℕ). getD l 0 0) (lengths-same _ _ lengths-right), held .inputs, inputs-made held)
+
+    pub values-left : {answer : Answer} → Meets rest answer → Meets (fedChecked wires outputs values bytes) answer
+    values-left m = meets-next lengths-right m
 
 -- ---- the whole call: the reader's answer, and then that of the checks after it
 

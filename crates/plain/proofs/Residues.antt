@@ -2,30 +2,27 @@
 -- Assumes nothing.
 use mathlib.Core.Path.{_≡_, refl, sym, ap, ap₂, _∙_}
 use mathlib.Core.Bool.{Bool, true, false}
-use mathlib.Core.List.{List, [], _∷_, _++_, map}
-use Prim.Native.Nat.{ℕ, zero, suc, _+_, _-_, _*_, _/_, _%_, _≤_, _<_}
-use native.Mathlib.Nat.{le-refl, le-antisymm}
+use mathlib.Core.List.{List, [], _∷_, _++_}
+use Prim.Native.Nat.{ℕ, zero, suc, _+_, _-_, _*_, _/_, _≤_, _<_}
 use native.Mathlib.Numerals.{add-one}
 use native.Mathlib.Decide.{decLt}
 use native.Mathlib.Omega.{arith}
 use borrow.Author.Tests.{ltb-true}
 use lib.Dec.{ltb, eqb}
-use lib.ListN.{length, getD, take, set, length-set, length-append, length-take, List·getD-append}
-use lib.Seq.{getD-take, getD-at, take-suc-set, length-take-le}
-use Rattle.residue.specs.Prime.{isPrime}
+use lib.ListN.{length, getD, set, length-set, List·getD-append}
+use lib.Seq.{getD-take, getD-at, take-suc-set}
 use Rattle.residue.proofs.Moduli.{isPrime→Prime}
 use Rattle.residue.proofs.Vectors.{add-below, mul-below}
 use Rattle.residue.specs.Residue.{add, mul}
-use Rattle.words.specs.Bits.{bits, wordAt}
+use Rattle.words.specs.Bits.{image, wordAt}
 use Rattle.words.specs.declared.gate.Gate.{Gate}
-use Rattle.words.specs.declared.gate.Gate.the-variants.{Input, Add, Scale, Multiply, Project, Select}
 use Rattle.words.specs.declared.gate.Wire.{Wire}
 use Rattle.circuit.specs.Wires.{wireAt, modulusAt, inputsIn, isInput}
-use Rattle.circuit.specs.Accepted.{GateFits, WireFits, AcceptedCircuit, PairFits, ScalingFits, ProjectionFits, ChoiceFits, EntryFits, Alike}
+use Rattle.circuit.specs.Accepted.{GateFits, Alike}
 use Rattle.lists.specs.Grown.{grown, extended}
 use Rattle.lists.proofs.Grown.{length-grown}
 use Rattle.plain.specs.Plain.{chosenBy, plainBy, plainTo}
-use Rattle.plain.specs.Ready.{Below, PairReady, ProjectionReady, ChoiceReady, Ready, Fed, Done}
+use Rattle.plain.specs.Ready.{Below, Ready, Fed, Done}
 
 -- ---- one wire more
 
@@ -130,7 +127,7 @@ module _ {file : List ℕ} {wires : List Wire} {outputs values : List ℕ} (fed 
   same-value (GateFits.add f) = ap₂ (add (modulusAt wires w)) (lower-is _ (f .a .lower)) (lower-is _ (f .b .lower))
   same-value (GateFits.scale {gate = gate} f) = ap (mul (modulusAt wires w) (gate .constant)) (lower-is _ (f .a .lower))
   same-value (GateFits.multiply f) = ap₂ (mul (modulusAt wires w)) (lower-is _ (f .a .lower)) (lower-is _ (f .b .lower))
-  same-value (GateFits.project {gate = gate} f) = ap (λ (v : ℕ). bits (wordAt file (gate .table + v)) 7 0) (lower-is _ (f .lower))
+  same-value (GateFits.project {gate = gate} f) = ap (λ (v : ℕ). image (wordAt file (gate .table + v))) (lower-is _ (f .lower))
   same-value (GateFits.select {gate = gate} f) =
       cc (lower-is (gate .bit) (f .lower), lower-is (gate .a) (f .a .lower), lower-is (gate .b) (f .b .lower))
 

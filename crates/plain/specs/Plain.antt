@@ -8,7 +8,7 @@ use lib.ListN.{length, getD}
 use Rattle.lists.specs.Blocks.{tab}
 use Rattle.lists.specs.Grown.{grown}
 use Rattle.residue.specs.Residue.{add, mul}
-use Rattle.words.specs.Bits.{bits, wordAt}
+use Rattle.words.specs.Bits.{image, wordAt}
 use Rattle.words.specs.declared.gate.Gate.{Gate}
 use Rattle.words.specs.declared.gate.Gate.the-variants.{Input, Add, Scale, Multiply, Project, Select}
 use Rattle.words.specs.declared.gate.Wire.{Wire}
@@ -25,7 +25,7 @@ plainBy file inputs w p (Input gate) value = getD inputs w 0
 plainBy file inputs w p (Add gate) value = add p (value (gate .a)) (value (gate .b))
 plainBy file inputs w p (Scale gate) value = mul p (gate .constant) (value (gate .a))
 plainBy file inputs w p (Multiply gate) value = mul p (value (gate .a)) (value (gate .b))
-plainBy file inputs w p (Project gate) value = bits (wordAt file (gate .table + value (gate .a))) 7 0
+plainBy file inputs w p (Project gate) value = image (wordAt file (gate .table + value (gate .a)))
 plainBy file inputs w p (Select gate) value = chosenBy (eqb (value (gate .bit)) 0) (value (gate .a)) (value (gate .b))
 
 -- the first wires' values, so many

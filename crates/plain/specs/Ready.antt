@@ -16,7 +16,7 @@ use Rattle.words.specs.declared.gate.Wire.{Wire}
 use Rattle.circuit.specs.declared.Circuit.{Circuit}
 use Rattle.circuit.specs.Wires.{modulusAt, inputsIn}
 use Rattle.circuit.specs.Accepted.{AcceptedCircuit}
-use Rattle.session.specs.Held.{wiresIn, outputsIn, Held}
+use Rattle.circuit.specs.Held.{wiresIn, outputsIn, Held}
 use Rattle.plain.specs.Plain.{plainTo}
 
 -- wire a has a value among those that are done, and it is below p

@@ -1,6 +1,7 @@
 // Plain evaluation as a call.
 ghost use mathlib.Core.Path.{_≡_};
-ghost use Rattle.circuit.specs.File.{readFile, Holds};
+ghost use Rattle.circuit.specs.File.{readFile};
+ghost use Rattle.circuit.specs.Held.{Holds};
 ghost use Rattle.checks.specs.Checked.{Meets};
 ghost use Rattle.plain.specs.Call.{plainChecked, plainAfter};
 use super::values::checked;

@@ -2,9 +2,9 @@
 ghost use mathlib.Core.Path.{_≡_};
 ghost use Prim.Native.Nat.{_+_, _<_};
 ghost use lib.Dec.{eqb};
-ghost use lib.ListN.{length, getD};
+ghost use lib.ListN.{getD};
 ghost use Rattle.residue.specs.Residue.{add, mul};
-ghost use Rattle.words.specs.Bits.{bits, wordAt};
+ghost use Rattle.words.specs.Bits.{image, wordAt};
 ghost use Rattle.plain.specs.Plain.{chosenBy, plainBy};
 ghost use Rattle.plain.specs.Ready.{Below, PairReady, ProjectionReady, ChoiceReady, Ready};
 use words::Choice;
@@ -50,7 +50,7 @@ fn entry_of(table: u32, v: u8) -> usize
 // An entry's image stands in bits 7 to 0 of its word, so in the first of its bytes.
 fn projected(gate: Projection, file: &[u8], done: &[u8]) -> u8
     requires { ⌜ ProjectionReady (now file) (now done) gate ⌝ }
-    ensures { λ r. ⌜ r ≡ bits (wordAt (now (file .entry)) (gate .table + getD (now (done .entry)) (gate .a) 0)) 7 0 ⌝ }
+    ensures { λ r. ⌜ r ≡ image (wordAt (now (file .entry)) (gate .table + getD (now (done .entry)) (gate .a) 0)) ⌝ }
 {
     let a = gate.a as usize;
     let entry = entry_of(gate.table, done[a]);

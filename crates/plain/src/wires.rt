@@ -1,10 +1,10 @@
 // The values of all wires, and of the outputs among them.
 ghost use mathlib.Core.Path.{_≡_};
-ghost use Prim.Native.Nat.{_≤_, _<_};
+ghost use Prim.Native.Nat.{_<_};
 ghost use lib.ListN.{length, getD, replicate};
 ghost use Rattle.plain.specs.Plain.{plainOutputs};
 ghost use Rattle.lists.specs.Blocks.{tab};
-ghost use Rattle.session.specs.Held.{wiresIn, outputsIn};
+ghost use Rattle.circuit.specs.Held.{wiresIn, outputsIn};
 ghost use Rattle.plain.specs.Ready.{Feeds, Done, Gives};
 use super::gate::wire_value;
 use circuit::Circuit;

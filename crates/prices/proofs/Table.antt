@@ -1,10 +1,10 @@
 -- Laws of what is printed: the lines of the wires one after another, the listing around them, a refusal.
 -- Assumes nothing.
-use mathlib.Core.Path.{_≡_, refl, sym, ap, _∙_}
+use mathlib.Core.Path.{_≡_, sym, ap, _∙_}
 use mathlib.Core.List.{List, [], _∷_, _++_}
-use Prim.Native.Nat.{ℕ, suc, _+_, _*_, _^_, _≤_, _<_}
+use Prim.Native.Nat.{ℕ, _+_, _*_, _≤_, _<_}
 use native.Mathlib.Omega.{arith}
-use lib.ListN.{length, take, length-append}
+use lib.ListN.{length, take}
 use Rattle.lists.specs.Blocks.{blocks}
 use Rattle.lists.proofs.Blocks.{blocks-next}
 use Rattle.lists.proofs.Wrote.{Wrote, wrote-start, wrote-as, wrote-join}
@@ -13,8 +13,9 @@ use Rattle.checks.specs.declared.Refusal.{Refusal}
 use Rattle.checks.specs.declared.Answer.the-variants.{Accepted, Refused}
 use Rattle.words.specs.declared.gate.Wire.{Wire}
 use Rattle.circuit.specs.declared.Reading.{Reading}
-use Rattle.circuit.specs.File.{Read, Holds}
+use Rattle.circuit.specs.File.{Read}
 use Rattle.circuit.specs.Wires.{wireAt, modulusAt}
+use Rattle.circuit.specs.Held.{wiresIn, Holds}
 use Rattle.counts.specs.Counts.{rowsOf, rowsIn}
 use Rattle.counts.proofs.Wires.{wire-at}
 use Rattle.prices.specs.Characters.{refusedText, atText, headText, totalText}
@@ -23,7 +24,7 @@ use Rattle.prices.specs.Lines.{linesOf}
 use Rattle.prices.specs.Found.{comesTo, bytesFound, Finds}
 use Rattle.prices.specs.declared.lines.Found.{Found}
 use Rattle.prices.specs.Placed.{Placed, PlacedWithin}
-use Rattle.prices.proofs.Texts.{placed-wrote, wrote-placed, placed-four, number-short, number-long}
+use Rattle.prices.proofs.Texts.{placed-wrote, wrote-placed, placed-four}
 
 -- a text, under another name
 pub placed-as : {xs ys : List ℕ} {out₀ : List ℕ} {at to : ℕ} {out : List ℕ} → Placed out₀ at xs to out → xs ≡ ys → Placed out₀ at ys to out
@@ -87,7 +88,7 @@ module _ {out₀ : List ℕ} {a b c d : ℕ} {out₁ out₂ out₃ out₄ : List
 -- ---- what was read, and what the lines come to
 
 module _ {reading : Reading} {read : Read} (h : Holds reading read) where
-  pub listed-accepted : reading .answer ≡ Accepted → listing (take (reading .circuit .made) (reading .circuit .wires)) ≡ listed (read .answer) (read .wires)
+  pub listed-accepted : reading .answer ≡ Accepted → listing (wiresIn (reading .circuit)) ≡ listed (read .answer) (read .wires)
   unfolding listed
   listed-accepted e = rw (← h .answer, e, h .wires)
 

@@ -1,20 +1,17 @@
 -- Laws of the line that a text begins with, and of all lines: what reading one line more does.
 -- Assumes nothing.
 use mathlib.Core.Path.{_≡_, refl, sym, ap, _∙_}
-use mathlib.Core.Bool.{Bool, true, false, cond, _&&_}
-use mathlib.Core.List.{List, [], _∷_, _++_}
+use mathlib.Core.Bool.{Bool, true, false, cond}
+use mathlib.Core.List.{List, [], _++_}
 use Prim.Native.Nat.{ℕ, zero, suc, _+_, _-_, _*_, _≤_, _<_}
-use native.Mathlib.Nat.{not-suc-le-zero}
-use native.Mathlib.Numerals.{add-one}
 use native.Mathlib.Omega.{arith}
 use lib.ListN.{length, take, drop, drop-of-length-le}
 use lib.Seq.{drop-cons, drop-drop}
 use Rattle.lists.specs.Blocks.{written}
 use Rattle.lists.proofs.Written.{front-written, length-written}
-use Rattle.prices.specs.Lines.{Lines, hexDigits, lineEnds, wordLine, byteAt, wordBytes, isEmpty, linesFrom, linesOf}
+use Rattle.prices.specs.Lines.{hexDigits, lineEnds, wordLine, byteAt, wordBytes, isEmpty, linesFrom, linesOf}
 use Rattle.prices.specs.Lines.Lines.{file, badLine, tooLong}
 use Rattle.prices.specs.declared.line.Word.{Word}
-use Rattle.prices.specs.declared.line.Line.{Line}
 use Rattle.prices.specs.declared.line.Line.the-variants.{Good, Bad}
 use Rattle.prices.specs.Line.{lineAt, bytesIn}
 

@@ -1,8 +1,9 @@
 -- The price list: lines of hexadecimal words in, a table of rows out.
 pub mod Characters
-pub mod Decimal
 pub mod Lines
-pub mod Line
-pub mod Found
+pub mod Decimal
 pub mod Prices
 pub mod Placed
+-- what functions promise each other, in the code's terms
+pub mod Line
+pub mod Found

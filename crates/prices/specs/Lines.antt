@@ -12,9 +12,11 @@ use Rattle.prices.specs.Characters.{newline}
 abbrev pub between : ℕ → ℕ → ℕ → Bool
 between low high c = leb low c && leb c high
 
--- the value of a hexadecimal digit, 0 to 9, A to F, a to f; 16 where a character is none of them
+-- the value of a hexadecimal digit, 0 to 9, A to F, a to f; 16 where a character is none of them. 48, 65 and 97 are the characters
+-- 0, A and a.
 unfoldable pub hexValue : ℕ → ℕ
-hexValue c = cond (between 48 57 c) (c - 48) (cond (between 65 70 c) (c - 55) (cond (between 97 102 c) (c - 87) 16))
+hexValue c =
+    cond (between 48 57 c) (c - 48) (cond (between 65 70 c) (10 + (c - 65)) (cond (between 97 102 c) (10 + (c - 97)) 16))
 
 abbrev pub isHex : ℕ → Bool
 isHex c = ltb (hexValue c) 16
@@ -52,7 +54,8 @@ unfoldable pub isEmpty : List ℕ → Bool
 isEmpty [] = true
 isEmpty (c ∷ text) = false
 
--- the lines from the n-th on, of which so many more are allowed, with the bytes of the lines before it
+-- the lines from the n-th on, of which so many more are allowed, with the bytes of the lines before it. A good line is 8 characters and
+-- its newline, so the next starts 9 further on; a bad line ends the reading, so where it ends is never asked.
 unfoldable pub linesFrom : ℕ → ℕ → List ℕ → List ℕ → Lines
 linesFrom zero n text bytes = cond (isEmpty text) (file bytes) tooLong
 linesFrom (suc left) n text bytes =

@@ -19,7 +19,7 @@ pub enum Line {
     Bad,
 }
 
-// The value of a hexadecimal digit, and 16 for another character.
+// The value of a hexadecimal digit, and 16 for another character. 55 and 87 are 10 less than the characters A and a.
 fn hex_value(c: u8) -> u8
     ensures { λ r. ⌜ r ≡ hexValue c ⌝ }
 {

@@ -1,10 +1,10 @@
 // What is printed for a circuit: a line for each wire and the total, or why it is refused.
 ghost use mathlib.Core.Path.{_≡_};
 ghost use Prim.Native.Nat.{_+_, _≤_, _<_};
-ghost use lib.ListN.{length, take};
+ghost use lib.ListN.{length};
 ghost use Rattle.checks.specs.Answer.{numberOf};
 ghost use Rattle.circuit.specs.File.{readFile};
-ghost use Rattle.counts.specs.Counts.{Room};
+ghost use Rattle.circuit.specs.Held.{wiresIn, Room};
 ghost use Rattle.prices.specs.Prices.{kindOf, lineOf, wireLines, listing, refusal, listed};
 ghost use Rattle.prices.specs.Placed.{Placed, PlacedWithin, Narrow};
 use super::text::put_number;
@@ -61,7 +61,7 @@ fn put_wire(out: &mut [u8], at: usize, w: usize, wire: Wire, rows: u32) -> usize
 // The lines of all wires.
 fn put_wires(out: &mut [u8], at: usize, circuit: Circuit) -> usize
     requires { ⌜ Room circuit × (at + 15360 ≤ length (now out)) ⌝ }
-    ensures { λ r. ⌜ PlacedWithin 15360 (now (out .entry)) at (wireLines (take (circuit .made) (circuit .wires))) r (now (out .exit)) ⌝ }
+    ensures { λ r. ⌜ PlacedWithin 15360 (now (out .entry)) at (wireLines (wiresIn circuit)) r (now (out .exit)) ⌝ }
 {
     let moduli = counts::moduli(circuit);
     let made = circuit.made;
@@ -79,7 +79,7 @@ fn put_wires(out: &mut [u8], at: usize, circuit: Circuit) -> usize
 // The listing of an accepted circuit.
 fn put_listing(out: &mut [u8], circuit: Circuit) -> usize
     requires { ⌜ Room circuit × (16384 ≤ length (now out)) ⌝ }
-    ensures { λ r. ⌜ Placed (now (out .entry)) 0 (listing (take (circuit .made) (circuit .wires))) r (now (out .exit)) ⌝ }
+    ensures { λ r. ⌜ Placed (now (out .entry)) 0 (listing (wiresIn circuit)) r (now (out .exit)) ⌝ }
 {
     let a = put_text(out, 0, b"wire kind modulus rows\n");
     let b = put_wires(out, a, circuit);

@@ -1,5 +1,4 @@
 // Text put into a lent buffer: each function answers with the place behind what it put.
-ghost use mathlib.Core.Path.{_≡_};
 ghost use Prim.Native.Nat.{_+_, _≤_};
 ghost use lib.ListN.{length};
 ghost use Rattle.prices.specs.Prices.{numberAnd};

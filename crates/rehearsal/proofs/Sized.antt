@@ -7,8 +7,8 @@ use native.Mathlib.Omega.{arith}
 use lib.ListN.{length}
 use Rattle.circuit.specs.declared.Reading.{Reading}
 use Rattle.circuit.specs.Wires.{inputsIn}
-use Rattle.circuit.specs.File.{readFile, Holds}
-use Rattle.session.specs.Held.{wiresIn}
+use Rattle.circuit.specs.File.{readFile}
+use Rattle.circuit.specs.Held.{wiresIn, Holds}
 use Rattle.session.proofs.Circuits.{held-of, inputs-made}
 use Rattle.scheme.specs.Contribution.{contributionSize}
 use Rattle.contribution.proofs.Sizes.{times-most}

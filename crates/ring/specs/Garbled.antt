@@ -8,10 +8,10 @@ use Rattle.checks.specs.Checked.{Checked, andThen}
 use Rattle.words.specs.declared.gate.Wire.{Wire}
 use Rattle.circuit.specs.declared.Circuit.{Circuit}
 use Rattle.circuit.specs.Wires.{inputsIn}
+use Rattle.circuit.specs.Held.{wiresIn, Held}
 use Rattle.counts.specs.Counts.{rowsIn}
 use Rattle.scheme.specs.Contribution.{contributionSize}
 use Rattle.session.specs.Session.{sessionChecked, ownersChecked, lengthsChecked}
-use Rattle.session.specs.Held.{wiresIn, Held}
 use Rattle.round.specs.Bytes.{contributionsChecked, offsetsChecked}
 use Rattle.round.specs.Garble.{meterChecked}
 

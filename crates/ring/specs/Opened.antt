@@ -11,6 +11,7 @@ use Rattle.checks.specs.Checked.{Checked, andThen, noneBad}
 use Rattle.words.specs.declared.gate.Wire.{Wire}
 use Rattle.circuit.specs.declared.Circuit.{Circuit}
 use Rattle.circuit.specs.Wires.{modulusAt, inputsIn}
+use Rattle.circuit.specs.Held.{wiresIn, Held}
 use Rattle.counts.specs.Counts.{rowsIn}
 use Rattle.pads.specs.Pad.{shakePad}
 use Rattle.search.specs.Search.{same}
@@ -18,7 +19,6 @@ use Rattle.scheme.specs.Contribution.{contributionSize}
 use Rattle.scheme.specs.Draw.{drawn}
 use Rattle.scheme.specs.Opening.{opened, nothing}
 use Rattle.session.specs.Session.{sessionChecked, partyChecked, ownersChecked, lengthsChecked, valuesChecked}
-use Rattle.session.specs.Held.{wiresIn, Held}
 use Rattle.round.specs.Bytes.{contributionsChecked, offsetsChecked, keysChecked, rowsChecked}
 use Rattle.round.specs.InputKeys.{inputKey}
 

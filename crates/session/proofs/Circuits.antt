@@ -1,26 +1,18 @@
 -- A circuit that the reader handed out is held as `Held` says.
 -- Assumes nothing.
-use mathlib.Core.Path.{_≡_, sym, ap, _∙_}
-use Prim.Native.Nat.{ℕ, _≤_}
+use mathlib.Core.Path.{_≡_}
+use Prim.Native.Nat.{_≤_}
 use native.Mathlib.Omega.{arith}
-use lib.ListN.{length, take, length-take}
+use lib.ListN.{length}
 use lib.Seq.{length-take-le}
 use Rattle.circuit.specs.declared.Circuit.{Circuit}
 use Rattle.circuit.specs.declared.Reading.{Reading}
-use Rattle.circuit.specs.Wires.{inputsIn}
-use Rattle.circuit.specs.File.{Read, Holds}
+use Rattle.circuit.specs.File.{Read}
+use Rattle.circuit.specs.Held.{wiresIn, outputsIn, Held, Holds}
 use Rattle.circuit.proofs.More.{inputs-le}
-use Rattle.counts.proofs.Wires.{room}
-use Rattle.session.specs.Held.{wiresIn, outputsIn, Held}
 
 pub held-of : {reading : Reading} {read : Read} → Holds reading read → Held (reading .circuit)
-held-of {reading} {read} h =
-    record {
-      room = room h;
-      inputs = h .inputs ∙ ap inputsIn (sym (h .wires));
-      given = omega (arith, length-take (reading .circuit .given) (reading .circuit .outputs), ap length (h .outputs), h .given, h .roomForOutputs);
-      outputs = h .roomForOutputs;
-    }
+held-of h = h .held
 
 module _ {circuit : Circuit} (held : Held circuit) where
   pub made-is : length (wiresIn circuit) ≡ circuit .made

@@ -1,30 +1,28 @@
 -- What the code's searches and tests come to: the session's checks, met.
 -- Assumes nothing.
-use mathlib.Core.Path.{_≡_, refl, sym, ap, subst, _∙_}
+use mathlib.Core.Path.{_≡_, refl, sym, ap, _∙_}
 use mathlib.Core.Bool.{Bool, true, false, _&&_}
-use mathlib.Core.List.{List, [], _∷_}
+use mathlib.Core.List.{List}
 use Prim.Native.Nat.{ℕ, _≤_, _<_}
 use native.Mathlib.Omega.{arith}
-use borrow.Author.Tests.{le-leb, lt-leb, lt-ltb, le-ltb, eq-eqb, ne-eqb}
-use lib.Dec.{eqb, leb, ltb}
-use lib.ListN.{length, getD, take}
+use borrow.Author.Tests.{le-leb, lt-leb, lt-ltb, le-ltb}
+use lib.Dec.{leb}
+use lib.ListN.{length, getD}
 use lib.Seq.{length-take-le}
 use Rattle.lists.specs.First.{first}
 use Rattle.checks.specs.declared.Answer.{Answer}
 use Rattle.checks.specs.declared.Answer.the-variants.{Accepted, Refused}
 use Rattle.checks.specs.declared.Refusal.{Refusal}
-use Rattle.checks.specs.declared.Refusal.the-variants.{SessionRange, NoSuchParty, OwnerAbsent, WrongLength, ValueTooLarge}
+use Rattle.checks.specs.declared.Refusal.the-variants.{SessionRange, NoSuchParty, OwnerAbsent, ValueTooLarge}
 use Rattle.checks.specs.Combined.{named}
-use Rattle.checks.specs.Checked.{Checked, Meets, noneBad}
-use Rattle.checks.proofs.Answers.{unless-met, unless-named, meets-noneBad, meets-refused, meets-next}
+use Rattle.checks.specs.Checked.{Meets, noneBad}
+use Rattle.checks.proofs.Answers.{unless-met, unless-named, meets-noneBad}
 use Rattle.words.specs.declared.gate.Wire.{Wire}
 use Rattle.circuit.specs.declared.Circuit.{Circuit}
 use Rattle.circuit.specs.Wires.{wireAt, modulusAt}
-use Rattle.counts.specs.Counts.{Room}
+use Rattle.circuit.specs.Held.{wiresIn, Room}
 use Rattle.counts.proofs.Wires.{wire-at, modulus-at}
-use Rattle.session.specs.Session.{partiesChecked, sessionChecked, partyChecked, ownerAbsent, ownersChecked, sameNumbers, lengthsChecked, tooLarge, valuesChecked}
-use Rattle.session.specs.Held.{wiresIn}
-use Rattle.session.proofs.Sessions.{lengths-passed}
+use Rattle.session.specs.Session.{partiesChecked, sessionChecked, partyChecked, ownerAbsent, ownersChecked, tooLarge, valuesChecked}
 
 -- ---- 11
 
@@ -107,17 +105,3 @@ module _ (circuit : Circuit) {i : ℕ} (h : i < circuit .made) where
 
     pub value-small : getD values i 0 < modulusAt (circuit .wires) i → tooLarge values (modulusAt (wiresIn circuit)) i ≡ false
     value-small l = lt-leb (modulusAt (wiresIn circuit) i) (getD values i 0) (omega (arith, same))
-
--- ---- 14, of two lengths
-
-module _ (a b c d : ℕ) where
-  abbrev lengths : Checked
-  lengths = lengthsChecked (a ∷ b ∷ []) (c ∷ d ∷ [])
-
-  pub first-length : (a ≡ c → ⊥) → Meets lengths (Refused WrongLength 0)
-  unfolding lengthsChecked sameNumbers
-  first-length n = unless-named WrongLength 0 (rw (ne-eqb a c n))
-
-  pub second-length : a ≡ c → (b ≡ d → ⊥) → Meets lengths (Refused WrongLength 0)
-  unfolding lengthsChecked sameNumbers
-  second-length e n = unless-named WrongLength 0 (rw (eq-eqb a c e, ne-eqb b d n))

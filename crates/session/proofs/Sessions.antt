@@ -56,10 +56,6 @@ pub parties-passed : {n : ℕ} → PartiesFit n → partiesChecked n ≡ passed
 unfolding partiesChecked
 parties-passed {n} r = unless-passed SessionRange 0 (ranged 2 8 n (r .least) (r .most))
 
-pub parties-fit : (n : ℕ) → partiesChecked n ≡ passed → PartiesFit n
-unfolding partiesChecked
-parties-fit n e = fit n (unless-true (leb 2 n && leb n 8) SessionRange 0 e)
-
 pub session-passed : {n K : ℕ} → SessionFits n K → sessionChecked n K ≡ passed
 unfolding sessionChecked
 session-passed {n} {K} r =

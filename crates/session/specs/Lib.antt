@@ -1,4 +1,4 @@
--- What several calls share: the session's checks, and a circuit as the reader hands it to a call.
+-- What several calls share: the session's checks.
 pub mod Session
-pub mod Held
+-- what functions promise each other, in the code's terms
 pub mod Sizes

@@ -1,12 +1,11 @@
 -- Document 01, "Where each check stands": the checks that several calls share. "Every call reads the circuit first"; then the session's
 -- checks, 11 to 15, on what the call is given.
 -- Assumes nothing.
-use mathlib.Core.Bool.{Bool, true, false, _&&_, _||_}
+use mathlib.Core.Bool.{Bool, true, false, _&&_}
 use mathlib.Core.List.{List, [], _∷_}
 use Prim.Native.Nat.{ℕ}
 use lib.Dec.{eqb, leb, ltb}
 use lib.ListN.{length, getD}
-use Rattle.checks.specs.declared.Refusal.{Refusal}
 use Rattle.checks.specs.declared.Refusal.the-variants.{SessionRange, NoSuchParty, OwnerAbsent, WrongLength, ValueTooLarge}
 use Rattle.checks.specs.Checked.{Checked, unless, noneBad, answered}
 use Rattle.words.specs.declared.gate.Gate.{Gate}
@@ -43,7 +42,7 @@ ownerAbsent n (Select gate) = false
 unfoldable pub ownersChecked : ℕ → List Wire → Checked
 ownersChecked n wires = noneBad (length wires) (λ w. ownerAbsent n (wireAt wires w .gate)) OwnerAbsent
 
--- 14: each lent length is exact; the pairs are the lengths lent and wanted
+-- 14: each lent length is exact: the lengths lent are those wanted, one by one
 unfoldable pub sameNumbers : List ℕ → List ℕ → Bool
 sameNumbers [] [] = true
 sameNumbers [] (y ∷ ys) = false

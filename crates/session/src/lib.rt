@@ -1,9 +1,11 @@
-// The checks that several calls share, 11 to 15: parties, the party asked for, owners of inputs, values. Rests on `circuit` for the
+// The checks that several calls share, 11 to 15: parties, the party asked for, owners of inputs, lengths, values. Rests on `circuit` for the
 // reader, on `counts` for what a circuit's arrays hold, on `checks` for answers and `lists` for searches.
+mod lengths;
 mod owners;
 mod parties;
 mod values;
 
+pub use lengths::length_checked;
 pub use owners::owners_checked;
 pub use parties::parties_checked;
 pub use parties::party_checked;

@@ -1,14 +1,12 @@
 -- Laws of a word's fields: how many bits they have, in the code's terms.
 -- Assumes nothing.
-use mathlib.Core.Path.{_≡_, refl, sym, ap, _∙_, subst}
-use mathlib.Core.List.{List}
+use mathlib.Core.Path.{_≡_, sym, ap, _∙_, subst}
 use Prim.Native.Nat.{ℕ, suc, _+_, _-_, _*_, _/_, _%_, _^_, _≤_, _<_}
 use native.Mathlib.Nat.{one-mul}
 use native.Mathlib.Omega.{arith}
 use lib.Dec.{lit<}
-use lib.ListN.{getD}
 use lib.Pow.{pow-pos, shl-exact}
-use Rattle.words.specs.Bits.{bits, wordAt}
+use Rattle.words.specs.Bits.{bits}
 
 -- a 1 that is shifted by fewer than 32 places stays whole
 pub shifted : (high low : ℕ) → low ≤ high → high < low + 31 → 1 * 2 ^ (high + 1 - low) % 2 ^ 32 ≡ 2 ^ (suc high - low)
@@ -27,7 +25,3 @@ bits-from w low n = ap (λ k. w / 2 ^ low % 2 ^ k) size
   where
     size : suc n ≡ suc (low + n) - low
     size = omega arith
-
--- a file's words are below 2 ^ 32
-pub word-below : (file : List ℕ) → ((i : ℕ) → getD file i 0 < 256) → (i : ℕ) → wordAt file i < 2 ^ 32
-word-below file bytes i = omega (arith, bytes (4 * i), bytes (4 * i + 1), bytes (4 * i + 2), bytes (4 * i + 3))

@@ -1,6 +1,6 @@
 -- Laws of a word's step: what is due after an entry, the moduli of the wires made so far, and what a nest of checks comes to.
 -- Assumes nothing.
-use mathlib.Core.Path.{_≡_, refl, sym, ap, ap₂, _∙_, subst}
+use mathlib.Core.Path.{_≡_, refl, sym, ap, ap₂, _∙_}
 use mathlib.Core.Logic.{_⊎_, inl, inr, ⊎-elim}
 use mathlib.Core.Bool.{Bool, true, false, true≢false, not, _&&_}
 use mathlib.Core.List.{List}
@@ -8,8 +8,8 @@ use Prim.Native.Nat.{ℕ, zero, suc, _+_, _-_, _≤_, _<_}
 use native.Mathlib.Nat.{eq-or-lt-of-le}
 use native.Mathlib.Omega.{arith}
 use lib.Dec.{eqb, leb, ltb}
-use lib.ListN.{length, take, getD, length-take, List·getD-eq-default}
-use lib.Seq.{length-take-le, getD-take}
+use lib.ListN.{take, getD, length-take, List·getD-eq-default}
+use lib.Seq.{getD-take}
 use borrow.Author.Tests.{eqb-true, eq-eqb, ne-eqb, leb-true, le-leb, ltb-true, lt-ltb, le-ltb}
 use Rattle.residue.specs.Prime.{isPrime}
 use Rattle.residue.proofs.Table.{and-left, and-right}
@@ -53,12 +53,6 @@ module _ (moduli : List ℕ) (made wire : ℕ) where
 
   pub modulus-none : made ≤ wire → 0 ≡ getD (take made moduli) wire 0
   modulus-none h = sym (List·getD-eq-default (take made moduli) 0 (simp length-take (omega arith)))
-
--- what holds of a refusal, and of the next step where a check holds, holds of the check
-pub checked : (P : Step → Type 0) {ok : Bool} {reason : Refusal} {next : Step} → (ok ≡ true → P next) → P (Refused reason) → P (check ok reason next)
-unfolding check
-checked P {ok = true} held refused = held refl
-checked P {ok = false} held refused = refused
 
 module _ (moduli : List ℕ) (given at : ℕ) (due : Due) (w : ℕ) where
   -- a word of a kind

@@ -1,10 +1,15 @@
--- Document 01, "The circuit file": a word's bits, its kind and its fields, and the words of a file.
+-- Document 01, "The circuit file": the words of a file, a word's bits, its kind and its fields.
 -- Assumes nothing.
 use mathlib.Core.Bool.{Bool}
 use mathlib.Core.List.{List}
 use Prim.Native.Nat.{ℕ, suc, _+_, _-_, _*_, _/_, _%_, _^_}
 use lib.Dec.{eqb}
 use lib.ListN.{getD}
+
+-- the word at an index of a file's bytes: four bytes, little-endian
+abbrev pub wordAt : List ℕ → ℕ → ℕ
+wordAt file i =
+    getD file (4 * i) 0 + 256 * getD file (4 * i + 1) 0 + 65536 * getD file (4 * i + 2) 0 + 16777216 * getD file (4 * i + 3) 0
 
 -- bits high to low of a word, as a number
 abbrev pub bits : ℕ → ℕ → ℕ → ℕ
@@ -47,8 +52,3 @@ outputModulus w = bits w 17 10
 -- entry: the image
 abbrev pub image : ℕ → ℕ
 image w = bits w 7 0
-
--- the word at an index of a file's bytes: four bytes, little-endian
-abbrev pub wordAt : List ℕ → ℕ → ℕ
-wordAt file i =
-    getD file (4 * i) 0 + 256 * getD file (4 * i + 1) 0 + 65536 * getD file (4 * i + 2) 0 + 16777216 * getD file (4 * i + 3) 0

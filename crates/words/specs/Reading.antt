@@ -39,7 +39,6 @@ gateDue Outputs = false
 gateDue (Entries left modulus) = false
 gateDue (Branches bit) = false
 
--- an output, and the end: due wherever no entry or branches word is
 abbrev pub outputDue : Due → Bool
 outputDue Inputs = true
 outputDue Gates = true
@@ -47,123 +46,128 @@ outputDue Outputs = true
 outputDue (Entries left modulus) = false
 outputDue (Branches bit) = false
 
+-- the end is due wherever no entry or branches word is: where an output is
+abbrev pub endDue : Due → Bool
+endDue due = outputDue due
+
 -- what is due after one of so many entries: the others, or gates after the last
 unfoldable pub afterEntry : ℕ → ℕ → Due
 afterEntry zero modulus = Gates
 afterEntry (suc zero) modulus = Gates
 afterEntry (suc (suc others)) modulus = Entries (suc others) modulus
 
-abbrev pub wire : Gate → ℕ → Wire
-wire gate modulus = record { gate = gate; modulus = modulus }
+-- a wire of a gate and a modulus
+abbrev pub wireOf : Gate → ℕ → Wire
+wireOf gate modulus = record { gate = gate; modulus = modulus }
 
-abbrev pub wires : ℕ → Pair
-wires w = record { a = wireA w; b = wireB w }
+-- wire a and wire b of a word
+abbrev pub pairOf : ℕ → Pair
+pairOf w = record { a = wireA w; b = wireB w }
 
--- Words that name no wire. `due` is due; `made` wires are made; `given` outputs are given.
-module _ (w : ℕ) where
-  -- the head is due in the first word alone, which is not read here
-  abbrev pub headWord : Step
-  headWord = check (clear w 27 0) UnknownWord (Refused NotDue)
+-- The kinds of words, 1 to 11. The wires made so far have these moduli, and the wire being made has the number that they are.
+abbrev isMade : List ℕ → ℕ → Bool
+isMade moduli wire = ltb wire (length moduli)
 
-  abbrev pub inputWord : Due → ℕ → Step
-  inputWord due made =
-      check (clear w 27 24 && clear w 15 8) UnknownWord
-      (check (inputDue due) NotDue
-      (check (isPrime (inputModulus w)) NotPrime
-      (check (ltb (owner w) 8) OutOfRange
-      (check (ltb made 1024) TooMany
-      (Makes (wire (Input (record { owner = owner w })) (inputModulus w)) Inputs)))))
+abbrev modulusOf : List ℕ → ℕ → ℕ
+modulusOf moduli wire = getD moduli wire 0
 
-  -- the image of a value, where entries are due
-  abbrev pub entryWhere : Due → Step
-  entryWhere Inputs = Refused NotDue
-  entryWhere Gates = Refused NotDue
-  entryWhere Outputs = Refused NotDue
-  entryWhere (Entries left modulus) = check (ltb (image w) modulus) OutOfRange (Goes (afterEntry left modulus))
-  entryWhere (Branches bit) = Refused NotDue
+-- head: due in the first word alone, which is not read here
+abbrev pub headWord : ℕ → Step
+headWord w = check (clear w 27 0) UnknownWord (Refused NotDue)
 
-  abbrev pub entryWord : Due → Step
-  entryWord due = check (clear w 27 8) UnknownWord (entryWhere due)
+-- input, where so many wires are made
+abbrev pub inputWord : ℕ → Due → ℕ → Step
+inputWord w due made =
+    check (clear w 27 24 && clear w 15 8) UnknownWord
+    (check (inputDue due) NotDue
+    (check (isPrime (inputModulus w)) NotPrime
+    (check (ltb (owner w) 8) OutOfRange
+    (check (ltb made 1024) TooMany
+    (Makes (wireOf (Input (record { owner = owner w })) (inputModulus w)) Inputs)))))
 
-  abbrev pub endWord : Due → ℕ → Step
-  endWord due given =
-      check (clear w 27 0) UnknownWord
-      (check (outputDue due) NotDue
-      (check (ltb 0 given) NoOutput
-      Ends))
+-- add and multiply
+abbrev pub pairWord : List ℕ → ℕ → Due → Gate → Step
+pairWord moduli w due gate =
+    check (clear w 27 20) UnknownWord
+    (check (gateDue due) NotDue
+    (check (isMade moduli (wireA w) && isMade moduli (wireB w)) NotMade
+    (check (eqb (modulusOf moduli (wireA w)) (modulusOf moduli (wireB w))) ModuliDiffer
+    (check (ltb (length moduli) 1024) TooMany
+    (Makes (wireOf gate (modulusOf moduli (wireA w))) Gates)))))
 
--- Words that name wires. The wires made so far have these moduli.
-module _ (moduli : List ℕ) (w : ℕ) where
-  -- the number of the wire being made, and the modulus of a lower one
-  abbrev made : ℕ
-  made = length moduli
+-- scale
+abbrev pub scaleWord : List ℕ → ℕ → Due → Step
+scaleWord moduli w due =
+    check (clear w 27 18) UnknownWord
+    (check (gateDue due) NotDue
+    (check (isMade moduli (oneWire w)) NotMade
+    (check (ltb 0 (constant w) && ltb (constant w) (modulusOf moduli (oneWire w))) OutOfRange
+    (check (ltb (length moduli) 1024) TooMany
+    (Makes (wireOf (Scale (record { constant = constant w; a = oneWire w })) (modulusOf moduli (oneWire w))) Gates)))))
 
-  abbrev modulusOf : ℕ → ℕ
-  modulusOf wire = getD moduli wire 0
+-- project, at an index of the file; the entries stand in the words that follow, one for each value of the wire
+abbrev pub projectWord : List ℕ → ℕ → Due → ℕ → Step
+projectWord moduli w due at =
+    check (clear w 27 18) UnknownWord
+    (check (gateDue due) NotDue
+    (check (isPrime (outputModulus w)) NotPrime
+    (check (isMade moduli (oneWire w)) NotMade
+    (check (ltb (length moduli) 1024) TooMany
+    (Makes
+    (wireOf (Project (record { a = oneWire w; table = at + 1 })) (outputModulus w))
+    (Entries (modulusOf moduli (oneWire w)) (outputModulus w)))))))
 
-  -- add and multiply
-  abbrev pub pairWord : Due → Gate → Step
-  pairWord due gate =
-      check (clear w 27 20) UnknownWord
-      (check (gateDue due) NotDue
-      (check (ltb (wireA w) made && ltb (wireB w) made) NotMade
-      (check (eqb (modulusOf (wireA w)) (modulusOf (wireB w))) ModuliDiffer
-      (check (ltb made 1024) TooMany
-      (Makes (wire gate (modulusOf (wireA w))) Gates)))))
+-- entry: the image of a value, where entries are due
+abbrev pub entryWhere : ℕ → Due → Step
+entryWhere w Inputs = Refused NotDue
+entryWhere w Gates = Refused NotDue
+entryWhere w Outputs = Refused NotDue
+entryWhere w (Entries left modulus) = check (ltb (image w) modulus) OutOfRange (Goes (afterEntry left modulus))
+entryWhere w (Branches bit) = Refused NotDue
 
-  abbrev pub scaleWord : Due → Step
-  scaleWord due =
-      check (clear w 27 18) UnknownWord
-      (check (gateDue due) NotDue
-      (check (ltb (oneWire w) made) NotMade
-      (check (ltb 0 (constant w) && ltb (constant w) (modulusOf (oneWire w))) OutOfRange
-      (check (ltb made 1024) TooMany
-      (Makes (wire (Scale (record { constant = constant w; a = oneWire w })) (modulusOf (oneWire w))) Gates)))))
+abbrev pub entryWord : ℕ → Due → Step
+entryWord w due = check (clear w 27 8) UnknownWord (entryWhere w due)
 
-  -- at an index of the file; the entries stand in the words that follow, one for each value of the wire
-  abbrev pub projectWord : Due → ℕ → Step
-  projectWord due at =
-      check (clear w 27 18) UnknownWord
-      (check (gateDue due) NotDue
-      (check (isPrime (outputModulus w)) NotPrime
-      (check (ltb (oneWire w) made) NotMade
-      (check (ltb made 1024) TooMany
-      (Makes
-      (wire (Project (record { a = oneWire w; table = at + 1 })) (outputModulus w))
-      (Entries (modulusOf (oneWire w)) (outputModulus w)))))))
+-- select: the wire is counted here, and made by the branches word that follows
+abbrev pub selectWord : List ℕ → ℕ → Due → Step
+selectWord moduli w due =
+    check (clear w 27 10) UnknownWord
+    (check (gateDue due) NotDue
+    (check (isMade moduli (oneWire w)) NotMade
+    (check (eqb (modulusOf moduli (oneWire w)) 2) ModuliDiffer
+    (check (ltb (length moduli) 1024) TooMany
+    (Goes (Branches (oneWire w)))))))
 
-  -- the wire is counted here, and made by the branches word that follows
-  abbrev pub selectWord : Due → Step
-  selectWord due =
-      check (clear w 27 10) UnknownWord
-      (check (gateDue due) NotDue
-      (check (ltb (oneWire w) made) NotMade
-      (check (eqb (modulusOf (oneWire w)) 2) ModuliDiffer
-      (check (ltb made 1024) TooMany
-      (Goes (Branches (oneWire w)))))))
+-- branches: the wires of a selection by a bit, where they are due
+abbrev pub branchesWhere : List ℕ → ℕ → Due → Step
+branchesWhere moduli w Inputs = Refused NotDue
+branchesWhere moduli w Gates = Refused NotDue
+branchesWhere moduli w Outputs = Refused NotDue
+branchesWhere moduli w (Entries left modulus) = Refused NotDue
+branchesWhere moduli w (Branches bit) =
+    check (isMade moduli (wireA w) && isMade moduli (wireB w)) NotMade
+    (check (eqb (modulusOf moduli (wireA w)) (modulusOf moduli (wireB w))) ModuliDiffer
+    (Makes (wireOf (Select (record { bit = bit; a = wireA w; b = wireB w })) (modulusOf moduli (wireA w))) Gates))
 
-  -- the wires of a selection by a bit, where they are due
-  abbrev pub branchesWhere : Due → Step
-  branchesWhere Inputs = Refused NotDue
-  branchesWhere Gates = Refused NotDue
-  branchesWhere Outputs = Refused NotDue
-  branchesWhere (Entries left modulus) = Refused NotDue
-  branchesWhere (Branches bit) =
-      check (ltb (wireA w) made && ltb (wireB w) made) NotMade
-      (check (eqb (modulusOf (wireA w)) (modulusOf (wireB w))) ModuliDiffer
-      (Makes (wire (Select (record { bit = bit; a = wireA w; b = wireB w })) (modulusOf (wireA w))) Gates))
+abbrev pub branchesWord : List ℕ → ℕ → Due → Step
+branchesWord moduli w due = check (clear w 27 20) UnknownWord (branchesWhere moduli w due)
 
-  abbrev pub branchesWord : Due → Step
-  branchesWord due = check (clear w 27 20) UnknownWord (branchesWhere due)
+-- output, where so many are given
+abbrev pub outputWord : List ℕ → ℕ → Due → ℕ → Step
+outputWord moduli w due given =
+    check (clear w 27 10) UnknownWord
+    (check (outputDue due) NotDue
+    (check (isMade moduli (oneWire w)) NotMade
+    (check (ltb given 256) TooMany
+    (Gives (oneWire w)))))
 
-  -- `given` outputs are given
-  abbrev pub outputWord : Due → ℕ → Step
-  outputWord due given =
-      check (clear w 27 10) UnknownWord
-      (check (outputDue due) NotDue
-      (check (ltb (oneWire w) made) NotMade
-      (check (ltb given 256) TooMany
-      (Gives (oneWire w)))))
+-- end
+abbrev pub endWord : ℕ → Due → ℕ → Step
+endWord w due given =
+    check (clear w 27 0) UnknownWord
+    (check (endDue due) NotDue
+    (check (ltb 0 given) NoOutput
+    Ends))
 
 -- A word w at an index `at`, where the wires made so far have these moduli, `given` outputs are given, and `due` is due: what it
 -- does if it is of kind 0, 1, .. 11.
@@ -172,9 +176,9 @@ byKind moduli given at due w =
     Refused UnknownWord
     ∷ headWord w
     ∷ inputWord w due (length moduli)
-    ∷ pairWord moduli w due (Add (wires w))
+    ∷ pairWord moduli w due (Add (pairOf w))
     ∷ scaleWord moduli w due
-    ∷ pairWord moduli w due (Multiply (wires w))
+    ∷ pairWord moduli w due (Multiply (pairOf w))
     ∷ projectWord moduli w due at
     ∷ entryWord w due
     ∷ selectWord moduli w due

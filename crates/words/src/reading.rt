@@ -4,7 +4,7 @@ ghost use mathlib.Core.Bool.{_&&_};
 ghost use Prim.Native.Nat.{_+_, _≤_, _<_, _^_};
 ghost use lib.Dec.{ltb};
 ghost use lib.ListN.{getD, length, take};
-ghost use Rattle.words.specs.Reading.{check, wire, wires, headWord, inputWord, entryWhere, entryWord, endWord};
+ghost use Rattle.words.specs.Reading.{check, wireOf, pairOf, headWord, inputWord, entryWhere, entryWord, endWord};
 ghost use Rattle.words.specs.Reading.{pairWord, scaleWord, projectWord, selectWord, branchesWhere, branchesWord, outputWord};
 ghost use Rattle.words.specs.Reading.{readWord};
 use super::bits::both;
@@ -35,7 +35,7 @@ fn check(ok: bool, reason: Refusal, next: Step) -> Step
 }
 
 fn makes(gate: Gate, modulus: u8, due: Due) -> Step
-    ensures { λ r. ⌜ r ≡ Step.Makes (wire gate modulus) due ⌝ }
+    ensures { λ r. ⌜ r ≡ Step.Makes (wireOf gate modulus) due ⌝ }
 {
     Step::Makes(Wire { gate, modulus }, due)
 }
@@ -295,7 +295,7 @@ fn end_word(w: u32, due: Due, given: usize) -> Step
 }
 
 fn pair(w: u32) -> Pair
-    ensures { λ r. ⌜ r ≡ wires w ⌝ }
+    ensures { λ r. ⌜ r ≡ pairOf w ⌝ }
 {
     Pair {
         a: wire_from(w, 10),

@@ -8,8 +8,8 @@ use Rattle.lists.specs.Blocks.{blocks}
 use Rattle.words.specs.declared.gate.Wire.{Wire}
 use Rattle.circuit.specs.declared.Circuit.{Circuit}
 use Rattle.circuit.specs.Accepted.{AcceptedCircuit}
+use Rattle.circuit.specs.Held.{wiresIn, outputsIn, Held}
 use Rattle.session.specs.Sizes.{Sizes}
-use Rattle.session.specs.Held.{wiresIn, outputsIn, Held}
 use Rattle.scheme.specs.Contribution.{contributionSize}
 use Rattle.scheme.specs.Draw.{Draw, drawn}
 use Rattle.scheme.specs.Zero.{zeroKey, masksTo}

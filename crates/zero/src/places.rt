@@ -2,8 +2,8 @@
 ghost use mathlib.Core.Path.{_≡_};
 ghost use Prim.Native.Nat.{_+_, _*_, _≤_};
 ghost use Rattle.counts.specs.Recipe.{recipe};
-ghost use Rattle.counts.specs.Counts.{recordKeysBy, Room};
-ghost use Rattle.session.specs.Held.{wiresIn};
+ghost use Rattle.circuit.specs.Held.{wiresIn, Room};
+ghost use Rattle.counts.specs.Counts.{recordKeysBy};
 ghost use Rattle.scheme.specs.Contribution.{recordAt};
 use circuit::Circuit;
 use words::Wire;

@@ -1,7 +1,6 @@
 -- `calls::summary::summary_of` meets its contract: the first word decides, or the words after it do.
 -- Assumes nothing.
-use mathlib.Core.Path.{sym, _∙_}
-use native.Mathlib.Omega.{arith}
+use mathlib.Core.Path.{_∙_}
 use borrow.Author.Needs.{needs}
 use Rattle.circuit.proofs.Turn.{no-word, no-head}
 use Rattle.calls.proofs.Kept.{refused-counts}

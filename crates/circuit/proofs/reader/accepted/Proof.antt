@@ -11,12 +11,12 @@ returns c =
     record {
       answer = refl;
       wires = refl;
-      made = sym (length-take-le _ _ (omega (arith, c .pre .wiresRoom, c .pre .wiresMade)));
-      inputs = c .pre .inputsCounted;
+      made = sym (length-take-le _ _ (omega (arith, c .pre .0 .room .wires, c .pre .0 .room .made)));
+      inputs = c .pre .0 .inputs;
       outputs = refl;
-      given = sym (length-take-le _ _ (omega (arith, c .pre .outputsRoom, c .pre .outputsGiven)));
-      roomForWires = c .pre .wiresRoom;
-      roomForOutputs = c .pre .outputsRoom;
+      given = sym (length-take-le _ _ (omega (arith, c .pre .0 .outputs, c .pre .0 .given)));
+      held = c .pre .0;
+      blank = c .pre .1;
     }
 
 pub accepted-spec : {M : Type 1} → statement M

@@ -9,7 +9,8 @@ use borrow.Author.Needs.{needs}
 use lib.ListN.{take}
 use Rattle.words.specs.declared.gate.Step.{Step}
 use Rattle.circuit.specs.Wires.{isInput}
-use Rattle.circuit.specs.File.{Holds, wordsIn}
+use Rattle.circuit.specs.File.{wordsIn}
+use Rattle.circuit.specs.Held.{Holds}
 use Rattle.circuit.proofs.Turn.{Loop, Turn, near, few, turn, stopped, wire-room, output-room, made-one, gone, given-one, ended-well, ended-early, ran-out, start}
 use Rattle.circuit.proofs.Entry.{ran}
 use Rattle.circuit.proofs.reader.read_rest.Statement.{statement}
@@ -21,32 +22,6 @@ Inv-loop file words wires₀ moduli₀ outputs₀ made₀ inputs₀ given₀ due
 
 abbrev μ-loop : tie.MeasureT-loop
 μ-loop file words wires₀ moduli₀ outputs₀ made₀ inputs₀ given₀ due₀ at₀ wires moduli outputs made inputs given due at = words - at
-
-loop-holds : tie.Need-loop-holds Inv-loop μ-loop
-loop-holds c =
-    (refl, start _ _ _ _ (c .before .before .no-wires .ensures) (c .before .no-moduli .ensures) (c .no-outputs .ensures) (c .before .before .before .before .pre))
-
-add-at : tie.Need-add-at Inv-loop μ-loop
-add-at c =
-    let l = c .before .before .before .before .before .before .before .loop .inv .1 in
-    omega (arith, c .before .before .entries-here .ensures .most, l .inside, c .before .before .before .before .before .before .before .before .before .before .before .before .good)
-
-loop-less : tie.Need-loop-less Inv-loop μ-loop
-loop-less c =
-    omega (arith, c .before .before .before .before .before .before .loop-test .taken, c .before .if1 .taken)
-
-loop-again : tie.Need-loop-again Inv-loop μ-loop
-loop-again c =
-    let l = c .before .before .before .before .before .before .before .loop .inv .1 in (
-      c .before .before .before .before .before .before .before .loop .inv .0,
-      rw (c .after-run .ensures) (ran l _ _ (c .before .before .entries-here .result)
-          (c .before .before .before .before .expected .given .1) (c .before .if1 .taken) (c .before .before .entries-here .ensures)),
-    )
-
-read-word-requires : tie.Need-read-word-requires Inv-loop μ-loop
-read-word-requires c κs =
-    let l = c .before .before .before .before .loop .inv .1 in
-    omega (arith, near l, l .moduliRoom, l .madeWithin)
 
 -- what the word at hand does
 turned :
@@ -70,94 +45,6 @@ small : (b : Bool) {n : ℕ} → n ≡ cond b 1 0 → n ≤ 1
 small true e = omega arith
 small false e = omega arith
 
-returns : tie.Need-returns Inv-loop μ-loop
-returns c =
-    let l = c .before .before .before .before .before .before .before .before .before .loop .inv .1 in
-    subst (Holds _) (stopped l (turned (c .before .before .before .before) _ (c .before .before .reason .given .1))) (c .refused .ensures)
-
-mul-wires : tie.Need-mul-wires Inv-loop μ-loop
-mul-wires c =
-    let l = c .before .before .before .before .before .before .before .before .loop .inv .1 in
-    omega (arith, l .madeWithin)
-
-array-set-from-wires : tie.Need-array-set-from-wires Inv-loop μ-loop
-array-set-from-wires c =
-    let l = c .before .before .before .before .before .before .before .before .loop .inv .1 in
-    wire-room l (turned (c .before .before .before) _ (c .before .wire .given .1))
-
-array-write-moduli : tie.Need-array-write-moduli Inv-loop μ-loop
-array-write-moduli c =
-    let l = c .before .before .before .before .before .before .before .before .loop .inv .1 in
-    wire-room l (turned (c .before .before .before) _ (c .before .wire .given .1))
-
-add-inputs : tie.Need-add-inputs Inv-loop μ-loop
-add-inputs c =
-    let l = c .before .before .before .before .before .before .before .before .before .loop .inv .1 in
-    omega (arith, few l, small (isInput (c .before .before .wire .given .0 .0 .gate)) (c .inputs-of .ensures))
-
-add-made : tie.Need-add-made Inv-loop μ-loop
-add-made c =
-    let l = c .before .before .before .before .before .before .before .before .before .loop .inv .1 in
-    omega (arith, l .madeWithin)
-
-loop-again-2 : tie.Need-loop-again-2 Inv-loop μ-loop
-loop-again-2 c =
-    let l = c .before .before .before .before .before .before .before .before .before .loop .inv .1 in (
-      c .before .before .before .before .before .before .before .before .before .loop .inv .0,
-      rw (c .inputs-of .ensures) (made-one l (turned (c .before .before .before .before) _ (c .before .before .wire .given .1))),
-    )
-
-loop-again-3 : tie.Need-loop-again-3 Inv-loop μ-loop
-loop-again-3 c =
-    let l = c .before .before .before .before .before .before .before .before .loop .inv .1 in (
-      c .before .before .before .before .before .before .before .before .loop .inv .0,
-      gone l (turned (c .before .before .before) _ (c .before .then .given .1)),
-    )
-
-mul-outputs : tie.Need-mul-outputs Inv-loop μ-loop
-mul-outputs c =
-    let l = c .before .before .before .before .before .before .before .before .loop .inv .1 in
-    omega (arith, l .givenWithin)
-
-array-write-outputs : tie.Need-array-write-outputs Inv-loop μ-loop
-array-write-outputs c =
-    let l = c .before .before .before .before .before .before .before .before .loop .inv .1 in
-    output-room l (turned (c .before .before .before) _ (c .before .wire2 .given .1))
-
-add-given : tie.Need-add-given Inv-loop μ-loop
-add-given c =
-    let l = c .before .before .before .before .before .before .before .before .loop .inv .1 in
-    omega (arith, l .givenWithin)
-
-loop-again-4 : tie.Need-loop-again-4 Inv-loop μ-loop
-loop-again-4 c =
-    let l = c .before .before .before .before .before .before .before .before .loop .inv .1 in (
-      c .before .before .before .before .before .before .before .before .loop .inv .0,
-      given-one l (turned (c .before .before .before) _ (c .before .wire2 .given .1)),
-    )
-
-accepted-requires : tie.Need-accepted-requires Inv-loop μ-loop
-accepted-requires c κs =
-    let l = c .before .before .before .before .before .before .before .before .loop .inv .1 in
-    record { wiresRoom = l .wiresRoom; outputsRoom = l .outputsRoom; wiresMade = l .madeWithin; outputsGiven = l .givenWithin; inputsCounted = l .count }
-
-returns-2 : tie.Need-returns-2 Inv-loop μ-loop
-returns-2 c =
-    let l = c .before .before .before .before .before .before .before .before .before .loop .inv .1 in
-    subst (Holds _) (ended-well l (turned (c .before .before .before .before) _ (c .before .before .enum-told .given .1)) (c .before .if2 .taken))
-    (c .accepted .ensures)
-
-returns-3 : tie.Need-returns-3 Inv-loop μ-loop
-returns-3 c =
-    let l = c .before .before .before .before .before .before .before .before .before .loop .inv .1 in
-    subst (Holds _) (ended-early l (turned (c .before .before .before .before) _ (c .before .before .enum-told .given .1)) (c .before .if2 .left))
-    (c .refused2 .ensures)
-
-returns-4 : tie.Need-returns-4 Inv-loop μ-loop
-returns-4 c =
-    subst (Holds _) (ran-out (c .before .before .loop .inv .1) (omega (arith, c .before .before .loop .inv .0, c .before .loop-test .left)))
-    (c .refused3 .ensures)
-
 pub read-rest-spec : {M : Type 1} → statement M
 read-rest-spec =
     tie.close
@@ -167,44 +54,97 @@ read-rest-spec =
     (λ c κs. search needs)
     (λ c κs. search needs)
     (λ c κs. search needs)
-    loop-holds
+    (λ c.
+    (refl, start _ _ _ _ (c .before .before .no-wires .ensures) (c .before .no-moduli .ensures) (c .no-outputs .ensures) (c .before .before .before .before .pre)))
     (λ c. search needs)
     (λ c κs. c .before .before .before .before .loop .inv .1 .inside)
     (λ c κs. search needs)
-    add-at
-    loop-less
-    loop-again
+    (λ c.
+    let l = c .before .before .before .before .before .before .before .loop .inv .1 in
+    omega (arith, c .before .before .entries-here .ensures .most, l .inside, c .before .before .before .before .before .before .before .before .before .before .before .before .good))
+    (λ c.
+    omega (arith, c .before .before .before .before .before .before .loop-test .taken, c .before .if1 .taken))
+    (λ c.
+    let l = c .before .before .before .before .before .before .before .loop .inv .1 in (
+      c .before .before .before .before .before .before .before .loop .inv .0,
+      rw (c .after-run .ensures) (ran l _ _ (c .before .before .entries-here .result)
+          (c .before .before .before .before .expected .given .1) (c .before .if1 .taken) (c .before .before .entries-here .ensures)),
+    ))
     (λ c. omega (arith, near (c .before .before .loop .inv .1)))
     (λ c κs. omega (arith, c .before .before .loop .inv .0, c .before .loop-test .taken))
     (λ c. sym (c .before .before .before .before .loop .inv .1 .moduliRoom))
     (λ c. omega (arith, near (c .before .before .before .before .loop .inv .1)))
-    read-word-requires
+    (λ c κs.
+    let l = c .before .before .before .before .loop .inv .1 in
+    omega (arith, near l, l .moduliRoom, l .madeWithin))
     (λ c. search needs)
     (λ c κs. search needs)
-    returns
+    (λ c.
+    let l = c .before .before .before .before .before .before .before .before .before .loop .inv .1 in
+    subst (Holds _) (stopped l (turned (c .before .before .before .before) _ (c .before .before .reason .given .1))) (c .refused .ensures))
     (λ c. search needs)
-    mul-wires
-    array-set-from-wires
-    array-write-moduli
+    (λ c.
+    let l = c .before .before .before .before .before .before .before .before .loop .inv .1 in
+    omega (arith, l .madeWithin))
+    (λ c.
+    let l = c .before .before .before .before .before .before .before .before .loop .inv .1 in
+    wire-room l (turned (c .before .before .before) _ (c .before .wire .given .1)))
+    (λ c.
+    let l = c .before .before .before .before .before .before .before .before .loop .inv .1 in
+    wire-room l (turned (c .before .before .before) _ (c .before .wire .given .1)))
     (λ c κs. search needs)
-    add-inputs
-    add-made
+    (λ c.
+    let l = c .before .before .before .before .before .before .before .before .before .loop .inv .1 in
+    omega (arith, few l, small (isInput (c .before .before .wire .given .0 .0 .gate)) (c .inputs-of .ensures)))
+    (λ c.
+    let l = c .before .before .before .before .before .before .before .before .before .loop .inv .1 in
+    omega (arith, l .madeWithin))
     (λ c. omega (arith, c .before .before .before .before .before .before .before .before .loop-test .taken))
-    loop-again-2
+    (λ c.
+    let l = c .before .before .before .before .before .before .before .before .before .loop .inv .1 in (
+      c .before .before .before .before .before .before .before .before .before .loop .inv .0,
+      rw (c .inputs-of .ensures) (made-one l (turned (c .before .before .before .before) _ (c .before .before .wire .given .1))),
+    ))
     (λ c. search needs)
     (λ c. omega (arith, c .before .before .before .before .before .before .before .loop-test .taken))
-    loop-again-3
+    (λ c.
+    let l = c .before .before .before .before .before .before .before .before .loop .inv .1 in (
+      c .before .before .before .before .before .before .before .before .loop .inv .0,
+      gone l (turned (c .before .before .before) _ (c .before .then .given .1)),
+    ))
     (λ c. search needs)
-    mul-outputs
-    array-write-outputs
-    add-given
+    (λ c.
+    let l = c .before .before .before .before .before .before .before .before .loop .inv .1 in
+    omega (arith, l .givenWithin))
+    (λ c.
+    let l = c .before .before .before .before .before .before .before .before .loop .inv .1 in
+    output-room l (turned (c .before .before .before) _ (c .before .wire2 .given .1)))
+    (λ c.
+    let l = c .before .before .before .before .before .before .before .before .loop .inv .1 in
+    omega (arith, l .givenWithin))
     (λ c. omega (arith, c .before .before .before .before .before .before .before .loop-test .taken))
-    loop-again-4
+    (λ c.
+    let l = c .before .before .before .before .before .before .before .before .loop .inv .1 in (
+      c .before .before .before .before .before .before .before .before .loop .inv .0,
+      given-one l (turned (c .before .before .before) _ (c .before .wire2 .given .1)),
+    ))
     (λ c. search needs)
     (λ c. omega (arith, near (c .before .before .before .before .before .before .before .loop .inv .1)))
-    accepted-requires
-    returns-2
+    (λ c κs.
+    let l = c .before .before .before .before .before .before .before .before .loop .inv .1 in (
+      record { room = record { made = l .madeWithin; wires = l .wiresRoom }; inputs = l .count; given = l .givenWithin; outputs = l .outputsRoom },
+      record { wires = l .wiresBlank; outputs = l .outputsBlank },
+    ))
+    (λ c.
+    let l = c .before .before .before .before .before .before .before .before .before .loop .inv .1 in
+    subst (Holds _) (ended-well l (turned (c .before .before .before .before) _ (c .before .before .enum-told .given .1)) (c .before .if2 .taken))
+    (c .accepted .ensures))
     (λ c κs. search needs)
-    returns-3
+    (λ c.
+    let l = c .before .before .before .before .before .before .before .before .before .loop .inv .1 in
+    subst (Holds _) (ended-early l (turned (c .before .before .before .before) _ (c .before .before .enum-told .given .1)) (c .before .if2 .left))
+    (c .refused2 .ensures))
     (λ c κs. search needs)
-    returns-4)
+    (λ c.
+    subst (Holds _) (ran-out (c .before .before .loop .inv .1) (omega (arith, c .before .before .loop .inv .0, c .before .loop-test .left)))
+    (c .refused3 .ensures)))

@@ -1,5 +1,5 @@
 -- `contribution::contributions_checked` meets its contract: the first that was found is named. Assumes nothing.
-use Rattle.session.specs.Held.{wiresIn}
+use Rattle.circuit.specs.Held.{wiresIn}
 use Rattle.contribution.proofs.Large.{contributions-met}
 use borrow.Author.Needs.{needs}
 use Rattle.contribution.proofs.contributed.contributions_checked.Statement.{statement}

@@ -1,6 +1,6 @@
 -- `contribution::first_in_contribution` meets its contract: a search in two parts. Assumes nothing.
 use native.Mathlib.Omega.{arith}
-use Rattle.session.specs.Held.{wiresIn}
+use Rattle.circuit.specs.Held.{wiresIn}
 use Rattle.contribution.proofs.Joined.{split-fits, front-size, front-long, rest-long, rest-fits, in-offsets, in-records}
 use borrow.Author.Needs.{needs}
 use Rattle.contribution.proofs.contributed.first_in_contribution.Statement.{statement}

@@ -4,7 +4,7 @@ use mathlib.Core.Path.{refl, sym, _∙_}
 use Prim.Native.Nat.{_-_}
 use Rattle.lists.specs.Blocks.{blocks}
 use Rattle.lists.proofs.Sums.{sumTo-const}
-use Rattle.session.specs.Held.{wiresIn}
+use Rattle.circuit.specs.Held.{wiresIn}
 use Rattle.scheme.specs.Contribution.{contributionSize, contributionModuli}
 use Rattle.scheme.proofs.ByteModuli.{length-contributionModuli}
 use Rattle.contribution.proofs.Runs.{Searched, searched-start, searched-fits, searched-long, searched-done, block-on, block-found}

@@ -6,7 +6,7 @@ use Prim.Native.Nat.{ℕ, _-_, _*_}
 use lib.ListN.{getD}
 use Rattle.lists.specs.Blocks.{runs}
 use Rattle.counts.specs.Moduli.{used}
-use Rattle.session.specs.Held.{wiresIn}
+use Rattle.circuit.specs.Held.{wiresIn}
 use Rattle.contribution.specs.Large.{firstLarge}
 use Rattle.contribution.proofs.Sizes.{times-most}
 use Rattle.contribution.proofs.Wired.{marks-room, marks-runs}

@@ -6,8 +6,8 @@ use lib.ListN.{length}
 use Rattle.lists.specs.Blocks.{runs}
 use Rattle.lists.proofs.Sums.{sumTo-times}
 use Rattle.circuit.specs.Wires.{modulusAt}
+use Rattle.circuit.specs.Held.{wiresIn}
 use Rattle.counts.specs.Counts.{recordKeysOf}
-use Rattle.session.specs.Held.{wiresIn}
 use Rattle.contribution.proofs.Sizes.{times-most}
 use Rattle.contribution.proofs.Wired.{made-are, modulus-is, records-are}
 use Rattle.contribution.proofs.Runs.{Searched, searched-start, searched-fits, searched-done, run-on, run-found}

@@ -5,7 +5,7 @@ use Prim.Native.Nat.{_-_}
 use Rattle.lists.specs.Blocks.{runs}
 use Rattle.lists.proofs.Sums.{sumTo-const}
 use Rattle.circuit.specs.Wires.{inputsIn, modulusAt}
-use Rattle.session.specs.Held.{wiresIn}
+use Rattle.circuit.specs.Held.{wiresIn}
 use Rattle.session.proofs.Circuits.{inputs-made}
 use Rattle.contribution.proofs.Wired.{modulus-is}
 use Rattle.contribution.proofs.Runs.{Searched, searched-start, searched-fits, searched-done, run-on, run-found}

@@ -5,8 +5,8 @@ use Prim.Native.Nat.{_-_, _*_}
 use lib.ListN.{length}
 use Rattle.lists.specs.Blocks.{runs}
 use Rattle.circuit.specs.Wires.{modulusAt}
+use Rattle.circuit.specs.Held.{wiresIn}
 use Rattle.counts.specs.Counts.{rowsOf}
-use Rattle.session.specs.Held.{wiresIn}
 use Rattle.contribution.proofs.Sizes.{times-most}
 use Rattle.contribution.proofs.Wired.{sumTo-times-right, made-are, modulus-is, rows-are}
 use Rattle.contribution.proofs.Runs.{Searched, searched-start, searched-fits, searched-done, run-on, run-found}

@@ -1,6 +1,6 @@
 -- `contribution::rows_checked` meets its contract: the first that was found is named. Assumes nothing.
 use native.Mathlib.Omega.{arith}
-use Rattle.session.specs.Held.{wiresIn}
+use Rattle.circuit.specs.Held.{wiresIn}
 use Rattle.contribution.proofs.Sizes.{times-most}
 use Rattle.contribution.proofs.Large.{rows-met}
 use borrow.Author.Needs.{needs}

@@ -3,7 +3,7 @@ use native.Mathlib.Omega.{arith}
 use mathlib.Core.Path.{sym, ap, _∙_}
 use Prim.Native.Nat.{ℕ, _-_, _*_}
 use Rattle.lists.proofs.Search.{Looking, looking-start, looking-on, looking-found, looking-none}
-use Rattle.session.specs.Held.{wiresIn}
+use Rattle.circuit.specs.Held.{wiresIn}
 use Rattle.contribution.proofs.Sizes.{times-most}
 use Rattle.contribution.proofs.Offsets.{zeroMarked, marked-is, marked-fits, zero-same, zero-found}
 use Rattle.contribution.proofs.offset.first_zero.Statement.{statement}

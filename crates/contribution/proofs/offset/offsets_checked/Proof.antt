@@ -1,5 +1,5 @@
 -- `contribution::offsets_checked` meets its contract: the first that was found is named. Assumes nothing.
-use Rattle.session.specs.Held.{wiresIn}
+use Rattle.circuit.specs.Held.{wiresIn}
 use Rattle.contribution.proofs.Offsets.{offsets-met}
 use borrow.Author.Needs.{needs}
 use Rattle.contribution.proofs.offset.offsets_checked.Statement.{statement}

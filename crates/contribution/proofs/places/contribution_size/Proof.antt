@@ -1,6 +1,6 @@
 -- `contribution::contribution_size` meets its contract: the law of the size, and the bounds of its two products. Assumes nothing.
 use native.Mathlib.Omega.{arith}
-use Rattle.session.specs.Held.{wiresIn}
+use Rattle.circuit.specs.Held.{wiresIn}
 use Rattle.contribution.proofs.Sizes.{offsets-most, records-most, size-counts}
 use borrow.Author.Needs.{needs}
 use Rattle.contribution.proofs.places.contribution_size.Statement.{statement}

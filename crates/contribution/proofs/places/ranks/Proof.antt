@@ -3,7 +3,7 @@ use native.Mathlib.Omega.{arith}
 use Prim.Native.Nat.{_+_, _-_}
 use Rattle.lists.proofs.Filled.{Filled}
 use Rattle.counts.specs.Moduli.{used}
-use Rattle.session.specs.Held.{wiresIn}
+use Rattle.circuit.specs.Held.{wiresIn}
 use Rattle.contribution.proofs.Sizes.{ranked, ranks-start, ranks-fit, ranks-step, ranks-done}
 use Rattle.contribution.proofs.places.ranks.Statement.{statement}
 use Rattle.contribution.proofs.places.ranks.Tie as tie

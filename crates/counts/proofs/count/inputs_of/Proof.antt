@@ -2,8 +2,8 @@
 use mathlib.Core.Path.{refl, sym, ap}
 use Prim.Native.Nat.{_-_}
 use native.Mathlib.Omega.{arith}
-use lib.ListN.{take}
 use Rattle.circuit.specs.Wires.{wireAt}
+use Rattle.circuit.specs.Held.{wiresIn}
 use Rattle.counts.specs.Counts.{mark, ownedBy}
 use Rattle.words.specs.declared.gate.Wire.{Wire}
 use Rattle.counts.proofs.Wires.{wire-at}
@@ -12,7 +12,7 @@ use Rattle.counts.proofs.count.inputs_of.Statement.{statement}
 use Rattle.counts.proofs.count.inputs_of.Tie as tie
 
 abbrev Inv-loop : tie.InvT-loop
-Inv-loop party circuit made total₀ w₀ total w = Summed 1 (λ i. mark (ownedBy party (wireAt (take (circuit .made) (circuit .wires)) i .gate))) (circuit .made) w total
+Inv-loop party circuit made total₀ w₀ total w = Summed 1 (λ i. mark (ownedBy party (wireAt (wiresIn circuit) i .gate))) (circuit .made) w total
 
 abbrev μ-loop : tie.MeasureT-loop
 μ-loop party circuit made total₀ w₀ total w = circuit .made - w

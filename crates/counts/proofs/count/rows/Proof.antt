@@ -2,14 +2,14 @@
 use mathlib.Core.Path.{refl}
 use Prim.Native.Nat.{_-_}
 use native.Mathlib.Omega.{arith}
-use lib.ListN.{take}
+use Rattle.circuit.specs.Held.{wiresIn}
 use Rattle.counts.specs.Counts.{rowsOf}
 use Rattle.counts.proofs.Counting.{Summed, summed-start, summed-step, summed-done, rows-at}
 use Rattle.counts.proofs.count.rows.Statement.{statement}
 use Rattle.counts.proofs.count.rows.Tie as tie
 
 abbrev Inv-loop : tie.InvT-loop
-Inv-loop circuit table made total₀ w₀ total w = Summed 512 (rowsOf (take (circuit .made) (circuit .wires))) (circuit .made) w total
+Inv-loop circuit table made total₀ w₀ total w = Summed 512 (rowsOf (wiresIn circuit)) (circuit .made) w total
 
 abbrev μ-loop : tie.MeasureT-loop
 μ-loop circuit table made total₀ w₀ total w = circuit .made - w

@@ -2,14 +2,14 @@
 use mathlib.Core.Path.{_≡_}
 use Prim.Native.Nat.{_≤_, _-_}
 use native.Mathlib.Omega.{arith}
-use lib.ListN.{take}
 use Rattle.circuit.specs.Wires.{modulusAt}
+use Rattle.circuit.specs.Held.{wiresIn}
 use Rattle.counts.proofs.Marked.{marked, marks-start, marks-step, marks-done}
 use Rattle.counts.proofs.modulus.marks.Statement.{statement}
 use Rattle.counts.proofs.modulus.marks.Tie as tie
 
 abbrev Inv-loop : tie.InvT-loop
-Inv-loop circuit marks₀ made w₀ marks w = (w ≤ circuit .made) × (marks ≡ marked 256 (modulusAt (take (circuit .made) (circuit .wires))) w)
+Inv-loop circuit marks₀ made w₀ marks w = (w ≤ circuit .made) × (marks ≡ marked 256 (modulusAt (wiresIn circuit)) w)
 
 abbrev μ-loop : tie.MeasureT-loop
 μ-loop circuit marks₀ made w₀ marks w = circuit .made - w

@@ -1,15 +1,15 @@
 -- `counts::moduli` meets its contract: a loop that fills the table wire by wire. Assumes nothing.
 use Prim.Native.Nat.{_-_}
 use native.Mathlib.Omega.{arith}
-use lib.ListN.{take}
 use Rattle.circuit.specs.Wires.{moduliOf}
+use Rattle.circuit.specs.Held.{wiresIn}
 use Rattle.lists.proofs.Filled.{Filled}
 use Rattle.counts.proofs.Wires.{moduli-start, moduli-step, moduli-done}
 use Rattle.counts.proofs.modulus.moduli.Statement.{statement}
 use Rattle.counts.proofs.modulus.moduli.Tie as tie
 
 abbrev Inv-loop : tie.InvT-loop
-Inv-loop circuit moduli₀ made w₀ moduli w = Filled moduli₀ w (circuit .made) (moduliOf (take (circuit .made) (circuit .wires))) moduli
+Inv-loop circuit moduli₀ made w₀ moduli w = Filled moduli₀ w (circuit .made) (moduliOf (wiresIn circuit)) moduli
 
 abbrev μ-loop : tie.MeasureT-loop
 μ-loop circuit moduli₀ made w₀ moduli w = circuit .made - w

@@ -1,5 +1,5 @@
 -- `counts::moduli_used` meets its contract: the marks that are set are those of the moduli in use. Assumes nothing.
-use lib.ListN.{take}
+use Rattle.circuit.specs.Held.{wiresIn}
 use Rattle.counts.specs.Moduli.{used}
 use Rattle.counts.proofs.Marked.{marks-summed}
 use Rattle.counts.proofs.modulus.moduli_used.Statement.{statement}
@@ -11,4 +11,4 @@ moduli-used-spec =
     (tie.spec
     (λ c κs. c .pre)
     (λ c κs. tt)
-    (λ c. marks-summed 256 (used (take (c .before .before .args .circuit .made) (c .before .before .args .circuit .wires))) (c .before .marks .ensures) (c .marks-set .ensures)))
+    (λ c. marks-summed 256 (used (wiresIn (c .before .before .args .circuit))) (c .before .marks .ensures) (c .marks-set .ensures)))

@@ -1,5 +1,5 @@
 -- `counts::tally::rows_after` meets its contract. Assumes nothing.
-use borrow.Author.Needs.{needs, counted-is}
+use borrow.Author.Needs.{needs}
 use lib.Seq.{length-take-le}
 use Rattle.counts.proofs.tally.rows_after.Statement.{statement}
 use Rattle.counts.proofs.tally.rows_after.Tie as tie

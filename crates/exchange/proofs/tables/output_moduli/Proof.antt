@@ -5,7 +5,7 @@ use lib.ListN.{getD}
 use Rattle.lists.specs.Blocks.{tab}
 use Rattle.lists.proofs.Filled.{Filled}
 use Rattle.circuit.specs.Wires.{modulusAt}
-use Rattle.session.specs.Held.{wiresIn, outputsIn}
+use Rattle.circuit.specs.Held.{wiresIn, outputsIn}
 use Rattle.exchange.proofs.TableLoops.{outputs-start, outputs-step, outputs-front}
 use Rattle.exchange.proofs.tables.output_moduli.Statement.{statement}
 use Rattle.exchange.proofs.tables.output_moduli.Tie as tie

@@ -2,7 +2,7 @@
 use mathlib.Core.Path.{_∙_}
 use Prim.Native.Nat.{_-_, _≤_}
 use native.Mathlib.Omega.{arith}
-use Rattle.session.specs.Held.{wiresIn}
+use Rattle.circuit.specs.Held.{wiresIn}
 use Rattle.exchange.proofs.TableLoops.{OwnTo, own-start, own-step, own-front}
 use Rattle.exchange.proofs.tables.own_moduli.Statement.{statement}
 use Rattle.exchange.proofs.tables.own_moduli.Tie as tie

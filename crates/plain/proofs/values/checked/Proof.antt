@@ -1,5 +1,6 @@
 -- `plain::checked` meets its contract: a wrong length, or what the check of the values answers. Assumes nothing.
-use Rattle.plain.proofs.Ending.{wrong-values, wrong-outputs, values-fit, values-left}
+use borrow.Author.Needs.{needs}
+use Rattle.plain.proofs.Ending.{lent-stops, values-fit, values-left}
 use Rattle.plain.proofs.values.checked.Statement.{statement}
 use Rattle.plain.proofs.values.checked.Tie as tie
 
@@ -7,7 +8,11 @@ pub checked-spec : {M : Type 1} → statement M
 checked-spec =
     tie.close
     (tie.spec
-    (λ c. wrong-values (c .before .before .before .pre) (c .before .before .before .args .values .now) (c .before .before .before .args .bytes) (c .if1 .taken))
-    (λ c. wrong-outputs (c .before .before .before .before .before .pre) (c .before .before .before .before .before .args .values .now) (c .before .before .before .before .before .args .bytes) (c .before .before .if1 .left) (c .if2 .taken))
-    (λ c κs. (c .before .before .before .before .before .pre .room, values-fit (c .before .before .before .before .before .pre) (c .before .before .before .before .before .args .values .now) (c .before .before .before .before .before .args .bytes) (c .before .before .if1 .left)))
-    (λ c. values-left (c .before .before .before .before .before .before .pre) (c .before .before .before .before .before .before .args .values .now) (c .before .before .before .before .before .before .args .bytes) (c .before .before .before .if1 .left) (c .before .if2 .left) (c .values-checked .ensures)))
+    (λ c κs. tt)
+    (λ c κs. tt)
+    (λ c κs. tt)
+    (λ c. search needs)
+    (λ c κs. (c .before .before .before .before .before .before .pre .room, values-fit (c .before .before .before .before .before .before .pre) (c .before .before .before .before .before .before .args .values .now) (c .before .before .before .before .before .before .args .bytes) (c .before .before .before .before .length-checked .ensures) (c .before .before .before .length-checked2 .ensures) (c .before .before .followed .ensures) (c .enum-told .given .1)))
+    (λ c. search needs)
+    (λ c. values-left (c .before .before .before .before .before .before .before .pre) (c .before .before .before .before .before .before .before .args .values .now) (c .before .before .before .before .before .before .before .args .bytes) (c .before .before .before .before .before .length-checked .ensures) (c .before .before .before .before .length-checked2 .ensures) (c .before .before .before .followed .ensures) (c .before .enum-told .given .1) (c .values-checked .ensures))
+    (λ c. lent-stops (c .before .before .before .before .before .before .before .pre) (c .before .before .before .before .before .before .before .args .values .now) (c .before .before .before .before .before .before .before .args .bytes) (c .before .before .before .before .before .length-checked .ensures) (c .before .before .before .before .length-checked2 .ensures) (c .before .before .before .followed .ensures) (c .before .lent .given .1)))

@@ -1,5 +1,5 @@
 -- `ring::draws_checked` meets its contract: the checks in their order. Assumes nothing.
-use Rattle.session.specs.Held.{wiresIn, outputsIn}
+use Rattle.circuit.specs.Held.{wiresIn, outputsIn}
 use Rattle.ring.proofs.Garbles.{draws-met}
 use Rattle.ring.proofs.garbled.draws_checked.Statement.{statement}
 use Rattle.ring.proofs.garbled.draws_checked.Tie as tie

@@ -1,6 +1,6 @@
 -- `ring::meter_checked` meets its contract: the rows fit in what is left, or they do not. Assumes nothing.
 use mathlib.Core.Path.{refl}
-use Rattle.session.specs.Held.{wiresIn}
+use Rattle.circuit.specs.Held.{wiresIn}
 use Rattle.ring.proofs.Garbles.{meter-met, meter-full}
 use borrow.Author.Needs.{needs}
 use Rattle.ring.proofs.garbled.meter_checked.Statement.{statement}

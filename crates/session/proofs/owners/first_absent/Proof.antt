@@ -1,6 +1,6 @@
 -- `session::first_absent` meets its contract: a loop that looks for the first. Assumes nothing.
 use mathlib.Core.Path.{_∙_}
-use Prim.Native.Nat.{ℕ, _-_}
+use Prim.Native.Nat.{_-_}
 use native.Mathlib.Omega.{arith}
 use Rattle.lists.proofs.Search.{Looking, looking-start, looking-on, looking-found, looking-none}
 use Rattle.session.proofs.Searches.{absentAt, absent-is}

@@ -1,6 +1,6 @@
 -- `words::reading::entry_where` meets its contract: each arm is told what is due.
 -- Assumes nothing.
-use mathlib.Core.Path.{ap, sym, _∙_}
+use mathlib.Core.Path.{ap, sym}
 use Rattle.words.specs.Reading.{entryWhere}
 use lib.Dec.{lit<}
 use borrow.Author.Needs.{needs}

@@ -10,7 +10,6 @@ use lib.Seq.{length-take-le}
 use borrow.Author.Needs.{needs}
 use Rattle.checks.specs.declared.Refusal.the-variants.{UnknownWord}
 use Rattle.words.specs.declared.gate.Gate.the-variants.{Add, Multiply}
-use Rattle.words.specs.declared.gate.Step.{Step}
 use Rattle.words.specs.declared.gate.Step.the-variants.{Refused}
 use Rattle.words.specs.Bits.{kind}
 use Rattle.words.specs.Reading.{inputWord, pairWord, byKind, readWord}

@@ -11,71 +11,53 @@ use Rattle.words.specs.declared.gate.Gate.the-variants.{Scale}
 use Rattle.words.specs.declared.gate.Due.the-variants.{Gates}
 use Rattle.words.specs.declared.gate.Step.the-variants.{Makes}
 use Rattle.words.specs.Bits.{constant}
-use Rattle.words.specs.Reading.{wire}
+use Rattle.words.specs.Reading.{wireOf}
 use Rattle.words.proofs.Steps.{failed, in-bounds, modulus-told, no-room, not-failed, not-passed, one-made, passed, room-left}
 use Rattle.words.proofs.reading.scale_word.Statement.{statement}
 use Rattle.words.proofs.reading.scale_word.Tie as tie
-
-returns : tie.Need-returns
-returns c =
-    let c1 = c .before in let c2 = c1 .before in let c3 = c2 .before in
-    failed _ (sym (c1 .clear .ensures) ∙ not-failed (c1 .clear .result) (c .if1 .taken))
-
-returns-2 : tie.Need-returns-2
-returns-2 c =
-    let c1 = c .before in let c2 = c1 .before in let c3 = c2 .before in let c4 = c3 .before in let c5 = c4 .before in
-    passed UnknownWord (sym (c3 .clear .ensures) ∙ not-passed (c3 .clear .result) (c2 .if1 .left))
-    (failed _ (sym (c1 .gate-due .ensures) ∙ not-failed (c1 .gate-due .result) (c .if2 .taken)))
-
-returns-3 : tie.Need-returns-3
-returns-3 c =
-    let c1 = c .before in let c2 = c1 .before in let c3 = c2 .before in let c4 = c3 .before in let c5 = c4 .before in let c6 = c5 .before in let c7 = c6 .before in let c8 = c7 .before in
-    passed UnknownWord (sym (c6 .clear .ensures) ∙ not-passed (c6 .clear .result) (c5 .if1 .left))
-    (passed NotDue (sym (c4 .gate-due .ensures) ∙ not-passed (c4 .gate-due .result) (c3 .if2 .left))
-    (failed _ (one-made (length-take-le (c8 .args .made) (c8 .args .moduli .now) (c8 .pre)) (c2 .wire-from .ensures) (c1 .is-made .ensures) ∙ not-failed (c1 .is-made .result) (c .if3 .taken))))
-
-returns-4 : tie.Need-returns-4
-returns-4 c =
-    let c1 = c .before in let c2 = c1 .before in let c3 = c2 .before in let c4 = c3 .before in let c5 = c4 .before in let c6 = c5 .before in let c7 = c6 .before in let c8 = c7 .before in let c9 = c8 .before in let c10 = c9 .before in let c11 = c10 .before in let c12 = c11 .before in
-    passed UnknownWord (sym (c10 .clear .ensures) ∙ not-passed (c10 .clear .result) (c9 .if1 .left))
-    (passed NotDue (sym (c8 .gate-due .ensures) ∙ not-passed (c8 .gate-due .result) (c7 .if2 .left))
-    (passed NotMade (one-made (length-take-le (c12 .args .made) (c12 .args .moduli .now) (c12 .pre)) (c6 .wire-from .ensures) (c5 .is-made .ensures) ∙ not-passed (c5 .is-made .result) (c4 .if3 .left))
-    (failed _ (in-bounds (c3 .byte-from .ensures) (modulus-told (take (c12 .args .made) (c12 .args .moduli .now)) (c6 .wire-from .ensures) (c2 .modulus-of .ensures)) (c1 .both .ensures) ∙ not-failed (c1 .both .result) (c .if4 .taken)))))
-
-returns-5 : tie.Need-returns-5
-returns-5 c =
-    let c1 = c .before in let c2 = c1 .before in let c3 = c2 .before in let c4 = c3 .before in let c5 = c4 .before in let c6 = c5 .before in let c7 = c6 .before in let c8 = c7 .before in let c9 = c8 .before in let c10 = c9 .before in let c11 = c10 .before in let c12 = c11 .before in let c13 = c12 .before in
-    passed UnknownWord (sym (c11 .clear .ensures) ∙ not-passed (c11 .clear .result) (c10 .if1 .left))
-    (passed NotDue (sym (c9 .gate-due .ensures) ∙ not-passed (c9 .gate-due .result) (c8 .if2 .left))
-    (passed NotMade (one-made (length-take-le (c13 .args .made) (c13 .args .moduli .now) (c13 .pre)) (c7 .wire-from .ensures) (c6 .is-made .ensures) ∙ not-passed (c6 .is-made .result) (c5 .if3 .left))
-    (passed OutOfRange (in-bounds (c4 .byte-from .ensures) (modulus-told (take (c13 .args .made) (c13 .args .moduli .now)) (c7 .wire-from .ensures) (c3 .modulus-of .ensures)) (c2 .both .ensures) ∙ not-passed (c2 .both .result) (c1 .if4 .left))
-    (failed _ (no-room (length-take-le (c13 .args .made) (c13 .args .moduli .now) (c13 .pre)) (c .if5 .taken))))))
-
-returns-6 : tie.Need-returns-6
-returns-6 c =
-    let c1 = c .before in let c2 = c1 .before in let c3 = c2 .before in let c4 = c3 .before in let c5 = c4 .before in let c6 = c5 .before in let c7 = c6 .before in let c8 = c7 .before in let c9 = c8 .before in let c10 = c9 .before in let c11 = c10 .before in let c12 = c11 .before in let c13 = c12 .before in let c14 = c13 .before in
-    passed UnknownWord (sym (c12 .clear .ensures) ∙ not-passed (c12 .clear .result) (c11 .if1 .left))
-    (passed NotDue (sym (c10 .gate-due .ensures) ∙ not-passed (c10 .gate-due .result) (c9 .if2 .left))
-    (passed NotMade (one-made (length-take-le (c14 .args .made) (c14 .args .moduli .now) (c14 .pre)) (c8 .wire-from .ensures) (c7 .is-made .ensures) ∙ not-passed (c7 .is-made .result) (c6 .if3 .left))
-    (passed OutOfRange (in-bounds (c5 .byte-from .ensures) (modulus-told (take (c14 .args .made) (c14 .args .moduli .now)) (c8 .wire-from .ensures) (c4 .modulus-of .ensures)) (c3 .both .ensures) ∙ not-passed (c3 .both .result) (c2 .if4 .left))
-    (passed TooMany (room-left (length-take-le (c14 .args .made) (c14 .args .moduli .now) (c14 .pre)) (c1 .if5 .left))
-    (c .makes .ensures ∙ ap (λ (k : ℕ). Makes (wire (Scale (record { constant = k; a = c8 .wire-from .result })) (c4 .modulus-of .result)) Gates) (c5 .byte-from .ensures) ∙ ap₂ (λ (k m : ℕ). Makes (wire (Scale (record { constant = constant (c14 .args .w); a = k })) m) Gates) (c8 .wire-from .ensures) (modulus-told (take (c14 .args .made) (c14 .args .moduli .now)) (c8 .wire-from .ensures) (c4 .modulus-of .ensures)))))))
 
 pub scale-word-spec : {M : Type 1} → statement M
 scale-word-spec =
     tie.close
     (tie.spec
     (λ c κs. (lit≤ tt, lit< tt, lit< tt))
-    returns
+    (λ c.
+    let c1 = c .before in
+    failed _ (sym (c1 .clear .ensures) ∙ not-failed (c1 .clear .result) (c .if1 .taken)))
     (λ c κs. search needs)
-    returns-2
+    (λ c.
+    let c1 = c .before in let c2 = c1 .before in let c3 = c2 .before in
+    passed UnknownWord (sym (c3 .clear .ensures) ∙ not-passed (c3 .clear .result) (c2 .if1 .left))
+    (failed _ (sym (c1 .gate-due .ensures) ∙ not-failed (c1 .gate-due .result) (c .if2 .taken))))
     (λ c κs. lit< tt)
     (λ c κs. search needs)
-    returns-3
+    (λ c.
+    let c1 = c .before in let c2 = c1 .before in let c3 = c2 .before in let c4 = c3 .before in let c5 = c4 .before in let c6 = c5 .before in let c7 = c6 .before in let c8 = c7 .before in
+    passed UnknownWord (sym (c6 .clear .ensures) ∙ not-passed (c6 .clear .result) (c5 .if1 .left))
+    (passed NotDue (sym (c4 .gate-due .ensures) ∙ not-passed (c4 .gate-due .result) (c3 .if2 .left))
+    (failed _ (one-made (length-take-le (c8 .args .made) (c8 .args .moduli .now) (c8 .pre)) (c2 .wire-from .ensures) (c1 .is-made .ensures) ∙ not-failed (c1 .is-made .result) (c .if3 .taken)))))
     (λ c κs. lit< tt)
     (λ c κs. search needs)
     (λ c κs. search needs)
-    returns-4
-    returns-5
+    (λ c.
+    let c1 = c .before in let c2 = c1 .before in let c3 = c2 .before in let c4 = c3 .before in let c5 = c4 .before in let c6 = c5 .before in let c7 = c6 .before in let c8 = c7 .before in let c9 = c8 .before in let c10 = c9 .before in let c11 = c10 .before in let c12 = c11 .before in
+    passed UnknownWord (sym (c10 .clear .ensures) ∙ not-passed (c10 .clear .result) (c9 .if1 .left))
+    (passed NotDue (sym (c8 .gate-due .ensures) ∙ not-passed (c8 .gate-due .result) (c7 .if2 .left))
+    (passed NotMade (one-made (length-take-le (c12 .args .made) (c12 .args .moduli .now) (c12 .pre)) (c6 .wire-from .ensures) (c5 .is-made .ensures) ∙ not-passed (c5 .is-made .result) (c4 .if3 .left))
+    (failed _ (in-bounds (c3 .byte-from .ensures) (modulus-told (take (c12 .args .made) (c12 .args .moduli .now)) (c6 .wire-from .ensures) (c2 .modulus-of .ensures)) (c1 .both .ensures) ∙ not-failed (c1 .both .result) (c .if4 .taken))))))
+    (λ c.
+    let c1 = c .before in let c2 = c1 .before in let c3 = c2 .before in let c4 = c3 .before in let c5 = c4 .before in let c6 = c5 .before in let c7 = c6 .before in let c8 = c7 .before in let c9 = c8 .before in let c10 = c9 .before in let c11 = c10 .before in let c12 = c11 .before in let c13 = c12 .before in
+    passed UnknownWord (sym (c11 .clear .ensures) ∙ not-passed (c11 .clear .result) (c10 .if1 .left))
+    (passed NotDue (sym (c9 .gate-due .ensures) ∙ not-passed (c9 .gate-due .result) (c8 .if2 .left))
+    (passed NotMade (one-made (length-take-le (c13 .args .made) (c13 .args .moduli .now) (c13 .pre)) (c7 .wire-from .ensures) (c6 .is-made .ensures) ∙ not-passed (c6 .is-made .result) (c5 .if3 .left))
+    (passed OutOfRange (in-bounds (c4 .byte-from .ensures) (modulus-told (take (c13 .args .made) (c13 .args .moduli .now)) (c7 .wire-from .ensures) (c3 .modulus-of .ensures)) (c2 .both .ensures) ∙ not-passed (c2 .both .result) (c1 .if4 .left))
+    (failed _ (no-room (length-take-le (c13 .args .made) (c13 .args .moduli .now) (c13 .pre)) (c .if5 .taken)))))))
     (λ c κs. search needs)
-    returns-6)
+    (λ c.
+    let c1 = c .before in let c2 = c1 .before in let c3 = c2 .before in let c4 = c3 .before in let c5 = c4 .before in let c6 = c5 .before in let c7 = c6 .before in let c8 = c7 .before in let c9 = c8 .before in let c10 = c9 .before in let c11 = c10 .before in let c12 = c11 .before in let c13 = c12 .before in let c14 = c13 .before in
+    passed UnknownWord (sym (c12 .clear .ensures) ∙ not-passed (c12 .clear .result) (c11 .if1 .left))
+    (passed NotDue (sym (c10 .gate-due .ensures) ∙ not-passed (c10 .gate-due .result) (c9 .if2 .left))
+    (passed NotMade (one-made (length-take-le (c14 .args .made) (c14 .args .moduli .now) (c14 .pre)) (c8 .wire-from .ensures) (c7 .is-made .ensures) ∙ not-passed (c7 .is-made .result) (c6 .if3 .left))
+    (passed OutOfRange (in-bounds (c5 .byte-from .ensures) (modulus-told (take (c14 .args .made) (c14 .args .moduli .now)) (c8 .wire-from .ensures) (c4 .modulus-of .ensures)) (c3 .both .ensures) ∙ not-passed (c3 .both .result) (c2 .if4 .left))
+    (passed TooMany (room-left (length-take-le (c14 .args .made) (c14 .args .moduli .now) (c14 .pre)) (c1 .if5 .left))
+    (c .makes .ensures ∙ ap (λ (k : ℕ). Makes (wireOf (Scale (record { constant = k; a = c8 .wire-from .result })) (c4 .modulus-of .result)) Gates) (c5 .byte-from .ensures) ∙ ap₂ (λ (k m : ℕ). Makes (wireOf (Scale (record { constant = constant (c14 .args .w); a = k })) m) Gates) (c8 .wire-from .ensures) (modulus-told (take (c14 .args .made) (c14 .args .moduli .now)) (c8 .wire-from .ensures) (c4 .modulus-of .ensures)))))))))
