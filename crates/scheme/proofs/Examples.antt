@@ -3,7 +3,6 @@
 -- keys are taken component by component. p = 5 throughout.
 -- Assumes nothing.
 use mathlib.Core.Path.{_≡_, refl}
-use mathlib.Core.Bool.{Bool, true, false}
 use mathlib.Core.List.{List, [], _∷_, _++_}
 use Prim.Native.Nat.{ℕ}
 use Rattle.lists.specs.First.{first, firstFrom}
@@ -12,7 +11,6 @@ use Rattle.residue.specs.Vector.{zipWith, addV, subV, mulV, keyV}
 use Rattle.words.specs.declared.gate.Gate.{Gate}
 use Rattle.words.specs.declared.gate.Gate.the-variants.{Scale}
 use Rattle.counts.specs.Counts.{rowsBy}
-use Rattle.counts.specs.declared.recipe.Recipe.{Recipe}
 use Rattle.counts.specs.declared.recipe.Recipe.the-variants.{Table, Product, Choice}
 use Rattle.scheme.specs.Zero.{freely}
 use Rattle.scheme.specs.Message.{productMessage₀, productMessage₁, chooserMessage₀, chooserMessage₁, correctorMessage₀, correctorMessage₁}
