@@ -114,10 +114,11 @@ module _ (n K party : ℕ) (wires : List Wire) (contribution externals keys rows
       ∙ ap (unpadded shakePad n K rows p (placed p w 1) (b .keys)) (omega arith)))
       ∙ searched-is _
 
-  chosen-is : (bit : ℕ) (xs ys : List ℕ) → chooserKeys n K w (eqb bit 0) p xs ys ≡ chosen bit p xs ys
+  chosen-is : (bit : ℕ) (xs ys : List ℕ) → bit < 2 → chooserKeys n K w (eqb bit 0) p xs ys ≡ chosen bit p xs ys
   unfolding chooserKeys chosen
-  chosen-is zero xs ys = refl
-  chosen-is (suc bit) xs ys = refl
+  chosen-is zero xs ys h = refl
+  chosen-is (suc zero) xs ys h = refl
+  chosen-is (suc (suc bit)) xs ys h = absurd (omega arith)
 
   -- the row of a corrector, and that it is among w's rows
   corrector-is : (bit x : ℕ) → bit < 2 → 2 + bit * p + x ≡ corrector p bit x
@@ -142,7 +143,7 @@ module _ (n K party : ℕ) (wires : List Wire) (contribution externals keys rows
       let x : ℕ = sub p (b .external) (a .external) in
       ap (sought turn contribution)
       (ap₂ (addV p)
-      (chosen-is (bit .external) _ _
+      (chosen-is (bit .external) _ _ hb
       ∙ ap (λ (xs : List ℕ). chosen (bit .external) p xs d) (bared-is p 2 0 (bit .keys) (bit .external) (omega arith)))
       (bared-is p p (1 + bit .external) d (2 + bit .external * p + x) (corrector-row (bit .external) x r hb (sub-below h _ _))
       ∙ ap (λ (i : ℕ). unpadded shakePad n K rows p (placed p w (1 + bit .external)) d (rowAt wires w + i)) (corrector-is (bit .external) x hb)))

@@ -13,4 +13,3 @@ pub mod Places
 pub mod Known
 pub mod Steps
 pub mod Used
-pub mod Examples
