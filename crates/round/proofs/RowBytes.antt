@@ -8,7 +8,7 @@ use Rattle.residue.proofs.Vectors.{addV-below}
 use Rattle.words.specs.declared.gate.Wire.{Wire}
 use Rattle.circuit.specs.Wires.{modulusAt}
 use Rattle.counts.specs.declared.recipe.Recipe.{Recipe}
-use Rattle.counts.specs.declared.recipe.Recipe.the-variants.{Drawn, Free, Table, Product, Choice}
+use Rattle.counts.specs.declared.recipe.Recipe.the-variants.{Entered, Free, Table, Product, Choice}
 use Rattle.scheme.specs.Draw.{Draw}
 use Rattle.pads.specs.Pad.{Pad, Under}
 use Rattle.scheme.specs.Rows.{row, projectRow, productRow₀, productRow₁, chooserRow, chooserRows, correctorRow₀, correctorRow₁, gateRows}
@@ -25,7 +25,7 @@ module _ (pad : Pad) (n K : ℕ) (file : List ℕ) (wires : List Wire) (draw : D
   module _ (w : ℕ) (h : 0 < modulusAt wires w) where
     pub rows-below : (recipe : Recipe) → AllBelow (modulusAt wires w) (gateRows pad n K file wires draw w recipe)
     unfolding gateRows projectRow productRow₀ productRow₁ chooserRows chooserRow correctorRow₀ correctorRow₁
-    rows-below Drawn = none-below _
+    rows-below Entered = none-below _
     rows-below Free = none-below _
     rows-below (Table a) = below-blocks _ _ _ (λ α _. row-below h _ _ _)
     rows-below (Product g) =

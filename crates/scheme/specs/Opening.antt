@@ -13,7 +13,7 @@ use Rattle.words.specs.declared.gate.Gate.{Gate}
 use Rattle.words.specs.declared.gate.Wire.{Wire}
 use Rattle.circuit.specs.Wires.{wireAt, modulusAt}
 use Rattle.counts.specs.declared.recipe.Recipe.{Recipe}
-use Rattle.counts.specs.declared.recipe.Recipe.the-variants.{Drawn, Free, Table, Product, Choice}
+use Rattle.counts.specs.declared.recipe.Recipe.the-variants.{Entered, Free, Table, Product, Choice}
 use Rattle.counts.specs.Recipe.{recipe}
 use Rattle.counts.specs.Counts.{rowsOf}
 use Rattle.scheme.specs.Draw.{Draw}
@@ -111,7 +111,7 @@ module _ (pad : Pad) (n K s : ℕ) (wires : List Wire) (own : Draw) (inputs keys
 
   -- wire w, from the wires opened below it
   unfoldable pub openBy : ℕ → Recipe → (ℕ → Opened) → Opened
-  openBy w Drawn look = openInput n K inputs keys w
+  openBy w Entered look = openInput n K inputs keys w
   openBy w Free look = openFree (modulusAt wires w) (wireAt wires w .gate) look
   openBy w (Table a) look = openTable w (modulusAt wires a) (look a)
   openBy w (Product g) look = openProduct w (look (g .a)) (look (g .b))

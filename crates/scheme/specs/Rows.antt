@@ -13,7 +13,7 @@ use Rattle.words.specs.declared.gate.Gate.the-variants.{Input, Add, Scale, Mult
 use Rattle.words.specs.declared.gate.Wire.{Wire}
 use Rattle.circuit.specs.Wires.{wireAt, modulusAt, inputsIn}
 use Rattle.counts.specs.declared.recipe.Recipe.{Recipe}
-use Rattle.counts.specs.declared.recipe.Recipe.the-variants.{Drawn, Free, Table, Product, Choice}
+use Rattle.counts.specs.declared.recipe.Recipe.the-variants.{Entered, Free, Table, Product, Choice}
 use Rattle.counts.specs.Recipe.{recipe}
 use Rattle.scheme.specs.Draw.{Draw}
 use Rattle.scheme.specs.Zero.{zeroKey, mask}
@@ -99,7 +99,7 @@ module _ (pad : Pad) (n K : ℕ) (file : List ℕ) (wires : List Wire) (draw : D
 
   -- the rows of wire w
   unfoldable pub gateRows : ℕ → Recipe → List ℕ
-  gateRows w Drawn = []
+  gateRows w Entered = []
   gateRows w Free = []
   gateRows w (Table a) = blocks (modulusAt wires a) (projectRow w a)
   gateRows w (Product g) =

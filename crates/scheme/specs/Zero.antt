@@ -12,7 +12,7 @@ use Rattle.words.specs.declared.gate.Gate.the-variants.{Input, Add, Scale, Mult
 use Rattle.words.specs.declared.gate.Wire.{Wire}
 use Rattle.circuit.specs.Wires.{wireAt, modulusAt}
 use Rattle.counts.specs.declared.recipe.Recipe.{Recipe}
-use Rattle.counts.specs.declared.recipe.Recipe.the-variants.{Drawn, Free, Table, Product, Choice}
+use Rattle.counts.specs.declared.recipe.Recipe.the-variants.{Entered, Free, Table, Product, Choice}
 use Rattle.counts.specs.Recipe.{recipe}
 use Rattle.scheme.specs.Draw.{Draw}
 
@@ -36,14 +36,14 @@ freelyV p (Select gate) of = []
 
 -- wire w of modulus p, from the zero keys of the wires below it
 unfoldable pub zeroKeyBy : Draw → ℕ → ℕ → Gate → Recipe → (ℕ → List ℕ) → List ℕ
-zeroKeyBy draw w p gate Drawn zero = draw .key w 0
+zeroKeyBy draw w p gate Entered zero = draw .key w 0
 zeroKeyBy draw w p gate Free zero = freelyV p gate zero
 zeroKeyBy draw w p gate (Table a) zero = draw .key w 0
 zeroKeyBy draw w p gate (Product g) zero = draw .key w 0
 zeroKeyBy draw w p gate (Choice g) zero = addV p (draw .key w 0) (zero (g .a))
 
 unfoldable pub maskBy : Draw → ℕ → ℕ → Gate → Recipe → (ℕ → ℕ) → ℕ
-maskBy draw w p gate Drawn mask = draw .mask w 0
+maskBy draw w p gate Entered mask = draw .mask w 0
 maskBy draw w p gate Free mask = freely p gate mask
 maskBy draw w p gate (Table a) mask = draw .mask w 0
 maskBy draw w p gate (Product g) mask = draw .mask w 0
