@@ -1,5 +1,5 @@
 -- What it gives that the checks of keys and rows passed: each key's and each row's bytes are below their modulus. (Of contributions
--- `contributions-below` of `round` says so, with `offset-bytes`, `key-bytes` and `share-byte` of `scheme`.)
+-- `contributions-below` of `round` says so, with `offset-bytes` of `scheme`.)
 -- Assumes nothing.
 use mathlib.Core.Path.{_≡_, sym, ap, _∙_, subst}
 use mathlib.Core.List.{List}

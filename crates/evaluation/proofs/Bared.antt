@@ -19,7 +19,6 @@ use Rattle.residue.proofs.VectorRing.{vring}
 use Rattle.residue.proofs.VectorRing.VExpr.{vec, _⊞_, _⊟_, _⊡_}
 use Rattle.pads.specs.Moved.{Asked, Row, placed}
 use Rattle.pads.specs.Pad.{shakePad, padRow}
-use Rattle.scheme.specs.Rows.{under}
 use Rattle.pads.proofs.Sizes.{shakePad-length, padRow-length}
 use Rattle.evaluation.specs.Gate.{bared, productKeys, chooserKeys, choiceKeys}
 use Rattle.session.specs.Sizes.{Sizes, Vector}
@@ -47,11 +46,11 @@ module _ (n K w : ℕ) (q p component : ℕ) (keys : List ℕ) where
 
   -- pads taken off a copy
   pub bare-row : {row out out′ : List ℕ} → out ≡ row → out′ ≡ subV q out pads → out′ ≡ bared n K w q p component keys row
-  unfolding bared under
+  unfolding bared
   bare-row e f = f ∙ ap (λ (xs : List ℕ). subV q xs pads) e
 
   pub bared-length : {row : List ℕ} → Vector n K row → length (bared n K w q p component keys row) ≡ n * K
-  unfolding bared under
+  unfolding bared
   bared-length {row} v = subV-length q row pads (v .size ∙ sym pads-length) ∙ v .size
 
   -- a row put on what stands there, and then its pads taken off
@@ -59,7 +58,7 @@ module _ (n K w : ℕ) (q p component : ℕ) (keys : List ℕ) where
       → out ≡ addV q out₀ (mulV q 1 row)
       → out′ ≡ subV q out pads
       → out′ ≡ addV q out₀ (bared n K w q p component keys row)
-  unfolding bared under
+  unfolding bared
   bare-more row out₀ {out} {out′} h v l e f =
       f
       ∙ ap (λ (xs : List ℕ). subV q xs pads) e

@@ -1,9 +1,8 @@
 -- One turn is the scheme's: what is cut out for a wire, opened as `wireBy` says, is what `openBy` makes of it.
 -- Assumes nothing.
 use mathlib.Core.Path.{_≡_, refl, sym, ap, ap₂, _∙_}
-use mathlib.Core.Bool.{Bool, true, false}
 use mathlib.Core.List.{List}
-use Prim.Native.Nat.{ℕ, _+_, _*_, _≤_, _<_}
+use Prim.Native.Nat.{ℕ, zero, suc, _+_, _*_, _≤_, _<_}
 use native.Mathlib.Nat.{mul-comm, mul-zero, mul-le-mul-left}
 use native.Mathlib.Omega.{arith}
 use lib.Dec.{ltb, eqb}
@@ -26,7 +25,7 @@ use Rattle.pads.specs.Pad.{shakePad, padRow}
 use Rattle.scheme.specs.Contribution.{recordAt, keyAt, offsetAt, contributionSize}
 use Rattle.scheme.specs.Draw.{Draw, drawn}
 use Rattle.scheme.specs.Zero.{freely, freelyV}
-use Rattle.scheme.specs.Rows.{under}
+use Rattle.pads.specs.Moved.{placed}
 use Rattle.scheme.specs.Opening.{Opened, nothing, opened, unpadded, rowAt, ownKey, found, searched, openInput, openFree, openTable, openProduct, chosen, corrector, openChoice, openBy}
 use Rattle.scheme.proofs.Contributed.{nth-whole}
 use Rattle.scheme.proofs.Bounds.{positive}
@@ -79,11 +78,11 @@ module _ (n K party : ℕ) (wires : List Wire) (contribution externals keys rows
   abbrev mine : List ℕ
   mine = ownRows m wires rows w
 
-  found-is : (all : List ℕ) → shown turn contribution all ≡ found shakePad n K party wires own externals keys rows w all
+  found-is : (all : List ℕ) → shown turn contribution all ≡ found K party wires own w all
   unfolding shown found ownKey
   found-is all = ap₂ (λ (k D : List ℕ). multiplier p k D (nthPiece all K party)) (sym (own-key-is K wires contribution e w)) (sym (own-offset-is K wires contribution e p))
 
-  searched-is : (all : List ℕ) → sought turn contribution all ≡ searched shakePad n K party wires own externals keys rows w all
+  searched-is : (all : List ℕ) → sought turn contribution all ≡ searched K party wires own w all
   unfolding sought searched
   searched-is all = ap (λ (x : ℕ). record { keys = all; external = x; fits = ltb x p }) (found-is all)
 
@@ -95,9 +94,9 @@ module _ (n K party : ℕ) (wires : List Wire) (contribution externals keys rows
 
   bared-is : (q place : ℕ) (component : ℕ) (ks : List ℕ) (r : ℕ) → r < rowsOf wires w
       → bared n K w q place component ks (nthPiece mine m r)
-      ≡ unpadded shakePad n K party wires own externals keys rows q (under place w component) ks (rowAt shakePad n K party wires own externals keys rows w + r)
+      ≡ unpadded shakePad n K rows q (placed place w component) ks (rowAt wires w + r)
   unfolding bared unpadded rowAt
-  bared-is q place component ks r h = ap (λ (l : List ℕ). subV q l (padRow shakePad K q (under place w component) ks n)) (row-is r h)
+  bared-is q place component ks r h = ap (λ (l : List ℕ). subV q l (padRow shakePad K q (placed place w component) ks n)) (row-is r h)
 
   table-is : (q : ℕ) (a : Opened) → a .external < rowsOf wires w
       → byTable turn contribution mine q a ≡ openTable shakePad n K party wires own externals keys rows w q a
@@ -112,41 +111,47 @@ module _ (n K party : ℕ) (wires : List Wire) (contribution externals keys rows
       (ap₂ (λ (xs ys : List ℕ). addV p (addV p xs ys) (mulV p (b .external) (a .keys)))
       (bared-is p p 0 (a .keys) (a .external) (omega arith))
       (bared-is p p 1 (b .keys) (p + b .external) (omega arith)
-      ∙ ap (unpadded shakePad n K party wires own externals keys rows p (under p w 1) (b .keys)) (omega arith)))
+      ∙ ap (unpadded shakePad n K rows p (placed p w 1) (b .keys)) (omega arith)))
       ∙ searched-is _
 
-  chosen-is : (t : Bool) (xs ys : List ℕ) → chooserKeys n K w t p xs ys ≡ chosen shakePad n K party wires own externals keys rows t p xs ys
+  chosen-is : (bit : ℕ) (xs ys : List ℕ) → bit < 2 → chooserKeys n K w (eqb bit 0) p xs ys ≡ chosen bit p xs ys
   unfolding chooserKeys chosen
-  chosen-is true xs ys = refl
-  chosen-is false xs ys = refl
+  chosen-is zero xs ys h = refl
+  chosen-is (suc zero) xs ys h = refl
+  chosen-is (suc (suc bit)) xs ys h = absurd (omega arith)
 
-  -- the row of a corrector
+  -- the row of a corrector, and that it is among w's rows
+  corrector-is : (bit x : ℕ) → bit < 2 → 2 + bit * p + x ≡ corrector p bit x
+  unfolding corrector
+  corrector-is zero x h = omega arith
+  corrector-is (suc zero) x h = omega arith
+  corrector-is (suc (suc bit)) x h = absurd (omega arith)
+
   corrector-row : (bit x : ℕ) → rowsOf wires w ≡ 2 * p + 2 → bit < 2 → x < p → 2 + bit * p + x < rowsOf wires w
   corrector-row bit x r hb hx = let s : bit ≤ 1 = omega arith in omega (arith, mul-le-mul-left p s)
 
   held-is : (bit a b : Opened) → rowsOf wires w ≡ 2 * p + 2 → bit .external < 2 → 0 < p
       → heldBack turn contribution mine bit a b
-      ≡ searched shakePad n K party wires own externals keys rows w
+      ≡ searched K party wires own w
       (addV p
-      (chosen shakePad n K party wires own externals keys rows (eqb (bit .external) 0) p
-      (unpadded shakePad n K party wires own externals keys rows p (under 2 w 0) (bit .keys) (rowAt shakePad n K party wires own externals keys rows w + bit .external))
-      (subV p (b .keys) (a .keys)))
-      (unpadded shakePad n K party wires own externals keys rows p (under p w (1 + bit .external)) (subV p (b .keys) (a .keys))
-      (rowAt shakePad n K party wires own externals keys rows w + (2 + bit .external * p + sub p (b .external) (a .external)))))
+      (chosen (bit .external) p (unpadded shakePad n K rows p (placed 2 w 0) (bit .keys) (rowAt wires w + bit .external)) (subV p (b .keys) (a .keys)))
+      (unpadded shakePad n K rows p (placed p w (1 + bit .external)) (subV p (b .keys) (a .keys))
+      (rowAt wires w + corrector p (bit .external) (sub p (b .external) (a .external)))))
   unfolding heldBack choiceKeys row
   held-is bit a b r hb h =
+      let d : List ℕ = subV p (b .keys) (a .keys) in
+      let x : ℕ = sub p (b .external) (a .external) in
       ap (sought turn contribution)
       (ap₂ (addV p)
-      (chosen-is (eqb (bit .external) 0) _ _
-      ∙ ap (λ (xs : List ℕ). chosen shakePad n K party wires own externals keys rows (eqb (bit .external) 0) p xs (subV p (b .keys) (a .keys)))
-      (bared-is p 2 0 (bit .keys) (bit .external) (omega arith)))
-      (bared-is p p (1 + bit .external) (subV p (b .keys) (a .keys)) (2 + bit .external * p + sub p (b .external) (a .external))
-      (corrector-row (bit .external) (sub p (b .external) (a .external)) r hb (sub-below h _ _))))
+      (chosen-is (bit .external) _ _ hb
+      ∙ ap (λ (xs : List ℕ). chosen (bit .external) p xs d) (bared-is p 2 0 (bit .keys) (bit .external) (omega arith)))
+      (bared-is p p (1 + bit .external) d (2 + bit .external * p + x) (corrector-row (bit .external) x r hb (sub-below h _ _))
+      ∙ ap (λ (i : ℕ). unpadded shakePad n K rows p (placed p w (1 + bit .external)) d (rowAt wires w + i)) (corrector-is (bit .external) x hb)))
       ∙ searched-is _
 
   choice-is : (bit a b : Opened) → rowsOf wires w ≡ 2 * p + 2 → bit .external < 2 → 0 < p
       → byChoice turn contribution mine bit a b ≡ openChoice shakePad n K party wires own externals keys rows w bit a b
-  unfolding byChoice raised openChoice corrector
+  unfolding byChoice raised openChoice
   choice-is bit a b r hb h =
       ap (λ (o : Opened). record { keys = addV p (o .keys) (a .keys); external = add p (o .external) (a .external); fits = o .fits })
       (held-is bit a b r hb h)

@@ -7,12 +7,12 @@ use Prim.Native.Nat.{ℕ, _+_}
 use lib.Dec.{eqb}
 use Rattle.residue.specs.Vector.{addV, subV, mulV}
 use Rattle.pads.specs.Pad.{shakePad, padRow}
-use Rattle.scheme.specs.Rows.{under}
+use Rattle.pads.specs.Moved.{placed}
 
 module _ (n K w : ℕ) where
   -- a row of modulus q without the pads of the keys, of modulus p, that it is opened under
   unfoldable pub bared : ℕ → ℕ → ℕ → List ℕ → List ℕ → List ℕ
-  bared q p component keys row = subV q row (padRow shakePad K q (under p w component) keys n)
+  bared q p component keys row = subV q row (padRow shakePad K q (placed p w component) keys n)
 
   -- project: one row, under a's keys
   unfoldable pub tableKeys : ℕ → ℕ → List ℕ → List ℕ → List ℕ

@@ -1,2 +1,3 @@
--- A garbled row with its real pads, computed.
+-- The examples come out as printed.
+pub mod Marked
 pub mod Row

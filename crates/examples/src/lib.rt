@@ -1,2 +1,2 @@
-// A garbled row with its real pads, computed by the checker from the definitions and held to bytes that an independent program gives. It has
-// no code. Rests on `scheme`, `pads` and the definitions below them.
+// Document 01's examples that are marked to be proved, and a garbled row with its real pads: both computed by the checker from the definitions.
+// It has no code. Rests on `round` for decoding, on `scheme`, `pads` and the definitions below them.

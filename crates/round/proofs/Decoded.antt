@@ -18,6 +18,7 @@ use Rattle.scheme.specs.Draw.{Draw, drawn}
 use Rattle.scheme.specs.Zero.{mask}
 use Rattle.pads.specs.Pad.{Pad}
 use Rattle.plain.specs.Plain.{plainValues, plainOutputs}
+use Rattle.plain.specs.Ready.{Fed}
 use Rattle.session.proofs.Sessions.{file-passed, lengths-passed}
 use Rattle.round.proofs.Bounds.{values-passed}
 use Rattle.round.proofs.DecodingPasses.{decode-passed}
@@ -89,8 +90,10 @@ module _ {pad : Pad} {file : List ℕ} {n K : ℕ} {contributions values : List 
     output i l =
         let w : ℕ = getD outputs i 0 in
         let made : w < length wires = start .accepted .outputsMade i l in
+        let fed : Fed file wires outputs values =
+        record { accepted = start .accepted; size = start .conditions .valuesLength; below = start .conditions .valuesBelow } in
         ap₂ (sub (modulusAt wires w)) (opened-external start party h w made) (output-mask-at start i l)
-        ∙ sub-add (positive (start .accepted) w made) (value-below (start .accepted) values (start .conditions .valuesBelow) w made) (mask wires draw w)
+        ∙ sub-add (positive (start .accepted) w made) (value-below fed w made) (mask wires draw w)
 
     pub decoded : figures pad file n K contributions values meter lent party ≡ plainOutputs file wires outputs values
     unfolding figures decodeAfter decoding plainOutputs

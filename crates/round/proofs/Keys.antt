@@ -25,7 +25,8 @@ use Rattle.round.proofs.Bounds.{keys-passed}
 use Rattle.round.proofs.InputKeysPass.{inputKeys-passed}
 use Rattle.round.specs.InputKeys.{inputKey, inputKeysAfter}
 use Rattle.round.specs.Round.{Lent, contributionOf, externals, inputKeys, ownKeys, keys}
-use Rattle.scheme.proofs.Search.{key-part, part-size}
+use Rattle.scheme.proofs.Search.{key-part}
+use Rattle.scheme.proofs.Contributed.{length-nth}
 use Rattle.scheme.proofs.Bounds.{positive, zeroKey-size}
 use Rattle.round.proofs.Start.{Start}
 use Rattle.round.proofs.Shared.{session-fits, owners-fit}
@@ -99,7 +100,7 @@ module _ {pad : Pad} {file : List ℕ} {n K : ℕ} {contributions values : List 
       → nthPiece (ownKeys pad file n K contributions values meter lent party) K w ≡ nthPiece (key w) K party
   own-key party w h l =
       ap (λ (xs : List ℕ). nthPiece xs K w) (own-keys party h)
-      ∙ part-blocks-same (inputsIn wires) K (λ v. nthPiece (key v) K party) (λ v m. part-size n K party (key v) h (key-size v m)) w l
+      ∙ part-blocks-same (inputsIn wires) K (λ v. nthPiece (key v) K party) (λ v m. length-nth n K (key v) (key-size v m) party h) w l
 
   -- ---- all parties' keys
 

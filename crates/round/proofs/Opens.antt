@@ -32,10 +32,10 @@ use Rattle.round.specs.Bytes.{rowsChecked}
 use Rattle.round.proofs.Bounds.{rows-passed}
 use Rattle.round.proofs.OpeningPasses.{opening-passed}
 use Rattle.round.specs.Open.{beforeOpening, gatesChecked, openChecked, openKeys, openExternals}
-use Rattle.scheme.specs.Given.{GivenInputs, Round, Rightly}
+use Rattle.scheme.specs.Given.{GivenInputs, RoundAt, Rightly}
 use Rattle.round.specs.Round.{Lent, contributionOf, rows, externals, keys, opening, wireKeys, wireExternals}
 use Rattle.scheme.proofs.Search.{key-part}
-use Rattle.scheme.proofs.Bounds.{positive}
+use Rattle.scheme.proofs.Bounds.{positive, zeroKey-size}
 use Rattle.scheme.proofs.Rows.{gate-size}
 use Rattle.scheme.proofs.Opened.{evaluation-undoes-garbling}
 use Rattle.round.proofs.Start.{Start}
@@ -107,7 +107,7 @@ module _ {pad : Pad} {file : List ℕ} {n K : ℕ} {contributions values : List 
   given = record { value = start .conditions .valuesBelow; external = external-at start; key = keys-at start }
 
   module _ (party : ℕ) (h : party < n) where
-    round : Round pad n K party file wires outputs draw (own party) values inputs inputKeys garbled
+    round : RoundAt pad n K party file wires outputs draw (own party) values inputs inputKeys garbled
     round = record {
       pads = start .pads;
       accepted = start .accepted;
@@ -124,7 +124,7 @@ module _ {pad : Pad} {file : List ℕ} {n K : ℕ} {contributions values : List 
     value w = getD (plainValues file wires values) w 0
 
     pub rightly : (w : ℕ) → w < length wires
-        → Rightly (modulusAt wires w) (n * K) (value w) (mask wires draw w) (zeroKey wires draw w) (draw .offset (modulusAt wires w)) (wire w)
+        → Rightly (modulusAt wires w) (value w) (mask wires draw w) (zeroKey wires draw w) (draw .offset (modulusAt wires w)) (wire w)
     rightly w made = evaluation-undoes-garbling pad n K party file wires outputs draw (own party) values inputs inputKeys garbled round w made
 
     -- ---- the checks
@@ -188,8 +188,8 @@ module _ {pad : Pad} {file : List ℕ} {n K : ℕ} {contributions values : List 
     key-size w made =
         ap length (rightly w made .keys)
         ∙ keyV-length (modulusAt wires w) (zeroKey wires draw w) _ (draw .offset (modulusAt wires w))
-        (rightly w made .size ∙ sym (start .drew .well .offsetSize w made))
-        ∙ rightly w made .size
+        (zeroKey-size (start .accepted) (start .drew .well) w made ∙ sym (start .drew .well .offsetSize w made))
+        ∙ zeroKey-size (start .accepted) (start .drew .well) w made
 
     opened-keys : (w : ℕ) → w < length wires → nthPiece (wireKeys pad file n K contributions values meter lent party) (n * K) w ≡ key w
     opened-keys w made =

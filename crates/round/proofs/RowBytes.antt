@@ -18,7 +18,7 @@ none-below : (p : ℕ) → AllBelow p []
 none-below p = record { entry = λ i h. absurd (not-suc-le-zero h) }
 
 module _ (pad : Pad) (n K : ℕ) (file : List ℕ) (wires : List Wire) (draw : Draw) where
-  row-below : {q : ℕ} → 0 < q → (place : Under) (keys message : List ℕ) → AllBelow q (row pad n K file wires draw q place keys message)
+  row-below : {q : ℕ} → 0 < q → (place : Under) (keys message : List ℕ) → AllBelow q (row pad n K q place keys message)
   unfolding row
   row-below h place keys message = addV-below h _ _
 

@@ -17,7 +17,6 @@ use Rattle.residue.proofs.VectorRing.VExpr.{vec, _⊞_, _⊟_, _⊡_}
 use Rattle.residue.proofs.Vectors.{add-below, sub-below, mul-below, keyV-below}
 use Rattle.pads.specs.Pad.{shakePad, padRow}
 use Rattle.pads.specs.Moved.{placed, Asked, Row}
-use Rattle.scheme.specs.Rows.{under}
 use Rattle.scheme.specs.Message.{projectMessage, productMessage₀, productMessage₁, chooserMessage₀, chooserMessage₁, correctorMessage₀, correctorMessage₁}
 use Rattle.rows.specs.Gate.{padded, linearRows}
 use Rattle.session.specs.Sizes.{Vector}
@@ -55,7 +54,7 @@ module _ {n K q : ℕ} {out message : List ℕ} where
 module _ (n K w q p component : ℕ) {out : List ℕ} where
   pub row-made : (keys base : List ℕ) (c : ℕ) (D : List ℕ) {message : List ℕ} → message ≡ keyV q base c D
       → out ≡ addV q message (padRow shakePad K q (placed p w component) keys n) → out ≡ padded n K w q p component keys (keyV q base c D)
-  unfolding padded under
+  unfolding padded
   row-made keys base c D e t = t ∙ ap (λ (l : List ℕ). addV q l (padRow shakePad K q (placed p w component) keys n)) e
 
   -- keys, and a message, under another name
@@ -72,7 +71,7 @@ module _ (n K w q p component : ℕ) {out : List ℕ} where
 module _ (n K w q p α mask share : ℕ) (keys base D : List ℕ) {v i c : ℕ} {out : List ℕ} where
   pub table-row : (image : ℕ → ℕ) → v ≡ sub p α mask → i ≡ image v → c ≡ add q i share → out ≡ padded n K w q p 0 keys (keyV q base c D)
       → out ≡ padded n K w q p 0 keys (projectMessage q D base share (image (sub p α mask)))
-  unfolding projectMessage
+  unfolding projectMessage keyV
   table-row image e t s o =
       row-as n K w q p 0 keys (ap (λ (m : ℕ). keyV q base m D) (s ∙ ap (λ (m : ℕ). add q m share) (t ∙ ap image e))) o
 

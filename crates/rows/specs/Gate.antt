@@ -7,13 +7,13 @@ use Rattle.lists.specs.Blocks.{blocks}
 use Rattle.residue.specs.Residue.{add, sub, mul}
 use Rattle.residue.specs.Vector.{addV, subV, mulV, keyV}
 use Rattle.pads.specs.Pad.{shakePad, padRow}
-use Rattle.scheme.specs.Rows.{under}
+use Rattle.pads.specs.Moved.{placed}
 use Rattle.scheme.specs.Message.{projectMessage, productMessage₀, productMessage₁, chooserMessage₀, chooserMessage₁, correctorMessage₀, correctorMessage₁}
 
 module _ (n K w : ℕ) where
   -- message plus pads: modulus q, under keys of modulus p
   unfoldable pub padded : ℕ → ℕ → ℕ → List ℕ → List ℕ → List ℕ
-  padded q p component keys message = addV q message (padRow shakePad K q (under p w component) keys n)
+  padded q p component keys message = addV q message (padRow shakePad K q (placed p w component) keys n)
 
   -- rows whose message is base + (start + α·step)·D, α from 0 to p − 1, under the keys zero + α·D
   unfoldable pub linearRows : ℕ → ℕ → List ℕ → List ℕ → ℕ → ℕ → List ℕ → List ℕ

@@ -1,16 +1,13 @@
 -- What is true of every wire of an accepted circuit before anything is opened: its modulus is a prime, its zero keys have n times K entries,
 -- and its mask and its plain value are below its modulus.
 -- Assumes nothing.
-use mathlib.Core.Path.{_≡_, refl, sym, ap, _∙_, subst}
-use mathlib.Core.Bool.{Bool, true, false}
+use mathlib.Core.Path.{_≡_, refl, sym, ap, _∙_}
 use mathlib.Core.List.{List}
-use Prim.Native.Nat.{ℕ, _+_, _*_, _≤_, _<_}
+use Prim.Native.Nat.{ℕ, _*_, _<_}
 use native.Mathlib.Omega.{arith}
-use lib.Dec.{eqb, ltb}
 use lib.ListN.{length, getD}
 use borrow.Author.Tests.{ltb-true}
 use Rattle.residue.specs.Prime.{Prime}
-use Rattle.residue.specs.Vector.{addV, mulV}
 use Rattle.residue.proofs.Moduli.{isPrime→Prime}
 use Rattle.residue.proofs.Vectors.{add-below, mul-below, addV-length, mulV-length}
 use Rattle.words.specs.declared.gate.Owned.{Owned}
@@ -20,17 +17,15 @@ use Rattle.words.specs.declared.gate.Wire.{Wire}
 use Rattle.circuit.specs.Wires.{wireAt, modulusAt, isInput, inputsIn}
 use Rattle.circuit.specs.Accepted.{GateFits, AcceptedCircuit}
 use Rattle.circuit.specs.Accepted.GateFits.{input, add, scale, multiply, project, select}
-use Rattle.counts.specs.Recipe.{gateRecipe, recipe}
-use Rattle.counts.specs.Counts.{recordKeysBy, recordKeysOf}
-use Rattle.plain.specs.Plain.{chosenBy, plainBy, plainValues}
+use Rattle.counts.specs.Recipe.{gateRecipe}
+use Rattle.counts.specs.Counts.{recordKeysBy}
+use Rattle.plain.specs.Plain.{plainValues}
+use Rattle.plain.specs.Ready.{Fed}
+use Rattle.plain.proofs.Residues.{plain-below}
 use Rattle.scheme.specs.Draw.{Draw}
 use Rattle.scheme.specs.Zero.{freely, freelyV, zeroKeyBy, maskBy, zeroKey, mask}
 use Rattle.scheme.specs.Drawn.{WellDrawn}
-use Rattle.scheme.proofs.Steps.{by-lower, zeroKey-step, mask-step, plain-step}
-
-chosen-below : (t : Bool) (a b p : ℕ) → a < p → b < p → chosenBy t a b < p
-chosen-below true a b p h l = h
-chosen-below false a b p h l = l
+use Rattle.scheme.proofs.Steps.{by-lower, zeroKey-step, mask-step}
 
 module _ {file : List ℕ} {wires : List Wire} {outputs : List ℕ} (accepted : AcceptedCircuit file wires outputs) where
   pub prime : (w : ℕ) → w < length wires → Prime (modulusAt wires w)
@@ -84,21 +79,8 @@ module _ {file : List ℕ} {wires : List Wire} {outputs : List ℕ} (accepted : 
         ap length (zeroKey-step accepted w made draw)
         ∙ zeroKey-sized w made (accepted .fits w made .gate) refl (λ a l. lower a l (omega arith)))
 
-  -- the inputs' values are below their moduli
-  module _ (values : List ℕ) (given : (w : ℕ) → w < inputsIn wires → getD values w 0 < modulusAt wires w) where
-    plain-reduced : (w : ℕ) → w < length wires → {gate : Gate} → GateFits file wires w gate → wireAt wires w .gate ≡ gate
-        → ((a : ℕ) → a < w → getD (plainValues file wires values) a 0 < modulusAt wires a)
-        → plainBy file values w (modulusAt wires w) gate (λ a. getD (plainValues file wires values) a 0) < modulusAt wires w
-    unfolding plainBy
-    plain-reduced w made (input fits) is lower = given w (input-first w made is)
-    plain-reduced w made (add fits) is lower = add-below (positive w made) _ _
-    plain-reduced w made (scale fits) is lower = mul-below (positive w made) _ _
-    plain-reduced w made (multiply fits) is lower = mul-below (positive w made) _ _
-    plain-reduced w made (project {gate} fits) is lower = fits .entries _ (lower (gate .a) (fits .lower)) .image
-    plain-reduced w made (select {gate} fits) is lower =
-        chosen-below (eqb (getD (plainValues file wires values) (gate .bit) 0) 0) _ _ _ (rw (fits .a .same) at (lower (gate .a) (fits .a .lower))) (rw (fits .b .same) at (lower (gate .b) (fits .b .lower)))
-
-    pub value-below : (w : ℕ) → w < length wires → getD (plainValues file wires values) w 0 < modulusAt wires w
-    value-below = by-lower (λ w. w < length wires → getD (plainValues file wires values) w 0 < modulusAt wires w) (λ w lower made.
-        rw (plain-step accepted w made values)
-        (plain-reduced w made (accepted .fits w made .gate) refl (λ a l. lower a l (omega arith))))
+-- a plain value is below its wire's modulus
+pub value-below : {file : List ℕ} {wires : List Wire} {outputs values : List ℕ} → Fed file wires outputs values → (w : ℕ) → w < length wires
+    → getD (plainValues file wires values) w 0 < modulusAt wires w
+unfolding plainValues
+value-below {wires = wires} fed w made = plain-below fed (length wires) (omega arith) w made

@@ -1,22 +1,20 @@
--- Which modulus stands at each byte of a contribution: an offset's own, and in a record that of its wire.
+-- The modulus that stands at each byte of an offset is its own; and how many moduli a contribution has.
 -- Assumes nothing.
 use mathlib.Core.Path.{_≡_, sym, ap, _∙_}
 use mathlib.Core.Bool.{true}
-use mathlib.Core.List.{List, _++_}
+use mathlib.Core.List.{List}
 use Prim.Native.Nat.{ℕ, _+_, _*_, _<_}
-use native.Mathlib.Nat.{add-assoc}
 use native.Mathlib.Omega.{arith}
 use lib.ListN.{length, getD, length-append, List·getD-append}
-use lib.Seq.{getD-append-add}
-use Rattle.lists.specs.Blocks.{sumTo, runs}
+use Rattle.lists.specs.Blocks.{runs}
 use Rattle.lists.proofs.Sums.{sumTo-times}
 use Rattle.lists.proofs.Blocks.{length-runs, getD-runs}
 use Rattle.words.specs.declared.gate.Wire.{Wire}
 use Rattle.circuit.specs.Wires.{modulusAt}
 use Rattle.counts.specs.Counts.{mark, recordKeysOf, recordKeysIn}
 use Rattle.counts.specs.Moduli.{used, usedBelow, moduliUsed}
-use Rattle.scheme.specs.Contribution.{offsetAt, recordAt, keyAt, shareAt, contributionSize, contributionModuli}
-use Rattle.scheme.proofs.Places.{offset-past, key-in-record, share-in-record}
+use Rattle.scheme.specs.Contribution.{offsetAt, contributionSize, contributionModuli}
+use Rattle.scheme.proofs.Places.{offset-past}
 
 module _ (K : ℕ) (wires : List Wire) where
   -- the moduli of all offsets, and those of all records
@@ -45,28 +43,3 @@ module _ (K : ℕ) (wires : List Wire) where
       List·getD-append ofOffsets ofRecords d (K * usedBelow wires p + i) (omega (arith, offsets-length, offset-past K wires p 256 e h))
       ∙ ap (λ (at : ℕ). getD ofOffsets (at + i) d) (sym (sumTo-times p K (λ q. mark (used wires q))))
       ∙ getD-runs 256 (λ q. K * mark (used wires q)) (λ q. q) p i d h (rw (ap mark e) (omega arith))
-
-  -- ---- records
-
-  pub record-modulus : (w i d : ℕ) → w < length wires → i < (K + 1) * recordKeysOf wires w → getD (contributionModuli K wires) (recordAt K wires w + i) d ≡ modulusAt wires w
-  unfolding contributionModuli recordAt
-  record-modulus w i d h l =
-      ap (λ (at : ℕ). getD (ofOffsets ++ ofRecords) at d)
-      (add-assoc (K * moduliUsed wires) ((K + 1) * sumTo w (recordKeysOf wires)) i
-      ∙ ap (λ (at : ℕ). at + ((K + 1) * sumTo w (recordKeysOf wires) + i)) (sym offsets-length))
-      ∙ getD-append-add ofOffsets ofRecords ((K + 1) * sumTo w (recordKeysOf wires) + i) d
-      ∙ ap (λ (at : ℕ). getD ofRecords (at + i) d) (sym (sumTo-times w (K + 1) (recordKeysOf wires)))
-      ∙ getD-runs (length wires) (λ v. (K + 1) * recordKeysOf wires v) (modulusAt wires) w i d h l
-
-  -- a byte of key j, and share j
-  pub key-modulus : (w j i d : ℕ) → w < length wires → j < recordKeysOf wires w → i < K → getD (contributionModuli K wires) (keyAt K wires w j + i) d ≡ modulusAt wires w
-  unfolding keyAt
-  key-modulus w j i d h k l =
-      ap (λ (at : ℕ). getD (contributionModuli K wires) at d) (add-assoc (recordAt K wires w) (K * j) i)
-      ∙ record-modulus w (K * j + i) d h (omega (arith, key-in-record K wires w j k))
-
-  pub share-modulus : (w j d : ℕ) → w < length wires → j < recordKeysOf wires w → getD (contributionModuli K wires) (shareAt K wires w j) d ≡ modulusAt wires w
-  unfolding shareAt
-  share-modulus w j d h k =
-      ap (λ (at : ℕ). getD (contributionModuli K wires) at d) (add-assoc (recordAt K wires w) (K * recordKeysOf wires w) j)
-      ∙ record-modulus w (K * recordKeysOf wires w + j) d h (omega (arith, share-in-record K wires w j k))

@@ -1,4 +1,4 @@
--- Contributions that have their length and their bytes below their moduli: what that says of each party's offsets, keys and mask shares.
+-- Contributions that have their length and their bytes below their moduli: what that says of each party's offsets.
 -- Assumes nothing.
 use mathlib.Core.Path.{_≡_, sym, ap, _∙_}
 use mathlib.Core.Bool.{true}
@@ -6,18 +6,16 @@ use mathlib.Core.List.{List}
 use Prim.Native.Nat.{ℕ, _+_, _*_, _<_}
 use native.Mathlib.Nat.{zero-mul, one-mul}
 use native.Mathlib.Omega.{arith}
-use lib.ListN.{length, getD}
+use lib.ListN.{length}
 use Rattle.lists.specs.Blocks.{part, nthPiece}
 use Rattle.lists.proofs.Parts.{length-part, part-whole}
 use Rattle.lists.proofs.Sums.{times-fits}
 use Rattle.residue.specs.Vector.{AllBelow}
 use Rattle.words.specs.declared.gate.Wire.{Wire}
-use Rattle.circuit.specs.Wires.{modulusAt}
-use Rattle.counts.specs.Counts.{recordKeysOf}
 use Rattle.counts.specs.Moduli.{used}
-use Rattle.scheme.specs.Contribution.{offsetAt, keyAt, shareAt, contributionSize, contributionModuli}
-use Rattle.scheme.proofs.Places.{offset-fits, key-fits, share-fits}
-use Rattle.scheme.proofs.ByteModuli.{offset-modulus, key-modulus, share-modulus}
+use Rattle.scheme.specs.Contribution.{offsetAt, contributionSize, contributionModuli}
+use Rattle.scheme.proofs.Places.{offset-fits}
+use Rattle.scheme.proofs.ByteModuli.{offset-modulus}
 use Rattle.scheme.proofs.EachBelow.{EachBelow, below-part}
 
 -- n contributions, one after another, each as long as it must be and with its bytes below their moduli
@@ -40,17 +38,6 @@ module _ (K : ℕ) (wires : List Wire) (c : List ℕ) (u : EachBelow c (contribu
       let fits = offset-fits K wires p t h in
       below-part p c (offsetAt K wires p) K (omega arith)
       (λ i l. rw (offset-modulus K wires p i 0 t h l) at (u .entry (offsetAt K wires p + i) (omega arith)))
-
-  pub key-bytes : (w j : ℕ) → w < length wires → j < recordKeysOf wires w → AllBelow (modulusAt wires w) (part c (keyAt K wires w j) K)
-  key-bytes w j h k =
-      let fits = key-fits K wires w j k h in
-      below-part (modulusAt wires w) c (keyAt K wires w j) K (omega arith)
-      (λ i l. rw (key-modulus K wires w j i 0 h k l) at (u .entry (keyAt K wires w j + i) (omega arith)))
-
-  pub share-byte : (w j : ℕ) → w < length wires → j < recordKeysOf wires w → getD c (shareAt K wires w j) 0 < modulusAt wires w
-  share-byte w j h k =
-      let fits = share-fits K wires w j k h in
-      rw (share-modulus K wires w j 0 h k) at (u .entry (shareAt K wires w j) (omega arith))
 
 -- a party's contribution is one by itself
 pub contributed-own : {n K : ℕ} {wires : List Wire} {contributions : List ℕ} → Contributed n K wires contributions → (s : ℕ) → s < n

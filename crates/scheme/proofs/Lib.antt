@@ -10,7 +10,6 @@ pub mod Messages
 pub mod Opened
 pub mod Padded
 pub mod Places
-pub mod Rightly
+pub mod Known
 pub mod Steps
 pub mod Used
-pub mod Examples

@@ -1,8 +1,8 @@
 -- The messages of the gates have n times K entries, all below the gate's modulus; and what the messages of a gate come to, the pads taken off.
 -- Assumes nothing.
-use mathlib.Core.Path.{_≡_, refl, sym, ap, ap₂, _∙_}
+use mathlib.Core.Path.{_≡_, sym, ap, _∙_}
 use mathlib.Core.List.{List}
-use Prim.Native.Nat.{ℕ, _+_, _-_, _*_, _≤_, _<_}
+use Prim.Native.Nat.{ℕ, _≤_, _<_}
 use native.Mathlib.Omega.{arith}
 use lib.ListN.{length}
 use Rattle.residue.specs.Residue.{add, sub, mul}
@@ -30,7 +30,7 @@ module _ {p size : ℕ} (positive : 0 < p) (D : List ℕ) (offset : length D ≡
 
   module _ (k : List ℕ) (entries : length k ≡ size) where
     pub project-message : (m image : ℕ) → Message p size (projectMessage p D k m image)
-    unfolding projectMessage keyV
+    unfolding projectMessage
     project-message m image = message k (add p image m) entries
 
     pub product-message₀ : (m mₐ mᵦ α : ℕ) → Message p size (productMessage₀ p D k m mₐ mᵦ α)

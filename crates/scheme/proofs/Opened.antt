@@ -1,9 +1,9 @@
 -- Every gate is opened rightly where the wires that it uses are; and so, by induction over the wires, evaluation undoes garbling.
 -- Assumes nothing.
 use mathlib.Core.Path.{_≡_, refl, sym, ap, ap₂, _∙_, subst, subst⁻¹}
-use mathlib.Core.Bool.{Bool, true, false}
+use mathlib.Core.Bool.{true}
 use mathlib.Core.List.{List}
-use Prim.Native.Nat.{ℕ, zero, suc, _+_, _*_, _≤_, _<_}
+use Prim.Native.Nat.{ℕ, zero, suc, _+_, _*_, _<_}
 use native.Mathlib.Omega.{arith}
 use lib.Dec.{eqb, ltb}
 use lib.ListN.{length, getD}
@@ -24,27 +24,29 @@ use Rattle.words.specs.declared.gate.Wire.{Wire}
 use Rattle.circuit.specs.Wires.{wireAt, modulusAt}
 use Rattle.circuit.specs.Accepted.{GateFits, PairFits, ProjectionFits, ChoiceFits, Alike}
 use Rattle.circuit.specs.Accepted.GateFits.{input, scale, multiply, project, select}
-use Rattle.counts.specs.Recipe.{gateRecipe, recipe}
+use Rattle.counts.specs.Recipe.{gateRecipe}
 use Rattle.counts.specs.Counts.{rowsOf, recordKeysOf, recordKeysBy}
 use Rattle.plain.specs.Plain.{chosenBy, plainBy, plainValues}
 use Rattle.scheme.specs.Draw.{Draw}
 use Rattle.scheme.specs.Zero.{freely, freelyV, zeroKeyBy, maskBy, zeroKey, mask}
 use Rattle.scheme.specs.Message.{projectMessage}
 use Rattle.pads.specs.Pad.{Pad, Under, padRow}
-use Rattle.scheme.specs.Rows.{image, under, row, projectRow, productRow₀, productRow₁, differenceKey, differenceMask, chooserRow, correctorRow₀, correctorRow₁, garbledRows}
+use Rattle.pads.specs.Moved.{placed}
+use Rattle.scheme.specs.Rows.{image, row, projectRow, productRow₀, productRow₁, differenceKey, differenceMask, chooserRow, correctorRow₀, correctorRow₁, garbledRows}
 use Rattle.search.specs.Search.{multiplier}
 use Rattle.scheme.specs.Opening.{Opened, nothing, unpadded, rowAt, ownKey, found, searched, openInput, openFree, openTable, openProduct, chosen, corrector, openChoice, openBy, opened}
-use Rattle.scheme.specs.Given.{Round, Rightly, EvaluationUndoesGarbling}
+use Rattle.scheme.specs.Given.{RoundAt, EvaluationUndoesGarbling}
 use Rattle.scheme.proofs.Steps.{by-lower, zeroKey-step, mask-step, plain-step, open-step}
-use Rattle.scheme.proofs.Search.{multiplier-is, key-part, part-size, part-below}
-use Rattle.scheme.proofs.Bounds.{prime, positive, input-first, key-size, mask-small, zeroKey-size}
+use Rattle.scheme.proofs.Search.{multiplier-is, key-part, part-below}
+use Rattle.scheme.proofs.Bounds.{prime, positive, input-first, key-size, mask-small}
 use Rattle.scheme.proofs.Messages.{Message, product-opened, choice-opened₀, choice-opened₁}
+use Rattle.scheme.proofs.Contributed.{length-nth}
 use Rattle.scheme.proofs.Padded.{unpadded-is}
-use Rattle.scheme.proofs.Rightly.{rightly-at, sum-rightly, difference-rightly, multiple-rightly, choice-value}
-use Rattle.scheme.proofs.Rows.{project-fits, product₀-fits, product₁-fits, difference-size, chooser₀-fits, chooser₁-fits, corrector₀-fits, corrector₁-fits, project-row, product-row₀, product-row₁, chooser-row₀, chooser-row₁, corrector-row₀, corrector-row₁}
+use Rattle.scheme.proofs.Known.{Known, known-rightly, known-at, sum-known, difference-known, multiple-known, choice-value}
+use Rattle.scheme.proofs.Rows.{project-fits, product₀-fits, product₁-fits, chooser₀-fits, chooser₁-fits, corrector₀-fits, corrector₁-fits, project-row, product-row₀, product-row₁, chooser-row₀, chooser-row₁, corrector-row₀, corrector-row₁}
 
 module _ {pad : Pad} {n K s : ℕ} {file : List ℕ} {wires : List Wire} {outputs : List ℕ} {draw own : Draw} {values inputs keys rows : List ℕ}
-    (round : Round pad n K s file wires outputs draw own values inputs keys rows) where
+    (round : RoundAt pad n K s file wires outputs draw own values inputs keys rows) where
   -- of a wire: its value, its mask, its zero keys, and what it is opened to
   abbrev valueOf : ℕ → ℕ
   valueOf a = getD (plainValues file wires values) a 0
@@ -58,14 +60,14 @@ module _ {pad : Pad} {n K s : ℕ} {file : List ℕ} {wires : List Wire} {output
   abbrev openOf : ℕ → Opened
   openOf a = getD (opened pad n K s wires own inputs keys rows) a nothing
 
-  -- wire a is opened rightly, its modulus being p
+  -- what is known of wire a, its modulus being p
   abbrev At : ℕ → ℕ → Type 0
-  At p a = Rightly p (n * K) (valueOf a) (maskOf a) (zeroOf a) (draw .offset p) (openOf a)
+  At p a = Known p (n * K) (valueOf a) (maskOf a) (zeroOf a) (draw .offset p) (openOf a)
 
   -- a row of garbling, opened under the keys that it was garbled under, is its message
   off : (q : ℕ) → 0 < q → (place : Under) (opening garbling : List ℕ) (r r′ : ℕ) {xs : List ℕ} → Message q (n * K) xs → opening ≡ garbling → r ≡ r′
-      → nthPiece (garbledRows pad n K file wires draw) (n * K) r′ ≡ row pad n K file wires draw q place garbling xs
-      → unpadded pad n K s wires own inputs keys rows q place opening r ≡ xs
+      → nthPiece (garbledRows pad n K file wires draw) (n * K) r′ ≡ row pad n K q place garbling xs
+      → unpadded pad n K rows q place opening r ≡ xs
   unfolding unpadded row
   off q h place opening garbling r r′ fits e f g =
       ap₂ (λ (x u : List ℕ). subV q x (padRow pad K q place u n)) (ap₂ (λ (l : List ℕ) (i : ℕ). nthPiece l (n * K) i) (round .garbled) f ∙ g) e
@@ -86,13 +88,13 @@ module _ {pad : Pad} {n K s : ℕ} {file : List ℕ} {wires : List Wire} {output
 
     -- ---- the search
 
-    found-is : 0 < recordKeysOf wires w → (e : ℕ) → e < p → found pad n K s wires own inputs keys rows w (keyV p (draw .key w 0) e D) ≡ e
+    found-is : 0 < recordKeysOf wires w → (e : ℕ) → e < p → found K s wires own w (keyV p (draw .key w 0) e D) ≡ e
     unfolding found ownKey
     found-is has e h =
         let k : own .key w 0 ≡ nthPiece (draw .key w 0) K s = round .party .key w made has in
         let d : own .offset p ≡ nthPiece D K s = round .party .offset w made in
-        let k-size = part-size n K s (draw .key w 0) (round .party .party) (round .drawn .keySize w 0 made has) in
-        let d-size = part-size n K s D (round .party .party) offset-size in
+        let k-size = length-nth n K (draw .key w 0) (round .drawn .keySize w 0 made has) s (round .party .party) in
+        let d-size = length-nth n K D offset-size s (round .party .party) in
         ap (multiplier p (own .key w 0) (own .offset p))
         (key-part p K s (draw .key w 0) e D ∙ ap₂ (λ (x y : List ℕ). keyV p x e y) (sym k) (sym d))
         ∙ multiplier-is p (prime (round .accepted) w made) (own .key w 0) (own .offset p)
@@ -100,13 +102,13 @@ module _ {pad : Pad} {n K s : ℕ} {file : List ℕ} {wires : List Wire} {output
         (subst⁻¹ (AllBelow p) d (part-below p K s D (round .drawn .offsetBelow w made)))
         (round .party .notZero w made) e h
 
-    searched-rightly : {gate : Gate} → wireAt wires w .gate ≡ gate → 0 < recordKeysBy (gateRecipe gate) → (all : List ℕ) (v : ℕ) → v < p
+    searched-known : {gate : Gate} → wireAt wires w .gate ≡ gate → 0 < recordKeysBy (gateRecipe gate) → (all : List ℕ) (v : ℕ) → v < p
         → all ≡ keyV p (draw .key w 0) (add p v (draw .mask w 0)) D
-        → Rightly p (n * K) v (draw .mask w 0) (draw .key w 0) D (searched pad n K s wires own inputs keys rows w all)
+        → Known p (n * K) v (draw .mask w 0) (draw .key w 0) D (searched K s wires own w all)
     unfolding searched
-    searched-rightly is has all v h e =
-        let external : found pad n K s wires own inputs keys rows w all ≡ add p v (draw .mask w 0) =
-        ap (found pad n K s wires own inputs keys rows w) e ∙ found-is (rw is has) (add p v (draw .mask w 0)) (add-below above v (draw .mask w 0)) in
+    searched-known is has all v h e =
+        let external : found K s wires own w all ≡ add p v (draw .mask w 0) =
+        ap (found K s wires own w) e ∙ found-is (rw is has) (add p v (draw .mask w 0)) (add-below above v (draw .mask w 0)) in
         record {
           keys = e;
           external = external;
@@ -124,15 +126,15 @@ module _ {pad : Pad} {n K s : ℕ} {file : List ℕ} {wires : List Wire} {output
     -- ---- project
 
     table : {gate : Projection} → ProjectionFits file wires w gate → wireAt wires w .gate ≡ Project gate → At (modulusAt wires (gate .a)) (gate .a)
-        → Rightly p (n * K) (bits (wordAt file (gate .table + valueOf (gate .a))) 7 0) (draw .mask w 0) (draw .key w 0) D
+        → Known p (n * K) (bits (wordAt file (gate .table + valueOf (gate .a))) 7 0) (draw .mask w 0) (draw .key w 0) D
         (openTable pad n K s wires own inputs keys rows w (modulusAt wires (gate .a)) (openOf (gate .a)))
-    unfolding openTable rowAt projectRow projectMessage image
+    unfolding openTable rowAt projectRow projectMessage keyV image
     table {gate} fits is a =
         let q : ℕ = modulusAt wires (gate .a) in
         let α : ℕ = add q (valueOf (gate .a)) (maskOf (gate .a)) in
         let lower : 0 < q = positive (round .accepted) (gate .a) (omega (arith, fits .lower)) in
-        searched-rightly is (omega arith) _ _ (fits .entries (valueOf (gate .a)) (a .value) .image)
-        (off p above (under q w 0) _ (keyV q (zeroOf (gate .a)) α (draw .offset q)) _ (sumTo w (rowsOf wires) + α)
+        searched-known is (omega arith) _ _ (fits .entries (valueOf (gate .a)) (a .value) .image)
+        (off p above (placed q w 0) _ (keyV q (zeroOf (gate .a)) α (draw .offset q)) _ (sumTo w (rowsOf wires) + α)
         (project-fits (round .pads) (round .accepted) (round .drawn) w made is _ _)
         (a .keys) (ap (λ (x : ℕ). sumTo w (rowsOf wires) + x) (a .external))
         (project-row (round .pads) (round .accepted) (round .drawn) w made is α (add-below lower (valueOf (gate .a)) (maskOf (gate .a))))
@@ -142,20 +144,20 @@ module _ {pad : Pad} {n K s : ℕ} {file : List ℕ} {wires : List Wire} {output
     -- ---- multiply
 
     product : {gate : Pair} → PairFits wires w gate → wireAt wires w .gate ≡ Multiply gate → At p (gate .a) → At p (gate .b)
-        → Rightly p (n * K) (mul p (valueOf (gate .a)) (valueOf (gate .b))) (draw .mask w 0) (draw .key w 0) D
+        → Known p (n * K) (mul p (valueOf (gate .a)) (valueOf (gate .b))) (draw .mask w 0) (draw .key w 0) D
         (openProduct pad n K s wires own inputs keys rows w (openOf (gate .a)) (openOf (gate .b)))
     unfolding openProduct rowAt productRow₀ productRow₁
     product {gate} fits is a b =
         let α : ℕ = add p (valueOf (gate .a)) (maskOf (gate .a)) in
         let β : ℕ = add p (valueOf (gate .b)) (maskOf (gate .b)) in
-        searched-rightly is (omega arith) _ _ (mul-below above (valueOf (gate .a)) (valueOf (gate .b)))
+        searched-known is (omega arith) _ _ (mul-below above (valueOf (gate .a)) (valueOf (gate .b)))
         (ap₂ (addV p)
         (ap₂ (addV p)
-        (off p above (under p w 0) _ (keyV p (zeroOf (gate .a)) α D) _ (sumTo w (rowsOf wires) + α)
+        (off p above (placed p w 0) _ (keyV p (zeroOf (gate .a)) α D) _ (sumTo w (rowsOf wires) + α)
         (product₀-fits (round .pads) (round .accepted) (round .drawn) w made fits is _ _ _ α)
         (a .keys) (omega (arith, a .external))
         (product-row₀ (round .pads) (round .accepted) (round .drawn) w made fits is α (add-below above (valueOf (gate .a)) (maskOf (gate .a)))))
-        (off p above (under p w 1) _ (keyV p (zeroOf (gate .b)) β D) _ (sumTo w (rowsOf wires) + (p + β))
+        (off p above (placed p w 1) _ (keyV p (zeroOf (gate .b)) β D) _ (sumTo w (rowsOf wires) + (p + β))
         (product₁-fits (round .pads) (round .accepted) (round .drawn) w made fits is _ _ β)
         (b .keys) (omega (arith, b .external))
         (product-row₁ (round .pads) (round .accepted) (round .drawn) w made fits is β (add-below above (valueOf (gate .b)) (maskOf (gate .b))))))
@@ -182,29 +184,29 @@ module _ {pad : Pad} {n K s : ℕ} {file : List ℕ} {wires : List Wire} {output
         fits = true;
       }
 
-      d-rightly : Rightly p (n * K) x y (subV p (zeroOf (gate .b)) (zeroOf (gate .a))) D d
-      d-rightly = difference-rightly above D offset-size b a
+      d-known : Known p (n * K) x y (subV p (zeroOf (gate .b)) (zeroOf (gate .a))) D d
+      d-known = difference-known above D offset-size b a
 
       -- what is opened where the bit's external value is e
       unfoldable opens : ℕ → List ℕ
       opens e =
           addV p
-          (chosen pad n K s wires own inputs keys rows (eqb e 0) p
-          (unpadded pad n K s wires own inputs keys rows p (under 2 w 0) (openOf (gate .bit) .keys) (sumTo w (rowsOf wires) + e)) (d .keys))
-          (unpadded pad n K s wires own inputs keys rows p (under p w (1 + e)) (d .keys) (sumTo w (rowsOf wires) + (2 + e * p + d .external)))
+          (chosen e p
+          (unpadded pad n K rows p (placed 2 w 0) (openOf (gate .bit) .keys) (sumTo w (rowsOf wires) + e)) (d .keys))
+          (unpadded pad n K rows p (placed p w (1 + e)) (d .keys) (sumTo w (rowsOf wires) + corrector p e (d .external)))
 
       opens-is : (e : ℕ) → add 2 (valueOf (gate .bit)) (maskOf (gate .bit)) ≡ e → e < 2
           → opens e ≡ keyV p (draw .key w 0) (add p (mul p (valueOf (gate .bit)) x) (draw .mask w 0)) D
-      unfolding opens chosen chooserRow correctorRow₀ correctorRow₁ differenceKey differenceMask
+      unfolding opens chosen corrector chooserRow correctorRow₀ correctorRow₁ differenceKey differenceMask
       opens-is zero z h =
           ap₂ (addV p)
-          (off p above (under 2 w 0) _ (keyV 2 (zeroOf (gate .bit)) 0 (draw .offset 2)) _ (sumTo w (rowsOf wires) + 0)
+          (off p above (placed 2 w 0) _ (keyV 2 (zeroOf (gate .bit)) 0 (draw .offset 2)) _ (sumTo w (rowsOf wires) + 0)
           (chooser₀-fits (round .pads) (round .accepted) (round .drawn) w made fits is (draw .mask w 1))
           (bit .keys ∙ ap (λ (e : ℕ). keyV 2 (zeroOf (gate .bit)) e (draw .offset 2)) z) refl
           (chooser-row₀ (round .pads) (round .accepted) (round .drawn) w made fits is))
-          (off p above (under p w 1) _ (keyV p (subV p (zeroOf (gate .b)) (zeroOf (gate .a))) (add p x y) D) _ (sumTo w (rowsOf wires) + (2 + add p x y))
+          (off p above (placed p w 1) _ (keyV p (subV p (zeroOf (gate .b)) (zeroOf (gate .a))) (add p x y) D) _ (sumTo w (rowsOf wires) + (2 + add p x y))
           (corrector₀-fits (round .pads) (round .accepted) (round .drawn) w made fits is _ _ _ _)
-          (d-rightly .keys) (omega (arith, d-rightly .external))
+          (d-known .keys) (omega (arith, d-known .external))
           (corrector-row₀ (round .pads) (round .accepted) (round .drawn) w made fits is (add p x y) (add-below above x y)))
           ∙ choice-opened₀ p (n * K) (prime (round .accepted) w made .two) D offset-size (draw .key w 0) (draw .key w 1)
           (key-size (round .accepted) (round .drawn) w 0 made is (omega arith)) (key-size (round .accepted) (round .drawn) w 1 made is (omega arith))
@@ -212,34 +214,34 @@ module _ {pad : Pad} {n K s : ℕ} {file : List ℕ} {wires : List Wire} {output
       opens-is (suc zero) z h =
           ap₂ (addV p)
           (ap₂ (addV p)
-          (off p above (under 2 w 0) _ (keyV 2 (zeroOf (gate .bit)) 1 (draw .offset 2)) _ (sumTo w (rowsOf wires) + 1)
+          (off p above (placed 2 w 0) _ (keyV 2 (zeroOf (gate .bit)) 1 (draw .offset 2)) _ (sumTo w (rowsOf wires) + 1)
           (chooser₁-fits (round .pads) (round .accepted) (round .drawn) w made fits is (draw .mask w 2) y)
           (bit .keys ∙ ap (λ (e : ℕ). keyV 2 (zeroOf (gate .bit)) e (draw .offset 2)) z) refl
           (chooser-row₁ (round .pads) (round .accepted) (round .drawn) w made fits is))
-          (d-rightly .keys))
-          (off p above (under p w 2) _ (keyV p (subV p (zeroOf (gate .b)) (zeroOf (gate .a))) (add p x y) D) _ (sumTo w (rowsOf wires) + (2 + p + add p x y))
+          (d-known .keys))
+          (off p above (placed p w 2) _ (keyV p (subV p (zeroOf (gate .b)) (zeroOf (gate .a))) (add p x y) D) _ (sumTo w (rowsOf wires) + (2 + p + add p x y))
           (corrector₁-fits (round .pads) (round .accepted) (round .drawn) w made fits is _ _ _ _)
-          (d-rightly .keys) (omega (arith, d-rightly .external))
+          (d-known .keys) (omega (arith, d-known .external))
           (corrector-row₁ (round .pads) (round .accepted) (round .drawn) w made fits is (add p x y) (add-below above x y)))
           ∙ choice-opened₁ p (n * K) (prime (round .accepted) w made .two) D offset-size (draw .key w 0) (draw .key w 2)
           (subV p (zeroOf (gate .b)) (zeroOf (gate .a)))
           (key-size (round .accepted) (round .drawn) w 0 made is (omega arith)) (key-size (round .accepted) (round .drawn) w 2 made is (omega arith))
-          (d-rightly .size)
+          (d-known .size)
           (draw .mask w 0) (draw .mask w 2) (valueOf (gate .bit)) (maskOf (gate .bit)) x y (bit .value) (bit .mask) z
       opens-is (suc (suc e)) z h = absurd (omega arith)
 
-      choice : Rightly p (n * K) (chosenBy (eqb (valueOf (gate .bit)) 0) (valueOf (gate .a)) (valueOf (gate .b))) (add p (draw .mask w 0) (maskOf (gate .a)))
+      choice : Known p (n * K) (chosenBy (eqb (valueOf (gate .bit)) 0) (valueOf (gate .a)) (valueOf (gate .b))) (add p (draw .mask w 0) (maskOf (gate .a)))
           (addV p (draw .key w 0) (zeroOf (gate .a))) D
           (openChoice pad n K s wires own inputs keys rows w (openOf (gate .bit)) (openOf (gate .a)) (openOf (gate .b)))
-      unfolding openChoice corrector rowAt opens
+      unfolding openChoice rowAt opens
       choice =
           let e : ℕ = add 2 (valueOf (gate .bit)) (maskOf (gate .bit)) in
-          let h : Rightly p (n * K) (mul p (valueOf (gate .bit)) x) (draw .mask w 0) (draw .key w 0) D
-          (searched pad n K s wires own inputs keys rows w (opens (openOf (gate .bit) .external))) =
-          searched-rightly is (omega arith) _ _ (mul-below above (valueOf (gate .bit)) x)
+          let h : Known p (n * K) (mul p (valueOf (gate .bit)) x) (draw .mask w 0) (draw .key w 0) D
+          (searched K s wires own w (opens (openOf (gate .bit) .external))) =
+          searched-known is (omega arith) _ _ (mul-below above (valueOf (gate .bit)) x)
           (ap opens (bit .external) ∙ opens-is e refl (add-below (omega arith) (valueOf (gate .bit)) (maskOf (gate .bit)))) in
-          rightly-at (choice-value p (valueOf (gate .bit)) (valueOf (gate .a)) (valueOf (gate .b)) (bit .value) (a .value) (b .value)) refl refl refl
-          (sum-rightly above D offset-size _ (h .fits) h a)
+          known-at (choice-value p (valueOf (gate .bit)) (valueOf (gate .a)) (valueOf (gate .b)) (bit .value) (a .value) (b .value)) refl refl refl
+          (sum-known above D offset-size _ (h .fits) h a)
 
     -- ---- input
 
@@ -252,7 +254,7 @@ module _ {pad : Pad} {n K s : ℕ} {file : List ℕ} {wires : List Wire} {output
     drawn-mask is = mask-step (round .accepted) w made draw ∙ ap (λ (g : Gate). maskBy draw w p g (gateRecipe g) maskOf) is
 
     given : {gate : Owned} → wireAt wires w .gate ≡ Input gate
-        → Rightly p (n * K) (getD values w 0) (draw .mask w 0) (draw .key w 0) D (openInput pad n K s wires own inputs keys rows w)
+        → Known p (n * K) (getD values w 0) (draw .mask w 0) (draw .key w 0) D (openInput n K inputs keys w)
     unfolding openInput
     given is =
         let here = input-first (round .accepted) w made is in
@@ -269,31 +271,31 @@ module _ {pad : Pad} {n K s : ℕ} {file : List ℕ} {wires : List Wire} {output
 
     -- ---- any gate
 
-    gate-rightly : {gate : Gate} → GateFits file wires w gate → wireAt wires w .gate ≡ gate → ((a : ℕ) → a < w → At (modulusAt wires a) a)
-        → Rightly p (n * K) (plainBy file values w p gate valueOf) (maskBy draw w p gate (gateRecipe gate) maskOf)
+    gate-known : {gate : Gate} → GateFits file wires w gate → wireAt wires w .gate ≡ gate → ((a : ℕ) → a < w → At (modulusAt wires a) a)
+        → Known p (n * K) (plainBy file values w p gate valueOf) (maskBy draw w p gate (gateRecipe gate) maskOf)
         (zeroKeyBy draw w p gate (gateRecipe gate) zeroOf) D (openBy pad n K s wires own inputs keys rows w (gateRecipe gate) openOf)
     unfolding plainBy maskBy zeroKeyBy openBy openFree freely freelyV
-    gate-rightly (input fits) is lower = given is
-    gate-rightly (GateFits.add {gate} fits) is lower =
-        rw is (sum-rightly above D offset-size true refl (alike (fits .a) (lower (gate .a) (fits .a .lower))) (alike (fits .b) (lower (gate .b) (fits .b .lower))))
-    gate-rightly (scale {gate} fits) is lower =
-        rw is (multiple-rightly above D offset-size (gate .constant) (alike (fits .a) (lower (gate .a) (fits .a .lower))))
-    gate-rightly (multiply {gate} fits) is lower =
+    gate-known (input fits) is lower = given is
+    gate-known (GateFits.add {gate} fits) is lower =
+        rw is (sum-known above D offset-size true refl (alike (fits .a) (lower (gate .a) (fits .a .lower))) (alike (fits .b) (lower (gate .b) (fits .b .lower))))
+    gate-known (scale {gate} fits) is lower =
+        rw is (multiple-known above D offset-size (gate .constant) (alike (fits .a) (lower (gate .a) (fits .a .lower))))
+    gate-known (multiply {gate} fits) is lower =
         product fits is (alike (fits .a) (lower (gate .a) (fits .a .lower))) (alike (fits .b) (lower (gate .b) (fits .b .lower)))
-    gate-rightly (project {gate} fits) is lower = table fits is (lower (gate .a) (fits .lower))
-    gate-rightly (select {gate} fits) is lower =
+    gate-known (project {gate} fits) is lower = table fits is (lower (gate .a) (fits .lower))
+    gate-known (select {gate} fits) is lower =
         choice fits is (subst (λ (q : ℕ). At q (gate .bit)) (fits .binary) (lower (gate .bit) (fits .lower)))
         (alike (fits .a) (lower (gate .a) (fits .a .lower))) (alike (fits .b) (lower (gate .b) (fits .b .lower)))
 
-    wire-rightly : ((a : ℕ) → a < w → At (modulusAt wires a) a) → At p w
-    wire-rightly lower =
-        rightly-at (plain-step (round .accepted) w made values) (mask-step (round .accepted) w made draw) (zeroKey-step (round .accepted) w made draw)
+    wire-known : ((a : ℕ) → a < w → At (modulusAt wires a) a) → At p w
+    wire-known lower =
+        known-at (plain-step (round .accepted) w made values) (mask-step (round .accepted) w made draw) (zeroKey-step (round .accepted) w made draw)
         (open-step (round .accepted) w made pad n K s own inputs keys rows)
-        (gate-rightly (round .accepted .fits w made .gate) refl lower)
+        (gate-known (round .accepted .fits w made .gate) refl lower)
 
-  opened-rightly : (w : ℕ) → w < length wires → At (modulusAt wires w) w
-  opened-rightly =
-      by-lower (λ w. w < length wires → At (modulusAt wires w) w) (λ w lower made. wire-rightly w made (λ a l. lower a l (omega arith)))
+  opened-known : (w : ℕ) → w < length wires → At (modulusAt wires w) w
+  opened-known =
+      by-lower (λ w. w < length wires → At (modulusAt wires w) w) (λ w lower made. wire-known w made (λ a l. lower a l (omega arith)))
 
 pub evaluation-undoes-garbling : EvaluationUndoesGarbling
-evaluation-undoes-garbling pad n K s file wires outputs draw own values inputs keys rows round w made = opened-rightly round w made
+evaluation-undoes-garbling pad n K s file wires outputs draw own values inputs keys rows round w made = known-rightly (opened-known round w made)

@@ -47,11 +47,11 @@ module _ (K : ℕ) (wires : List Wire) where
   share-inside m j h = omega (arith, add-mul K 1 m)
 
   module _ (w j : ℕ) (h : j < recordKeysOf wires w) where
-    pub key-in-record : keyAt K wires w j + K ≤ recordAt K wires w + (K + 1) * recordKeysOf wires w
+    key-in-record : keyAt K wires w j + K ≤ recordAt K wires w + (K + 1) * recordKeysOf wires w
     unfolding keyAt
     key-in-record = omega (arith, key-inside (recordKeysOf wires w) j h)
 
-    pub share-in-record : shareAt K wires w j < recordAt K wires w + (K + 1) * recordKeysOf wires w
+    share-in-record : shareAt K wires w j < recordAt K wires w + (K + 1) * recordKeysOf wires w
     unfolding shareAt
     share-in-record = omega (arith, share-inside (recordKeysOf wires w) j h)
 

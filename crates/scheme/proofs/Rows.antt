@@ -1,16 +1,16 @@
 -- The garbled rows read back: row r of wire w, counted from the first row of the circuit, is row r of w's gate; and which row of which component
 -- that is. Each row has n times K entries.
 -- Assumes nothing.
-use mathlib.Core.Path.{_≡_, refl, sym, ap, ap₂, _∙_}
+use mathlib.Core.Path.{_≡_, refl, sym, ap, _∙_}
 use mathlib.Core.List.{List, _++_}
 use Prim.Native.Nat.{ℕ, _+_, _*_, _≤_, _<_}
 use native.Mathlib.Omega.{arith}
-use lib.ListN.{length, getD, length-append}
+use lib.ListN.{length, length-append}
 use Rattle.lists.specs.Blocks.{blocks, part, nthPiece, sumTo}
 use Rattle.lists.proofs.Sums.{times-fits, sumTo-times}
-use Rattle.lists.proofs.Parts.{part-whole, part-left, part-right, part-last, part-of-part}
+use Rattle.lists.proofs.Parts.{part-left, part-right, part-last, part-of-part}
 use Rattle.lists.proofs.Blocks.{length-blocks-same, part-blocks, part-blocks-same}
-use Rattle.residue.specs.Vector.{addV, subV, keyV}
+use Rattle.residue.specs.Vector.{subV}
 use Rattle.residue.proofs.Vectors.{subV-length}
 use Rattle.words.specs.declared.gate.Pair.{Pair}
 use Rattle.words.specs.declared.gate.Projection.{Projection}
@@ -19,17 +19,18 @@ use Rattle.words.specs.declared.gate.Gate.{Gate}
 use Rattle.words.specs.declared.gate.Gate.the-variants.{Multiply, Project, Select}
 use Rattle.words.specs.declared.gate.Wire.{Wire}
 use Rattle.circuit.specs.Wires.{wireAt, modulusAt}
-use Rattle.circuit.specs.Accepted.{GateFits, AcceptedCircuit, PairFits, ProjectionFits, ChoiceFits}
+use Rattle.circuit.specs.Accepted.{GateFits, AcceptedCircuit, PairFits, ChoiceFits}
 use Rattle.circuit.specs.Accepted.GateFits.{input, add, scale, multiply, project, select}
 use Rattle.counts.specs.Recipe.{gateRecipe, recipe}
 use Rattle.counts.specs.Counts.{rowsBy, rowsOf}
 use Rattle.scheme.specs.Draw.{Draw}
 use Rattle.scheme.specs.Zero.{zeroKey, mask}
 use Rattle.scheme.specs.Message.{projectMessage, productMessage₀, productMessage₁, chooserMessage₀, chooserMessage₁, correctorMessage₀, correctorMessage₁}
-use Rattle.pads.specs.Pad.{Pad, Under, padRow}
+use Rattle.pads.specs.Pad.{Pad, Under}
 use Rattle.scheme.specs.Rows.{row, projectRow, productRow₀, productRow₁, differenceKey, differenceMask, chooserRow, chooserRows, correctorRow₀, correctorRow₁, gateRows, garbledRows}
 use Rattle.scheme.specs.Drawn.{PadSize, WellDrawn}
 use Rattle.scheme.proofs.Bounds.{positive, key-size, zeroKey-size}
+use Rattle.scheme.proofs.Contributed.{nth-whole}
 use Rattle.scheme.proofs.Messages.{Message, project-message, product-message₀, product-message₁, chooser-message₀, chooser-message₁, corrector-message₀, corrector-message₁}
 use Rattle.scheme.proofs.Padded.{padded-size}
 
@@ -43,11 +44,6 @@ nth-right xs ys m s r e =
     let place : (m + r) * s ≡ length xs + r * s = omega arith in
     ap (λ (at : ℕ). part (xs ++ ys) at s) place ∙ part-right xs ys (r * s) s
 
-nth-only : (xs : List ℕ) (s : ℕ) → length xs ≡ s → nthPiece xs s 0 ≡ xs
-nth-only xs s e =
-    let place : 0 * s ≡ 0 = omega arith in
-    ap (λ (at : ℕ). part xs at s) place ∙ part-whole xs s (omega arith)
-
 two-blocks : (p s : ℕ) (f g : ℕ → List ℕ) → ((i : ℕ) → i < p → length (f i) ≡ s) → ((i : ℕ) → i < p → length (g i) ≡ s)
     → length (blocks p f ++ blocks p g) ≡ 2 * p * s
 two-blocks p s f g e h = length-append (blocks p f) (blocks p g) ∙ omega (arith, length-blocks-same p s f e, length-blocks-same p s g h)
@@ -57,7 +53,7 @@ two-blocks p s f g e h = length-append (blocks p f) (blocks p g) ∙ omega (arit
 module _ {pad : Pad} (pads : PadSize pad) {file : List ℕ} {wires : List Wire} {outputs : List ℕ} (accepted : AcceptedCircuit file wires outputs)
     {n K : ℕ} {draw : Draw} (drawn : WellDrawn n K wires draw) where
   row-size : (q : ℕ) → 0 < q → (place : Under) (keys : List ℕ) {xs : List ℕ} → Message q (n * K) xs
-      → length (row pad n K file wires draw q place keys xs) ≡ n * K
+      → length (row pad n K q place keys xs) ≡ n * K
   unfolding row
   row-size q h place keys m = padded-size pads n K q h place keys m
 
@@ -113,7 +109,7 @@ module _ {pad : Pad} (pads : PadSize pad) {file : List ℕ} {wires : List Wire} 
       drawn-size : (j : ℕ) → j < 3 → length (draw .key w j) ≡ n * K
       drawn-size j h = key-size accepted drawn w j made is h
 
-      pub difference-size : length (differenceKey pad n K file wires draw w (gate .a) (gate .b)) ≡ n * K
+      pub difference-size : length (differenceKey wires draw w (gate .a) (gate .b)) ≡ n * K
       unfolding differenceKey
       difference-size =
           let b = zero-size (gate .b) (fits .b .lower) in
@@ -123,7 +119,7 @@ module _ {pad : Pad} (pads : PadSize pad) {file : List ℕ} {wires : List Wire} 
       chooser₀-fits m = chooser-message₀ above D offset-size (draw .key w 1) (drawn-size 1 (omega arith)) m
 
       pub chooser₁-fits : (m y : ℕ)
-          → Message p (n * K) (chooserMessage₁ p D (draw .key w 2) m (differenceKey pad n K file wires draw w (gate .a) (gate .b)) y)
+          → Message p (n * K) (chooserMessage₁ p D (draw .key w 2) m (differenceKey wires draw w (gate .a) (gate .b)) y)
       chooser₁-fits m y = chooser-message₁ above D offset-size (draw .key w 2) (drawn-size 2 (omega arith)) m _ difference-size y
 
       pub corrector₀-fits : (m v y α : ℕ) → Message p (n * K) (correctorMessage₀ p D (subV p (draw .key w 0) (draw .key w 1)) m v y α)
@@ -145,7 +141,7 @@ module _ {pad : Pad} (pads : PadSize pad) {file : List ℕ} {wires : List Wire} 
           ∙ omega (
             arith,
             chooserRow-size 0 (chooser₀-fits (draw .mask w 1)),
-            chooserRow-size 1 (chooser₁-fits (draw .mask w 2) (differenceMask pad n K file wires draw w (gate .a) (gate .b))),
+            chooserRow-size 1 (chooser₁-fits (draw .mask w 2) (differenceMask wires draw w (gate .a) (gate .b))),
           )
 
       correctorRow₀-size : (α : ℕ) → length (correctorRow₀ pad n K file wires draw w (gate .bit) (gate .a) (gate .b) α) ≡ n * K
@@ -288,12 +284,12 @@ module _ {pad : Pad} (pads : PadSize pad) {file : List ℕ} {wires : List Wire} 
           let size = chooserRow-size w made fits is 0 (chooser₀-fits w made fits is (draw .mask w 1)) in
           chooser 0 (omega arith)
           ∙ nth-left (chooserRow pad n K file wires draw w (gate .bit) 0 _) _ 1 (n * K) 0 (omega arith) (omega arith)
-          ∙ nth-only _ (n * K) size
+          ∙ nth-whole _ (n * K) size
 
       pub chooser-row₁ : nthPiece (garbledRows pad n K file wires draw) (n * K) (rowsBefore w + 1)
           ≡ chooserRow pad n K file wires draw w (gate .bit) 1
           (chooserMessage₁ (modulusAt wires w) (draw .offset (modulusAt wires w)) (draw .key w 2) (draw .mask w 2)
-          (differenceKey pad n K file wires draw w (gate .a) (gate .b)) (differenceMask pad n K file wires draw w (gate .a) (gate .b)))
+          (differenceKey wires draw w (gate .a) (gate .b)) (differenceMask wires draw w (gate .a) (gate .b)))
       unfolding chooserRows
       chooser-row₁ =
           let size = chooserRow-size w made fits is 0 (chooser₀-fits w made fits is (draw .mask w 1)) in

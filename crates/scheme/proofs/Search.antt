@@ -3,12 +3,10 @@
 use mathlib.Core.Path.{_≡_, refl}
 use mathlib.Core.Bool.{Bool, true, false}
 use mathlib.Core.List.{List}
-use Prim.Native.Nat.{ℕ, _+_, _*_, _≤_, _<_}
+use Prim.Native.Nat.{ℕ, _*_, _<_}
 use native.Mathlib.Omega.{arith}
-use lib.ListN.{length, getD}
+use lib.ListN.{length}
 use Rattle.lists.specs.Blocks.{part, nthPiece}
-use Rattle.lists.proofs.Sums.{times-fits}
-use Rattle.lists.proofs.Parts.{length-part}
 use Rattle.lists.proofs.First.{first-at}
 use Rattle.residue.specs.Prime.{Prime}
 use Rattle.residue.specs.Vector.{keyV, AllBelow, NotZero}
@@ -36,9 +34,6 @@ module _ (p : ℕ) (prime : Prime p) (k D : List ℕ) (size : length k ≡ lengt
 pub key-part : (p K s : ℕ) (k : List ℕ) (e : ℕ) (D : List ℕ) → nthPiece (keyV p k e D) K s ≡ keyV p (nthPiece k K s) e (nthPiece D K s)
 unfolding part
 key-part p K s k e D = rw (keyV-drop p (s * K) k e D) (keyV-take p K _ e _)
-
-pub part-size : (n K s : ℕ) (xs : List ℕ) → s < n → length xs ≡ n * K → length (nthPiece xs K s) ≡ K
-part-size n K s xs h size = length-part xs (s * K) K (omega (arith, times-fits s n K h))
 
 pub part-below : (p K s : ℕ) (xs : List ℕ) → AllBelow p xs → AllBelow p (nthPiece xs K s)
 unfolding part

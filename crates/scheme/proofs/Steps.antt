@@ -10,19 +10,17 @@ use lib.ListN.{length, getD}
 use Rattle.lists.proofs.Grown.{getD-grown, getD-grown-below}
 use Rattle.residue.specs.Residue.{add, mul}
 use Rattle.residue.specs.Vector.{addV, mulV}
-use Rattle.words.specs.Bits.{bits, wordAt}
 use Rattle.words.specs.declared.gate.Gate.{Gate}
-use Rattle.words.specs.declared.gate.Gate.the-variants.{Input, Add, Scale, Multiply, Project, Select}
 use Rattle.words.specs.declared.gate.Wire.{Wire}
 use Rattle.circuit.specs.Wires.{wireAt, modulusAt}
 use Rattle.circuit.specs.Accepted.{GateFits, AcceptedCircuit}
 use Rattle.circuit.specs.Accepted.GateFits.{input, scale, multiply, project, select}
 use Rattle.counts.specs.Recipe.{gateRecipe, recipe}
-use Rattle.plain.specs.Plain.{chosenBy, plainBy, plainTo, plainValues}
+use Rattle.plain.specs.Plain.{plainBy, plainTo, plainValues}
 use Rattle.scheme.specs.Draw.{Draw}
 use Rattle.scheme.specs.Zero.{freely, freelyV, zeroKeyBy, maskBy, zeroKeysTo, masksTo, zeroKey, mask}
 use Rattle.pads.specs.Pad.{Pad}
-use Rattle.scheme.specs.Opening.{Opened, nothing, openFree, openTable, openProduct, openChoice, openBy, openedTo, opened}
+use Rattle.scheme.specs.Opening.{Opened, nothing, openFree, openBy, openedTo, opened}
 
 -- what holds of a number as soon as it holds of all lower ones holds of every number
 module _ (P : ℕ → Type 0) (step : (w : ℕ) → ((a : ℕ) → a < w → P a) → P w) where

@@ -10,11 +10,11 @@ use native.Mathlib.Omega.{arith}
 use lib.Dec.{eqb}
 use lib.ListN.{length}
 use borrow.Author.Tests.{eq-eqb}
-use Rattle.lists.proofs.Sums.{sumTo-mono, sumTo-fits}
+use Rattle.lists.proofs.Sums.{sumTo-fits}
 use Rattle.words.specs.declared.gate.Wire.{Wire}
 use Rattle.circuit.specs.Wires.{modulusAt}
 use Rattle.counts.specs.Counts.{mark}
-use Rattle.counts.specs.Moduli.{someBelow, used, usedBelow, moduliUsed}
+use Rattle.counts.specs.Moduli.{someBelow, used, usedBelow}
 
 -- ---- a test that holds of some number below n
 
@@ -53,16 +53,6 @@ pub used-modulus : (wires : List Wire) (w : ℕ) → w < length wires → used w
 used-modulus wires w h =
     someBelow-at (length wires) (λ v. eqb (modulusAt wires v) (modulusAt wires w)) w h (eq-eqb (modulusAt wires w) (modulusAt wires w) refl)
 
--- a modulus that is not in use is no wire's
-pub unused-modulus : (wires : List Wire) (p : ℕ) → used wires p ≡ false → (w : ℕ) → w < length wires → modulusAt wires w ≡ p → ⊥
-unused-modulus wires p e w h k = let z : _≡_ {A = Bool} true false = sym (used-modulus wires w h) ∙ ap (used wires) k ∙ e in let n : _≡_ {A = ℕ} 0 1 = cc in omega arith
-
-pub usedBelow-mono : (wires : List Wire) (p q : ℕ) → p ≤ q → usedBelow wires p ≤ usedBelow wires q
-usedBelow-mono wires p q h = sumTo-mono p q (λ r. mark (used wires r)) h
-
 -- a modulus in use has fewer below it than any number above it has
 pub usedBelow-past : (wires : List Wire) (p q : ℕ) → used wires p ≡ true → p < q → usedBelow wires p + 1 ≤ usedBelow wires q
 usedBelow-past wires p q e h = rw (ap mark e) at (sumTo-fits p q (λ r. mark (used wires r)) h)
-
-pub used-place : (wires : List Wire) (p : ℕ) → used wires p ≡ true → p < 256 → usedBelow wires p < moduliUsed wires
-used-place wires p e h = omega (arith, usedBelow-past wires p 256 e h)

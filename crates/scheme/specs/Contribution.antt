@@ -3,9 +3,9 @@
 -- first part after each; in a choice two first parts after each.
 -- Assumes nothing.
 use mathlib.Core.List.{List, _++_}
-use Prim.Native.Nat.{ℕ, suc, _+_, _*_}
+use Prim.Native.Nat.{ℕ, _+_, _*_}
 use lib.ListN.{length}
-use Rattle.lists.specs.Blocks.{sumTo, blocks, runs}
+use Rattle.lists.specs.Blocks.{sumTo, runs}
 use Rattle.words.specs.declared.gate.Wire.{Wire}
 use Rattle.circuit.specs.Wires.{modulusAt}
 use Rattle.counts.specs.Counts.{mark, recordKeysOf, recordKeysIn}

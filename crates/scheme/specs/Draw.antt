@@ -2,7 +2,7 @@
 -- ascending: n times K residues. So do the offsets of a modulus.
 -- Assumes nothing.
 use mathlib.Core.List.{List}
-use Prim.Native.Nat.{ℕ, _+_, _%_}
+use Prim.Native.Nat.{ℕ, _%_}
 use lib.ListN.{getD}
 use Rattle.lists.specs.Blocks.{sumTo, blocks, part, nthPiece}
 use Rattle.words.specs.declared.gate.Wire.{Wire}

@@ -1,4 +1,5 @@
--- Document 01, "The plain circuit and a round": what evaluation at a party is given in a round, and what it comes to on every wire.
+-- Document 01, "The plain circuit and a round": what evaluation at a party is given in a round, and what it comes to on every wire. This
+-- states the theorem of proofs/Opened.antt.
 -- Assumes nothing.
 use mathlib.Core.Path.{_≡_}
 use mathlib.Core.Bool.{true}
@@ -28,7 +29,7 @@ pub record GivenInputs (n K : ℕ) (wires : List Wire) (draw : Draw) (values inp
       → nthPiece keys (n * K) w ≡ keyV (modulusAt wires w) (zeroKey wires draw w) (getD inputs w 0) (draw .offset (modulusAt wires w))
 
 -- what evaluation at party s is given: an accepted circuit, what was drawn, the inputs, and the garbled rows
-pub record Round (pad : Pad) (n K s : ℕ) (file : List ℕ) (wires : List Wire) (outputs : List ℕ) (draw own : Draw) (values inputs keys rows : List ℕ) : Type 0 where
+pub record RoundAt (pad : Pad) (n K s : ℕ) (file : List ℕ) (wires : List Wire) (outputs : List ℕ) (draw own : Draw) (values inputs keys rows : List ℕ) : Type 0 where
   pub pads : PadSize pad
   pub accepted : AcceptedCircuit file wires outputs
   pub drawn : WellDrawn n K wires draw
@@ -36,22 +37,19 @@ pub record Round (pad : Pad) (n K s : ℕ) (file : List ℕ) (wires : List Wire)
   pub given : GivenInputs n K wires draw values inputs keys
   pub garbled : rows ≡ garbledRows pad n K file wires draw
 
--- a wire of modulus p with value v, mask m, zero keys k of width residues and offsets D is opened rightly: the external value is v + m, the
--- keys are k + (v + m)·D, and every search found its multiplier
-pub record Rightly (p width v m : ℕ) (k D : List ℕ) (o : Opened) : Type 0 where
+-- a wire of modulus p with value v, mask m, zero keys k and offsets D is opened rightly: the external value is v + m, the keys are
+-- k + (v + m)·D, and a multiplier fits where one is searched
+pub record Rightly (p v m : ℕ) (k D : List ℕ) (o : Opened) : Type 0 where
   pub keys : o .keys ≡ keyV p k (add p v m) D
   pub external : o .external ≡ add p v m
   pub fits : o .fits ≡ true
-  pub value : v < p
-  pub mask : m < p
-  pub size : length k ≡ width
 
 -- evaluation undoes garbling: every wire is opened rightly
 abbrev pub EvaluationUndoesGarbling : Type 0
 EvaluationUndoesGarbling =
     (pad : Pad) (n K s : ℕ) (file : List ℕ) (wires : List Wire) (outputs : List ℕ) (draw own : Draw) (values inputs keys rows : List ℕ)
-    → Round pad n K s file wires outputs draw own values inputs keys rows
+    → RoundAt pad n K s file wires outputs draw own values inputs keys rows
     → (w : ℕ)
     → w < length wires
-    → Rightly (modulusAt wires w) (n * K) (getD (plainValues file wires values) w 0) (mask wires draw w) (zeroKey wires draw w)
+    → Rightly (modulusAt wires w) (getD (plainValues file wires values) w 0) (mask wires draw w) (zeroKey wires draw w)
     (draw .offset (modulusAt wires w)) (getD (opened pad n K s wires own inputs keys rows) w nothing)

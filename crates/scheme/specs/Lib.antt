@@ -1,4 +1,5 @@
--- The garbling scheme as document 01 writes it, in its order: what parties contribute, zero keys and masks, messages, rows; evaluation.
+-- The garbling scheme as document 01 writes it, in its order: what parties contribute, zero keys and masks, messages, rows; evaluation. Drawn
+-- and Given state the theorem of proofs/Opened; no contract rests on them.
 pub mod Contribution
 pub mod Draw
 pub mod Zero

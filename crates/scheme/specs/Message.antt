@@ -4,13 +4,13 @@
 use mathlib.Core.List.{List}
 use Prim.Native.Nat.{ℕ}
 use Rattle.residue.specs.Residue.{add, sub, mul}
-use Rattle.residue.specs.Vector.{addV, subV, mulV, keyV}
-
--- project, row α: k + (T(α − mₐ) + m)·D; the image T(α − mₐ) is given
-unfoldable pub projectMessage : ℕ → List ℕ → List ℕ → ℕ → ℕ → List ℕ
-projectMessage q D k m image = keyV q k (add q image m) D
+use Rattle.residue.specs.Vector.{addV, subV, mulV}
 
 module _ (p : ℕ) (D : List ℕ) where
+  -- project, row α: k + (T(α − mₐ) + m)·D, modulo the receiving modulus; the image T(α − mₐ) is given
+  unfoldable pub projectMessage : List ℕ → ℕ → ℕ → List ℕ
+  projectMessage k m image = addV p k (mulV p (add p image m) D)
+
   -- multiply, component 0, under a's key for α: k′ + (−mᵦ·α + mᵦ·mₐ + m′)·D
   unfoldable pub productMessage₀ : List ℕ → ℕ → ℕ → ℕ → ℕ → List ℕ
   productMessage₀ k′ m′ mₐ mᵦ α = addV p k′ (mulV p (add p (add p (sub p 0 (mul p mᵦ α)) (mul p mᵦ mₐ)) m′) D)

@@ -1,9 +1,9 @@
 -- Document 01, "The gates" and "Opening": what party s opens, wire after wire: all parties' keys and the external value.
 -- Assumes nothing.
 use mathlib.Core.Bool.{Bool, true, false}
-use mathlib.Core.List.{List, [], _∷_, _++_, map}
+use mathlib.Core.List.{List, [], map}
 use Prim.Native.Nat.{ℕ, zero, suc, _+_, _*_}
-use lib.Dec.{eqb, ltb}
+use lib.Dec.{ltb}
 use lib.ListN.{length, getD}
 use Rattle.lists.specs.Blocks.{sumTo, blocks, nthPiece}
 use Rattle.lists.specs.Grown.{grown}
@@ -19,10 +19,10 @@ use Rattle.counts.specs.Counts.{rowsOf}
 use Rattle.scheme.specs.Draw.{Draw}
 use Rattle.scheme.specs.Zero.{freely, freelyV}
 use Rattle.pads.specs.Pad.{Pad, Under, padRow}
-use Rattle.scheme.specs.Rows.{under}
+use Rattle.pads.specs.Moved.{placed}
 use Rattle.search.specs.Search.{multiplier}
 
--- a wire that is opened: all parties' keys, the external value, and whether every search so far on this wire found a multiplier
+-- a wire that is opened: all parties' keys, the external value, and whether a multiplier fits; true where none is searched
 pub record Opened : Type 0 where
   pub keys : List ℕ
   pub external : ℕ
@@ -32,72 +32,86 @@ pub record Opened : Type 0 where
 abbrev pub nothing : Opened
 nothing = record { keys = []; external = 0; fits = false }
 
--- n parties, key length K, party s, what s itself drew, the external values of the inputs, all input keys (input, then party), and rows
-module _ (pad : Pad) (n K s : ℕ) (wires : List Wire) (own : Draw) (inputs keys rows : List ℕ) where
-  -- row r without the pads of the senders' keys that it is opened under
-  unfoldable pub unpadded : ℕ → Under → List ℕ → ℕ → List ℕ
-  unpadded q place under r = subV q (nthPiece rows (n * K) r) (padRow pad K q place under n)
+-- an input's keys and external value are given: wire w's, of n parties' keys of length K, input after input
+unfoldable pub openInput : ℕ → ℕ → List ℕ → List ℕ → ℕ → Opened
+openInput n K inputs keys w = record { keys = nthPiece keys (n * K) w; external = getD inputs w 0; fits = true }
 
-  -- the first row of wire w
-  unfoldable pub rowAt : ℕ → ℕ
-  rowAt w = sumTo w (rowsOf wires)
+-- add and scale, of modulus p, from the wires opened below
+unfoldable pub openFree : ℕ → Gate → (ℕ → Opened) → Opened
+openFree p gate look =
+    record { keys = freelyV p gate (λ a. look a .keys); external = freely p gate (λ a. look a .external); fits = true }
 
-  -- s's own key, for which the multiplier is searched
-  unfoldable pub ownKey : List ℕ → List ℕ
-  ownKey all = nthPiece all K s
+-- ---- rows
 
+-- the first row of wire w
+unfoldable pub rowAt : List Wire → ℕ → ℕ
+rowAt wires w = sumTo w (rowsOf wires)
+
+-- row r, of n entries of length K, without the pads of the senders' keys that it is opened under
+unfoldable pub unpadded : Pad → ℕ → ℕ → List ℕ → ℕ → Under → List ℕ → ℕ → List ℕ
+unpadded pad n K rows q place senders r = subV q (nthPiece rows (n * K) r) (padRow pad K q place senders n)
+
+-- the chooser's row, opened under the bit's key: where the bit's external value is 1 the opener adds d's key
+unfoldable pub chosen : ℕ → ℕ → List ℕ → List ℕ → List ℕ
+chosen zero p part d = part
+chosen (suc bit) p part d = addV p part d
+
+-- "only the corrector named by the bit's external value is opened": its row for α. The correctors' rows stand behind the chooser's two, p of
+-- corrector 0, then p of corrector 1
+unfoldable pub corrector : ℕ → ℕ → ℕ → ℕ
+corrector p zero α = 2 + α
+corrector p (suc bit) α = 2 + p + α
+
+-- ---- the search
+
+-- the key of party s among all parties' keys
+unfoldable pub ownKey : ℕ → ℕ → List ℕ → List ℕ
+ownKey K s all = nthPiece all K s
+
+-- the multiplier α with s's own key = k + α·D, from what s itself drew
+module _ (K s : ℕ) (wires : List Wire) (own : Draw) where
   unfoldable pub found : ℕ → List ℕ → ℕ
   found w all =
-      multiplier (modulusAt wires w) (own .key w 0) (own .offset (modulusAt wires w)) (ownKey all)
+      multiplier (modulusAt wires w) (own .key w 0) (own .offset (modulusAt wires w)) (ownKey K s all)
 
   -- a wire whose external value is searched for
   unfoldable pub searched : ℕ → List ℕ → Opened
   searched w all = record { keys = all; external = found w all; fits = ltb (found w all) (modulusAt wires w) }
 
-  -- an input's keys and external value are given
-  unfoldable pub openInput : ℕ → Opened
-  openInput w = record { keys = nthPiece keys (n * K) w; external = getD inputs w 0; fits = true }
+-- ---- gates
 
-  unfoldable pub openFree : ℕ → Gate → (ℕ → Opened) → Opened
-  openFree p gate look =
-      record { keys = freelyV p gate (λ a. look a .keys); external = freely p gate (λ a. look a .external); fits = true }
-
+-- n parties, key length K, party s, what s itself drew, the external values of the inputs, all input keys (input, then party), and rows
+module _ (pad : Pad) (n K s : ℕ) (wires : List Wire) (own : Draw) (inputs keys rows : List ℕ) where
   -- project: the row of a's external value, under a's keys
   unfoldable pub openTable : ℕ → ℕ → Opened → Opened
-  openTable w p a = searched w (unpadded (modulusAt wires w) (under p w 0) (a .keys) (rowAt w + a .external))
+  openTable w p a =
+      searched K s wires own w (unpadded pad n K rows (modulusAt wires w) (placed p w 0) (a .keys) (rowAt wires w + a .external))
 
-  -- multiply: component 0 under a's keys; component 1 under b's keys, to which the opener adds β times a's key; the sum
+  -- multiply: component 0 under a's keys; component 1, whose rows stand behind the p of component 0, under b's keys, to which the opener
+  -- adds β times a's key; the sum
   unfoldable pub openProduct : ℕ → Opened → Opened → Opened
   openProduct w a b =
       let p : ℕ = modulusAt wires w in
-      searched w
-      (addV p (addV p (unpadded p (under p w 0) (a .keys) (rowAt w + a .external))
-      (unpadded p (under p w 1) (b .keys) (rowAt w + p + b .external)))
+      searched K s wires own w
+      (addV p (addV p (unpadded pad n K rows p (placed p w 0) (a .keys) (rowAt wires w + a .external))
+      (unpadded pad n K rows p (placed p w 1) (b .keys) (rowAt wires w + p + b .external)))
       (mulV p (b .external) (a .keys)))
 
-  -- the chooser, under the bit's key; for 1 the opener adds d's key
-  unfoldable pub chosen : Bool → ℕ → List ℕ → List ℕ → List ℕ
-  chosen true p part d = part
-  chosen false p part d = addV p part d
-
-  -- after the chooser, only the corrector named by the bit's external value is opened, under d's keys
-  unfoldable pub corrector : ℕ → ℕ → ℕ → ℕ
-  corrector p bit α = 2 + bit * p + α
-
+  -- select: d = b − a; the chooser under the bit's keys and the named corrector under d's give h; h + a
   unfoldable pub openChoice : ℕ → Opened → Opened → Opened → Opened
   openChoice w bit a b =
       let p : ℕ = modulusAt wires w in
       let d : List ℕ = subV p (b .keys) (a .keys) in
       let α : ℕ = sub p (b .external) (a .external) in
       let h : Opened =
-      searched w
-      (addV p (chosen (eqb (bit .external) 0) p (unpadded p (under 2 w 0) (bit .keys) (rowAt w + bit .external)) d)
-      (unpadded p (under p w (1 + bit .external)) d (rowAt w + corrector p (bit .external) α))) in
+      searched K s wires own w
+      (addV p (chosen (bit .external) p (unpadded pad n K rows p (placed 2 w 0) (bit .keys) (rowAt wires w + bit .external)) d)
+      (unpadded pad n K rows p (placed p w (1 + bit .external)) d (rowAt wires w + corrector p (bit .external) α))) in
       record { keys = addV p (h .keys) (a .keys); external = add p (h .external) (a .external); fits = h .fits }
 
   -- wire w, from the wires opened below it
   unfoldable pub openBy : ℕ → Recipe → (ℕ → Opened) → Opened
-  openBy w Entered look = openInput w
+  openBy w Entered look = openInput n K inputs keys w
   openBy w Free look = openFree (modulusAt wires w) (wireAt wires w .gate) look
   openBy w (Table a) look = openTable w (modulusAt wires a) (look a)
   openBy w (Product g) look = openProduct w (look (g .a)) (look (g .b))

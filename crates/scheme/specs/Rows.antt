@@ -18,9 +18,10 @@ use Rattle.counts.specs.Recipe.{recipe}
 use Rattle.scheme.specs.Draw.{Draw}
 use Rattle.scheme.specs.Zero.{zeroKey, mask}
 use Rattle.pads.specs.Pad.{Pad, Under, padRow}
+use Rattle.pads.specs.Moved.{placed}
 use Rattle.scheme.specs.Message.{projectMessage, productMessage₀, productMessage₁, chooserMessage₀, chooserMessage₁, correctorMessage₀, correctorMessage₁}
 
--- the image of a value by a gate's table: a projection's table starts at a word of the file
+-- the image of a value by a gate's table: a projection's table starts at a word of the file; nothing asks it of another gate
 unfoldable pub image : List ℕ → Gate → ℕ → ℕ
 image file (Input gate) v = 0
 image file (Add gate) v = 0
@@ -29,22 +30,25 @@ image file (Multiply gate) v = 0
 image file (Project gate) v = bits (wordAt file (gate .table + v)) 7 0
 image file (Select gate) v = 0
 
--- the keys that a row is under, and its place
-unfoldable pub under : ℕ → ℕ → ℕ → Under
-under modulus wire component = record { modulus = modulus; wire = wire; component = component }
+-- message plus the pads of all n senders, modulo the receiving modulus q
+unfoldable pub row : Pad → ℕ → ℕ → ℕ → Under → List ℕ → List ℕ → List ℕ
+row pad n K q place keys message = addV q message (padRow pad K q place keys n)
+
+-- select: d = b − a, of the modulus of wire w
+unfoldable pub differenceKey : List Wire → Draw → ℕ → ℕ → ℕ → List ℕ
+differenceKey wires draw w a b = subV (modulusAt wires w) (zeroKey wires draw b) (zeroKey wires draw a)
+
+unfoldable pub differenceMask : List Wire → Draw → ℕ → ℕ → ℕ → ℕ
+differenceMask wires draw w a b = sub (modulusAt wires w) (mask wires draw b) (mask wires draw a)
 
 -- n parties, key length K, a file and its wires, and what the parties drew
 module _ (pad : Pad) (n K : ℕ) (file : List ℕ) (wires : List Wire) (draw : Draw) where
-  -- message plus pads, modulo the receiving modulus q
-  unfoldable pub row : ℕ → Under → List ℕ → List ℕ → List ℕ
-  row q place keys message = addV q message (padRow pad K q place keys n)
-
   -- project by a table, modulus p to q: p rows
   unfoldable pub projectRow : ℕ → ℕ → ℕ → List ℕ
   projectRow w a α =
       let p : ℕ = modulusAt wires a in
       let q : ℕ = modulusAt wires w in
-      row q (under p w 0) (keyV p (zeroKey wires draw a) α (draw .offset p))
+      row pad n K q (placed p w 0) (keyV p (zeroKey wires draw a) α (draw .offset p))
       (projectMessage q (draw .offset q) (draw .key w 0) (draw .mask w 0) (image file (wireAt wires w .gate) (sub p α (mask wires draw a))))
 
   -- multiply: p rows of component 0, p rows of component 1
@@ -52,28 +56,21 @@ module _ (pad : Pad) (n K : ℕ) (file : List ℕ) (wires : List Wire) (draw : D
   productRow₀ w a b α =
       let p : ℕ = modulusAt wires w in
       let D : List ℕ = draw .offset p in
-      row p (under p w 0) (keyV p (zeroKey wires draw a) α D)
+      row pad n K p (placed p w 0) (keyV p (zeroKey wires draw a) α D)
       (productMessage₀ p D (draw .key w 1) (draw .mask w 1) (mask wires draw a) (mask wires draw b) α)
 
   unfoldable pub productRow₁ : ℕ → ℕ → ℕ → ℕ → List ℕ
   productRow₁ w a b β =
       let p : ℕ = modulusAt wires w in
       let D : List ℕ = draw .offset p in
-      row p (under p w 1) (keyV p (zeroKey wires draw b) β D)
+      row pad n K p (placed p w 1) (keyV p (zeroKey wires draw b) β D)
       (productMessage₁ p D (subV p (draw .key w 0) (draw .key w 1)) (sub p (draw .mask w 0) (draw .mask w 1)) (zeroKey wires draw a)
       (mask wires draw a) β)
-
-  -- select: d = b − a
-  unfoldable pub differenceKey : ℕ → ℕ → ℕ → List ℕ
-  differenceKey w a b = subV (modulusAt wires w) (zeroKey wires draw b) (zeroKey wires draw a)
-
-  unfoldable pub differenceMask : ℕ → ℕ → ℕ → ℕ
-  differenceMask w a b = sub (modulusAt wires w) (mask wires draw b) (mask wires draw a)
 
   -- the chooser's two rows are under the bit's keys for 0 and 1
   unfoldable pub chooserRow : ℕ → ℕ → ℕ → List ℕ → List ℕ
   chooserRow w bit e message =
-      row (modulusAt wires w) (under 2 w 0) (keyV 2 (zeroKey wires draw bit) e (draw .offset 2)) message
+      row pad n K (modulusAt wires w) (placed 2 w 0) (keyV 2 (zeroKey wires draw bit) e (draw .offset 2)) message
 
   unfoldable pub chooserRows : ℕ → ℕ → ℕ → ℕ → List ℕ
   chooserRows w bit a b =
@@ -81,24 +78,24 @@ module _ (pad : Pad) (n K : ℕ) (file : List ℕ) (wires : List Wire) (draw : D
       let D : List ℕ = draw .offset p in
       chooserRow w bit 0 (chooserMessage₀ p D (draw .key w 1) (draw .mask w 1))
       ++ chooserRow w bit 1
-      (chooserMessage₁ p D (draw .key w 2) (draw .mask w 2) (differenceKey w a b) (differenceMask w a b))
+      (chooserMessage₁ p D (draw .key w 2) (draw .mask w 2) (differenceKey wires draw w a b) (differenceMask wires draw w a b))
 
   -- the two correctors have p rows each, under d's key for α
   unfoldable pub correctorRow₀ : ℕ → ℕ → ℕ → ℕ → ℕ → List ℕ
   correctorRow₀ w bit a b α =
       let p : ℕ = modulusAt wires w in
       let D : List ℕ = draw .offset p in
-      row p (under p w 1) (keyV p (differenceKey w a b) α D)
+      row pad n K p (placed p w 1) (keyV p (differenceKey wires draw w a b) α D)
       (correctorMessage₀ p D (subV p (draw .key w 0) (draw .key w 1)) (sub p (draw .mask w 0) (draw .mask w 1)) (mask wires draw bit)
-      (differenceMask w a b) α)
+      (differenceMask wires draw w a b) α)
 
   unfoldable pub correctorRow₁ : ℕ → ℕ → ℕ → ℕ → ℕ → List ℕ
   correctorRow₁ w bit a b α =
       let p : ℕ = modulusAt wires w in
       let D : List ℕ = draw .offset p in
-      row p (under p w 2) (keyV p (differenceKey w a b) α D)
+      row pad n K p (placed p w 2) (keyV p (differenceKey wires draw w a b) α D)
       (correctorMessage₁ p D (subV p (draw .key w 0) (draw .key w 2)) (sub p (draw .mask w 0) (draw .mask w 2)) (mask wires draw bit)
-      (differenceMask w a b) α)
+      (differenceMask wires draw w a b) α)
 
   -- the rows of wire w
   unfoldable pub gateRows : ℕ → Recipe → List ℕ

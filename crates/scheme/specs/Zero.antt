@@ -16,7 +16,8 @@ use Rattle.counts.specs.declared.recipe.Recipe.the-variants.{Entered, Free, Tab
 use Rattle.counts.specs.Recipe.{recipe}
 use Rattle.scheme.specs.Draw.{Draw}
 
--- "Add and scale act alike on keys, masks and external values": what a free gate does to numbers, and to keys
+-- "Add and scale act alike on keys, masks and external values": what a free gate does to numbers, and to keys;
+-- nothing asks it of another gate
 unfoldable pub freely : ℕ → Gate → (ℕ → ℕ) → ℕ
 freely p (Input gate) of = 0
 freely p (Add gate) of = add p (of (gate .a)) (of (gate .b))
