@@ -129,7 +129,7 @@ module _ {reading : Reading} (file : List ℕ) (n K : ℕ) (contributions rows m
   outputs = outputsIn (reading .circuit)
 
   abbrev fate : Checked
-  fate = garbleChecked shakePad file n K contributions rows masks outs meter
+  fate = garbleChecked file n K contributions rows masks outs meter
 
   met : Meets fate answer
   unfolding garbleChecked
@@ -141,9 +141,9 @@ module _ {reading : Reading} (file : List ℕ) (n K : ℕ) (contributions rows m
   abbrev Ends : Answer → List ℕ → List ℕ → List ℕ → ℕ → Type 0
   Ends a rows′ masks′ outs′ meter′ =
       Meets fate a × (rows′ ≡ garbleRows shakePad file n K contributions rows masks outs meter)
-      × (masks′ ≡ garbleInputMasks shakePad file n K contributions rows masks outs meter)
-      × (outs′ ≡ garbleOutputMasks shakePad file n K contributions rows masks outs meter)
-      × (meter′ ≡ garbleMeter shakePad file n K contributions rows masks outs meter)
+      × (masks′ ≡ garbleInputMasks file n K contributions rows masks outs meter)
+      × (outs′ ≡ garbleOutputMasks file n K contributions rows masks outs meter)
+      × (meter′ ≡ garbleMeter file n K contributions rows masks outs meter)
 
   pub garble-refused : {reason : Refusal} {place : ℕ} → answer ≡ Refused reason place → Ends (Refused reason place) rows masks outs meter
   unfolding garbleRows garbleInputMasks garbleOutputMasks garbleMeter

@@ -317,7 +317,7 @@ module _ {reading : Reading} (file : List ℕ) (n K party : ℕ) (contribution e
       read-met file h check joined
       (subst (λ (w : List Wire). Meets (openAsked n K w contribution externals keys rows party (length wkeys) (length wexternals)) check) (h .wires) checked)
 
-  before-is : andThen earlier ownKeys ≡ beforeOpening shakePad file n K party contribution externals keys rows wkeys wexternals
+  before-is : andThen earlier ownKeys ≡ beforeOpening file n K party contribution externals keys rows wkeys wexternals
   unfolding beforeOpening inputKeyWrong
   before-is =
       under (fileChecked file) (openAsked n K read contribution externals keys rows party (length wkeys) (length wexternals)) ownKeys

@@ -153,11 +153,11 @@ fn garble_read(
     meter: u32,
 ) -> Metered
     requires { ⌜ Holds reading (readFile (now file)) ⌝ }
-    ensures { λ r. ⌜ Meets (garbleChecked shakePad (now (file .entry)) n k (now (contributions .entry)) (now (rows .entry)) (now (inputs .entry)) (now (outputs .entry)) meter) (r .answer)
+    ensures { λ r. ⌜ Meets (garbleChecked (now (file .entry)) n k (now (contributions .entry)) (now (rows .entry)) (now (inputs .entry)) (now (outputs .entry)) meter) (r .answer)
         × (now (rows .exit) ≡ garbleRows shakePad (now (file .entry)) n k (now (contributions .entry)) (now (rows .entry)) (now (inputs .entry)) (now (outputs .entry)) meter)
-        × (now (inputs .exit) ≡ garbleInputMasks shakePad (now (file .entry)) n k (now (contributions .entry)) (now (rows .entry)) (now (inputs .entry)) (now (outputs .entry)) meter)
-        × (now (outputs .exit) ≡ garbleOutputMasks shakePad (now (file .entry)) n k (now (contributions .entry)) (now (rows .entry)) (now (inputs .entry)) (now (outputs .entry)) meter)
-        × (r .meter ≡ garbleMeter shakePad (now (file .entry)) n k (now (contributions .entry)) (now (rows .entry)) (now (inputs .entry)) (now (outputs .entry)) meter) ⌝ }
+        × (now (inputs .exit) ≡ garbleInputMasks (now (file .entry)) n k (now (contributions .entry)) (now (rows .entry)) (now (inputs .entry)) (now (outputs .entry)) meter)
+        × (now (outputs .exit) ≡ garbleOutputMasks (now (file .entry)) n k (now (contributions .entry)) (now (rows .entry)) (now (inputs .entry)) (now (outputs .entry)) meter)
+        × (r .meter ≡ garbleMeter (now (file .entry)) n k (now (contributions .entry)) (now (rows .entry)) (now (inputs .entry)) (now (outputs .entry)) meter) ⌝ }
 {
     let read = reading.answer;
     let circuit = reading.circuit;
@@ -214,11 +214,11 @@ pub fn garble(
     outputs: &mut [u8],
     meter: u32,
 ) -> Metered
-    ensures { λ r. ⌜ Meets (garbleChecked shakePad (now (file .entry)) n k (now (contributions .entry)) (now (rows .entry)) (now (inputs .entry)) (now (outputs .entry)) meter) (r .answer)
+    ensures { λ r. ⌜ Meets (garbleChecked (now (file .entry)) n k (now (contributions .entry)) (now (rows .entry)) (now (inputs .entry)) (now (outputs .entry)) meter) (r .answer)
         × (now (rows .exit) ≡ garbleRows shakePad (now (file .entry)) n k (now (contributions .entry)) (now (rows .entry)) (now (inputs .entry)) (now (outputs .entry)) meter)
-        × (now (inputs .exit) ≡ garbleInputMasks shakePad (now (file .entry)) n k (now (contributions .entry)) (now (rows .entry)) (now (inputs .entry)) (now (outputs .entry)) meter)
-        × (now (outputs .exit) ≡ garbleOutputMasks shakePad (now (file .entry)) n k (now (contributions .entry)) (now (rows .entry)) (now (inputs .entry)) (now (outputs .entry)) meter)
-        × (r .meter ≡ garbleMeter shakePad (now (file .entry)) n k (now (contributions .entry)) (now (rows .entry)) (now (inputs .entry)) (now (outputs .entry)) meter) ⌝ }
+        × (now (inputs .exit) ≡ garbleInputMasks (now (file .entry)) n k (now (contributions .entry)) (now (rows .entry)) (now (inputs .entry)) (now (outputs .entry)) meter)
+        × (now (outputs .exit) ≡ garbleOutputMasks (now (file .entry)) n k (now (contributions .entry)) (now (rows .entry)) (now (inputs .entry)) (now (outputs .entry)) meter)
+        × (r .meter ≡ garbleMeter (now (file .entry)) n k (now (contributions .entry)) (now (rows .entry)) (now (inputs .entry)) (now (outputs .entry)) meter) ⌝ }
 {
     let reading = read(file);
     garble_read(

@@ -14,7 +14,6 @@ use Rattle.words.specs.declared.gate.Wire.{Wire}
 use Rattle.circuit.specs.Wires.{inputsIn}
 use Rattle.circuit.specs.File.{readFile}
 use Rattle.counts.specs.Counts.{rowsIn}
-use Rattle.pads.specs.Pad.{Pad}
 use Rattle.scheme.proofs.Contributed.{Contributed}
 use Rattle.round.specs.Bytes.{offsetsChecked}
 use Rattle.round.specs.Garble.{meterLimit, meterChecked, garbleChecked}
@@ -41,8 +40,8 @@ pub record GarbleFits (file : List ℕ) (n K : ℕ) (contributions rows masks ou
   pub offsets : offsetsChecked n K (readFile file .wires) contributions ≡ passed
   pub space : meter + rowsIn (readFile file .wires) ≤ meterLimit
 
-module _ (pad : Pad) (file : List ℕ) (n K : ℕ) (contributions rows masks outs : List ℕ) (meter : ℕ) where
-  pub garble-passed : GarbleFits file n K contributions rows masks outs meter → garbleChecked pad file n K contributions rows masks outs meter ≡ passed
+module _ (file : List ℕ) (n K : ℕ) (contributions rows masks outs : List ℕ) (meter : ℕ) where
+  pub garble-passed : GarbleFits file n K contributions rows masks outs meter → garbleChecked file n K contributions rows masks outs meter ≡ passed
   unfolding garbleChecked
   garble-passed r =
       andThen-passed (file-passed file (r .read))
@@ -53,7 +52,7 @@ module _ (pad : Pad) (file : List ℕ) (n K : ℕ) (contributions rows masks out
       (andThen-passed (r .offsets)
       (meter-passed meter (readFile file .wires) (r .space)))))))
 
-  pub garble-fits : garbleChecked pad file n K contributions rows masks outs meter ≡ passed → GarbleFits file n K contributions rows masks outs meter
+  pub garble-fits : garbleChecked file n K contributions rows masks outs meter ≡ passed → GarbleFits file n K contributions rows masks outs meter
   unfolding garbleChecked
   garble-fits e =
       let e₁ = andThen-right _ _ e in

@@ -129,9 +129,9 @@ module _ {pad : Pad} {file : List ℕ} {n K : ℕ} {contributions values : List 
 
     -- ---- the checks
 
-    before : beforeOpening pad file n K party (contribution party) inputs inputKeys garbled (lent .wireKeys party) (lent .wireExternals party) ≡ passed
+    before : beforeOpening file n K party (contribution party) inputs inputKeys garbled (lent .wireKeys party) (lent .wireExternals party) ≡ passed
     before =
-        opening-passed pad
+        opening-passed
         (record {
           read = start .conditions .accepted;
           session = session-fits start;

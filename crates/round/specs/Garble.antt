@@ -25,7 +25,7 @@ meterLimit = 4294967295
 unfoldable pub meterChecked : ℕ → List Wire → Checked
 meterChecked meter wires = unless (leb (meter + rowsIn wires) meterLimit) MeterFull 0
 
-module _ (pad : Pad) (file : List ℕ) (n K : ℕ) (contributions : List ℕ) (rows masks outs : List ℕ) (meter : ℕ) where
+module _ (file : List ℕ) (n K : ℕ) (contributions : List ℕ) (rows masks outs : List ℕ) (meter : ℕ) where
   abbrev wires : List Wire
   wires = readFile file .wires
 
@@ -44,10 +44,7 @@ module _ (pad : Pad) (file : List ℕ) (n K : ℕ) (contributions : List ℕ) (r
       (andThen (offsetsChecked n K wires contributions)
       (meterChecked meter wires))))))
 
-  -- afterwards: rows, input masks, output masks, meter
-  unfoldable pub garbleRows : List ℕ
-  garbleRows = afterwards garbleChecked (garbledRows pad n K file wires (drawn n K wires contributions)) rows
-
+  -- afterwards: input masks, output masks, meter, and the rows, which alone depend on the pad
   unfoldable pub garbleInputMasks : List ℕ
   garbleInputMasks = afterwards garbleChecked (inputMasks wires (drawn n K wires contributions)) masks
 
@@ -56,3 +53,9 @@ module _ (pad : Pad) (file : List ℕ) (n K : ℕ) (contributions : List ℕ) (r
 
   unfoldable pub garbleMeter : ℕ
   garbleMeter = afterwards garbleChecked (meter + rowsIn wires) meter
+
+module _ (pad : Pad) (file : List ℕ) (n K : ℕ) (contributions : List ℕ) (rows masks outs : List ℕ) (meter : ℕ) where
+  unfoldable pub garbleRows : List ℕ
+  garbleRows =
+      afterwards (garbleChecked file n K contributions rows masks outs meter)
+      (garbledRows pad n K file (readFile file .wires) (drawn n K (readFile file .wires) contributions)) rows

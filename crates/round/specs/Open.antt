@@ -21,7 +21,7 @@ use Rattle.session.specs.Session.{fileChecked, sessionChecked, partyChecked, ow
 use Rattle.round.specs.Bytes.{contributionsChecked, offsetsChecked, keysChecked, rowsChecked}
 use Rattle.round.specs.InputKeys.{inputKey}
 
-module _ (pad : Pad) (file : List ℕ) (n K party : ℕ) (contribution externals keys rows : List ℕ) (wkeys wexternals : List ℕ) where
+module _ (file : List ℕ) (n K party : ℕ) (contribution externals keys rows : List ℕ) (wkeys wexternals : List ℕ) where
   abbrev wires : List Wire
   wires = readFile file .wires
 
@@ -51,21 +51,31 @@ module _ (pad : Pad) (file : List ℕ) (n K party : ℕ) (contribution externals
       (andThen (rowsChecked n K wires rows)
       (noneBad (inputsIn wires) inputKeyWrong WrongInputKey))))))))))
 
+module _ (pad : Pad) (file : List ℕ) (n K party : ℕ) (contribution externals keys rows : List ℕ) (wkeys wexternals : List ℕ) where
+  abbrev read : List Wire
+  read = readFile file .wires
+
+  abbrev drew : Draw
+  drew = drawn 1 K read contribution
+
+  abbrev earlier : Checked
+  earlier = beforeOpening file n K party contribution externals keys rows wkeys wexternals
+
   -- 20: no multiplier fits
   unfoldable pub gatesChecked : Checked
   gatesChecked =
-      noneBad (length wires) (λ w. not (getD (opened pad n K party wires own externals keys rows) w nothing .fits)) NoMultiplier
+      noneBad (length read) (λ w. not (getD (opened pad n K party read drew externals keys rows) w nothing .fits)) NoMultiplier
 
   unfoldable pub openChecked : Checked
-  openChecked = andThen beforeOpening gatesChecked
+  openChecked = andThen earlier gatesChecked
 
   -- after 20 both written buffers are all zero; after any other refusal they are as they were
   unfoldable pub openKeys : List ℕ
   openKeys =
-      afterwards beforeOpening
-      (afterwards gatesChecked (wireKeys pad n K party wires own externals keys rows) (replicate (length wkeys) 0)) wkeys
+      afterwards earlier
+      (afterwards gatesChecked (wireKeys pad n K party read drew externals keys rows) (replicate (length wkeys) 0)) wkeys
 
   unfoldable pub openExternals : List ℕ
   openExternals =
-      afterwards beforeOpening
-      (afterwards gatesChecked (wireExternals pad n K party wires own externals keys rows) (replicate (length wexternals) 0)) wexternals
+      afterwards earlier
+      (afterwards gatesChecked (wireExternals pad n K party read drew externals keys rows) (replicate (length wexternals) 0)) wexternals
