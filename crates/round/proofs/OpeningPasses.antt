@@ -48,10 +48,11 @@ pub record OpeningFits (file : List ℕ) (n K party : ℕ) (contribution externa
 pub opening-passed : {file : List ℕ} {n K party : ℕ} {contribution externals keys rows wkeys wexternals : List ℕ}
     → OpeningFits file n K party contribution externals keys rows wkeys wexternals
     → beforeOpening file n K party contribution externals keys rows wkeys wexternals ≡ passed
-unfolding beforeOpening inputKeyWrong
+unfolding beforeOpening
 opening-passed {file} {n} {K} {party} {contribution} {externals} {keys} {rows} {wkeys} {wexternals} r =
     let wires : List Wire = readFile file .wires in
-    andThen-passed (file-passed file (r .read))
+    andThen-passed
+    (andThen-passed (file-passed file (r .read))
     (andThen-passed (session-passed (r .session))
     (andThen-passed (party-passed (r .takesPart))
     (andThen-passed (owners-passed (r .owners))
@@ -61,7 +62,7 @@ opening-passed {file} {n} {K} {party} {contribution} {externals} {keys} {rows} {
     (andThen-passed (contributions-passed 1 K wires contribution (r .contributed))
     (andThen-passed (r .offsets)
     (andThen-passed (r .keysBelow)
-    (andThen-passed (r .rowsBelow)
-    (noneBad-passed (inputsIn wires) (inputKeyWrong file n K party contribution externals keys rows wkeys wexternals) WrongInputKey
+    (r .rowsBelow))))))))))
+    (noneBad-passed (inputsIn wires) (inputKeyWrong n K party wires contribution externals keys) WrongInputKey
     (λ w h. ap not (ap (λ (l : List ℕ). same l (inputKey wires (drawn 1 K wires contribution) externals w)) (r .ownKey w h)
-    ∙ same-refl (inputKey wires (drawn 1 K wires contribution) externals w)))))))))))))
+    ∙ same-refl (inputKey wires (drawn 1 K wires contribution) externals w))))
