@@ -34,7 +34,7 @@ use Rattle.session.specs.Held.{wiresIn}
 use Rattle.round.specs.Externals.{ownInputs, externalsBytes, externalsLent, externalsAsked, externalsMade, externalsChecked, externalsAfter}
 use Rattle.round.proofs.OwnInputs.{own-length}
 use Rattle.exchange.specs.Tables.{Front}
-use Rattle.exchange.specs.Either.{eitherChecked, Covered}
+use Rattle.exchange.specs.Either.{eitherChecked}
 use Rattle.exchange.specs.Masking.{OwnLent, OwnFit}
 use Rattle.exchange.proofs.TwoBuffers.{both-as}
 use Rattle.exchange.proofs.Lent.{lent-is}
@@ -61,13 +61,6 @@ module _ {circuit : Circuit} {party : ℕ} {values masks : List ℕ} (lent : Own
 
   abbrev modulus : ℕ → ℕ
   modulus i = modulusAt (wiresIn circuit) (getD (ownInputs party (wiresIn circuit)) i 0)
-
-  pub own-covered : {table same : List ℕ} → Front 1024 (length own) modulus table → Front 1024 (length own) modulus same → Covered values table masks same
-  own-covered t s =
-      record {
-        left = omega (arith, own-most (lent .room) party, lent .valuesSize, t .long);
-        right = omega (arith, own-most (lent .room) party, lent .masksSize, s .long);
-      }
 
   pub own-met : {table same : List ℕ} {answer : Answer} → Front 1024 (length own) modulus table → Front 1024 (length own) modulus same
       → Meets (eitherChecked values table masks same) answer → Meets (externalsBytes party ws values masks) answer

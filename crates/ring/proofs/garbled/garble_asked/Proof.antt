@@ -11,7 +11,7 @@ garble-asked-spec =
     (tie.spec
     (λ c κs. tt)
     (λ c. search needs)
-    (λ c κs. (c .before .before .before .before .pre, session-in-range (c .before .before .before .before .args .n) (c .before .before .before .before .args .k) (c .before .before .session-checked .ensures) (c .enum-told .given .1)))
+    (λ c κs. let s = c .before .before .before .before in (s .pre, session-in-range (s .args .n) (s .args .k) (c .before .before .session-checked .ensures) (c .enum-told .given .1)))
     (λ c. search needs)
-    (λ c. garble-next (c .before .before .before .before .before .args .n) (c .before .before .before .before .before .args .k) (c .before .before .before .session-checked .ensures) (wiresIn (c .before .before .before .before .before .args .circuit)) (outputsIn (c .before .before .before .before .before .args .circuit)) (c .before .before .before .before .before .args .contributions .now) (c .before .before .before .before .before .args .lent .rows) (c .before .before .before .before .before .args .lent .inputs) (c .before .before .before .before .before .args .lent .outputs) (c .before .enum-told .given .1) (c .garble-owned .ensures))
-    (λ c. garble-stop (c .before .before .before .before .before .args .n) (c .before .before .before .before .before .args .k) (c .before .before .before .session-checked .ensures) (wiresIn (c .before .before .before .before .before .args .circuit)) (outputsIn (c .before .before .before .before .before .args .circuit)) (c .before .before .before .before .before .args .contributions .now) (c .before .before .before .before .before .args .lent .rows) (c .before .before .before .before .before .args .lent .inputs) (c .before .before .before .before .before .args .lent .outputs) (c .before .session .given .1)))
+    (λ c. let s = c .before .before .before .before .before in garble-next (s .args .n) (s .args .k) (c .before .before .before .session-checked .ensures) (wiresIn (s .args .circuit)) (outputsIn (s .args .circuit)) (s .args .contributions .now) (s .args .lent .rows) (s .args .lent .inputs) (s .args .lent .outputs) (c .before .enum-told .given .1) (c .garble-owned .ensures))
+    (λ c. let s = c .before .before .before .before .before in garble-stop (s .args .n) (s .args .k) (c .before .before .before .session-checked .ensures) (wiresIn (s .args .circuit)) (outputsIn (s .args .circuit)) (s .args .contributions .now) (s .args .lent .rows) (s .args .lent .inputs) (s .args .lent .outputs) (c .before .session .given .1)))

@@ -10,13 +10,13 @@ pub bytes-checked-spec : {M : Type 1} → statement M
 bytes-checked-spec =
     tie.close
     (tie.spec
-    (λ c κs. (c .before .before .before .before .pre .held .room, omega (arith, c .before .before .before .before .pre .externalsLength, c .before .before .before .before .pre .held .inputs, inputs-made (c .before .before .before .before .pre .held))))
-    (λ c κs. ((c .before .before .before .before .before .pre .held .room, (omega arith, c .before .before .before .before .before .pre .most)), omega (arith, c .before .before .before .before .before .pre .contributionLength)))
-    (λ c κs. ((c .before .before .before .before .before .before .pre .held .room, (omega arith, c .before .before .before .before .before .before .pre .most)), omega (arith, c .before .before .before .before .before .before .pre .contributionLength)))
-    (λ c κs. ((c .before .before .before .before .before .before .before .pre .held, (c .before .before .before .before .before .before .before .pre .parties, c .before .before .before .before .before .before .before .pre .most)), c .before .before .before .before .before .before .before .pre .keysLength))
-    (λ c κs. ((c .before .before .before .before .before .before .before .before .pre .held, (c .before .before .before .before .before .before .before .before .pre .parties, c .before .before .before .before .before .before .before .before .pre .most)), c .before .before .before .before .before .before .before .before .pre .rowsLength))
+    (λ c κs. let s = c .before .before .before .before in (s .pre .held .room, omega (arith, s .pre .externalsLength, s .pre .held .inputs, inputs-made (s .pre .held))))
+    (λ c κs. let s = c .before .before .before .before .before in ((s .pre .held .room, (omega arith, s .pre .most)), omega (arith, s .pre .contributionLength)))
+    (λ c κs. let s = c .before .before .before .before .before .before in ((s .pre .held .room, (omega arith, s .pre .most)), omega (arith, s .pre .contributionLength)))
+    (λ c κs. let s = c .before .before .before .before .before .before .before in ((s .pre .held, (s .pre .parties, s .pre .most)), s .pre .keysLength))
+    (λ c κs. let s = c .before .before .before .before .before .before .before .before in ((s .pre .held, (s .pre .parties, s .pre .most)), s .pre .rowsLength))
     (λ c κs. tt)
     (λ c κs. tt)
     (λ c κs. tt)
     (λ c κs. tt)
-    (λ c. bytes-met (c .before .before .before .before .before .before .before .before .before .before .before .before .before .args .n) (c .before .before .before .before .before .before .before .before .before .before .before .before .before .args .k) (wiresIn (c .before .before .before .before .before .before .before .before .before .before .before .before .before .args .circuit)) (c .before .before .before .before .before .before .before .before .before .before .before .before .before .args .contribution .now) (c .before .before .before .before .before .before .before .before .before .before .before .before .before .args .externals .now) (c .before .before .before .before .before .before .before .before .before .before .before .before .before .args .keys .now) (c .before .before .before .before .before .before .before .before .before .before .before .before .before .args .rows .now) (c .before .before .before .before .before .before .before .before .values-checked .ensures) (c .before .before .before .before .before .before .before .contributions-checked .ensures) (c .before .before .before .before .before .before .offsets-checked .ensures) (c .before .before .before .before .before .keys-checked .ensures) (c .before .before .before .before .rows-checked .ensures) (c .before .before .before .followed .ensures) (c .before .before .followed2 .ensures) (c .before .followed3 .ensures) (c .followed4 .ensures)))
+    (λ c. let s = c .before .before .before .before .before .before .before .before .before .before .before .before .before in bytes-met (s .args .n) (s .args .k) (wiresIn (s .args .circuit)) (s .args .contribution .now) (s .args .externals .now) (s .args .keys .now) (s .args .rows .now) (c .before .before .before .before .before .before .before .before .values-checked .ensures) (c .before .before .before .before .before .before .before .contributions-checked .ensures) (c .before .before .before .before .before .before .offsets-checked .ensures) (c .before .before .before .before .before .keys-checked .ensures) (c .before .before .before .before .rows-checked .ensures) (c .before .before .before .followed .ensures) (c .before .before .followed2 .ensures) (c .before .followed3 .ensures) (c .followed4 .ensures)))

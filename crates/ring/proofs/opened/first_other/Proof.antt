@@ -23,10 +23,10 @@ first-other-spec =
     Inv-loop
     μ-loop
     (λ c. looking-start)
-    (λ c. omega (arith, small-product {a = c .before .loop .w} {b = c .before .before .before .before .args .n} {m = 1024} {n = 8} (omega (arith, c .loop-test .taken, c .before .before .before .before .pre .few)) (c .before .before .before .before .pre .parties)))
-    (λ c. omega (arith, small-product {a = c .before .loop .w} {b = c .before .before .before .before .args .n} {m = 1024} {n = 8} (omega (arith, c .loop-test .taken, c .before .before .before .before .pre .few)) (c .before .before .before .before .pre .parties), c .before .before .before .before .pre .seated, c .before .before .before .before .pre .parties))
-    (λ c κs. key-inside (c .before .before .before .before .args .n) (c .before .before .before .before .args .k) (c .before .before .before .before .args .party) (c .before .before .before .before .args .inputs) (c .before .loop .w) (c .before .before .before .before .pre .seated) (c .loop-test .taken) (c .before .before .before .before .pre .keysLength))
-    (λ c κs. own-inside (c .before .before .before .before .before .args .k) (c .before .before .before .before .before .args .inputs) (c .before .before .loop .w) (c .before .loop-test .taken) (c .before .before .before .before .before .pre .ownLength))
+    (λ c. let s = c .before .before .before .before in omega (arith, small-product {a = c .before .loop .w} {b = s .args .n} {m = 1024} {n = 8} (omega (arith, c .loop-test .taken, s .pre .few)) (s .pre .parties)))
+    (λ c. let s = c .before .before .before .before in omega (arith, small-product {a = c .before .loop .w} {b = s .args .n} {m = 1024} {n = 8} (omega (arith, c .loop-test .taken, s .pre .few)) (s .pre .parties), s .pre .seated, s .pre .parties))
+    (λ c κs. let s = c .before .before .before .before in key-inside (s .args .n) (s .args .k) (s .args .party) (s .args .inputs) (c .before .loop .w) (s .pre .seated) (c .loop-test .taken) (s .pre .keysLength))
+    (λ c κs. let s = c .before .before .before .before .before in own-inside (s .args .k) (s .args .inputs) (c .before .before .loop .w) (c .before .loop-test .taken) (s .pre .ownLength))
     (λ c κs. tt)
     (λ c. looking-found (c .before .before .before .before .before .loop .inv) (c .before .before .before .before .loop-test .taken) (other-is (c .before .same-bytes .ensures) (c .before .before .before .nth-piece .ensures .0) (c .before .before .nth-piece2 .ensures .0) (c .if1 .taken)))
     (λ c. omega (arith, c .before .before .before .before .loop-test .taken, c .before .before .before .before .before .before .before .before .pre .few))

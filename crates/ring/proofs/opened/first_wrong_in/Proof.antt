@@ -12,7 +12,7 @@ first-wrong-in-spec =
     (tie.spec
     (λ c. omega (arith, own-room (c .before .before .before .before .before .before .before .pre .0)))
     (λ c. omega (arith, own-room (c .before .before .before .before .before .before .before .pre .0), c .before .before .before .before .before .before .before .pre .1))
-    (λ c. sym (work-cut (c .before .before .before .before .before .before .before .before .pre .0) (c .before .before .before .before .before .before .before .before .args .work .now) (c .before .before .before .before .before .before .before .before .pre .1)))
-    (λ c κs. (c .before .before .before .before .before .before .before .before .pre .0, work-cut (c .before .before .before .before .before .before .before .before .pre .0) (c .before .before .before .before .before .before .before .before .args .work .now) (c .before .before .before .before .before .before .before .before .pre .1)))
+    (λ c. let s = c .before .before .before .before .before .before .before .before in sym (work-cut (s .pre .0) (s .args .work .now) (s .pre .1)))
+    (λ c κs. let s = c .before .before .before .before .before .before .before .before in (s .pre .0, work-cut (s .pre .0) (s .args .work .now) (s .pre .1)))
     (λ c. search needs)
     (λ c. search needs))

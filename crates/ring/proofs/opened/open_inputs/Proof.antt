@@ -15,5 +15,5 @@ open-inputs-spec =
     (λ c. search needs)
     (λ c. search needs)
     (λ c. search needs)
-    (λ c. own-next (c .before .before .before .before .before .before .before .before .before .before .before .before .before .before .before .before .before .before .pre .0) (c .before .before .before .before .before .before .before .before .before .before .before .before .before .before .before .before .before .before .args .wkeys .now) (c .before .before .before .before .before .before .before .before .before .before .before .before .before .before .before .before .before .before .args .wexternals .now) (c .before .before .before .before .before .before .before .before .before .before .first-wrong .ensures) (c .before .before .before .before .before .before .before .before .before .named .ensures) (c .before .before .before .before .before .before .before .enum-told .given .1) (c .before .before .before .before .open-gates .ensures))
-    (λ c. own-stop (c .before .before .before .before .before .before .before .before .before .before .before .before .pre .0) (c .before .before .before .before .before .before .before .before .before .before .before .before .args .wkeys .now) (c .before .before .before .before .before .before .before .before .before .before .before .before .args .wexternals .now) (c .before .before .before .before .first-wrong .ensures) (c .before .before .before .named .ensures) (c .before .own .given .1)))
+    (λ c. let s = c .before .before .before .before .before .before .before .before .before .before .before .before .before .before .before .before .before .before in own-next (s .pre .0) (s .args .wkeys .now) (s .args .wexternals .now) (c .before .before .before .before .before .before .before .before .before .before .first-wrong .ensures) (c .before .before .before .before .before .before .before .before .before .named .ensures) (c .before .before .before .before .before .before .before .enum-told .given .1) (c .before .before .before .before .open-gates .ensures))
+    (λ c. let s = c .before .before .before .before .before .before .before .before .before .before .before .before in own-stop (s .pre .0) (s .args .wkeys .now) (s .args .wexternals .now) (c .before .before .before .before .first-wrong .ensures) (c .before .before .before .named .ensures) (c .before .own .given .1)))
