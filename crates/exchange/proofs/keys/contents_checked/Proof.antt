@@ -2,7 +2,7 @@
 use native.Mathlib.Omega.{arith}
 use borrow.Author.Needs.{needs}
 use Rattle.session.proofs.Circuits.{inputs-made}
-use Rattle.session.specs.Held.{wiresIn}
+use Rattle.circuit.specs.Held.{wiresIn}
 use Rattle.exchange.proofs.KeyPlaces.{contents-met}
 use Rattle.exchange.proofs.keys.contents_checked.Statement.{statement}
 use Rattle.exchange.proofs.keys.contents_checked.Tie as tie

@@ -1,6 +1,6 @@
 -- `exchange::keys_asked` meets its contract: out of range, or what the checks after it answer. Assumes nothing.
 use borrow.Author.Needs.{needs}
-use Rattle.session.specs.Held.{wiresIn}
+use Rattle.circuit.specs.Held.{wiresIn}
 use Rattle.exchange.proofs.KeyPlaces.{session-most, session-next, session-stop}
 use Rattle.exchange.proofs.keys.keys_asked.Statement.{statement}
 use Rattle.exchange.proofs.keys.keys_asked.Tie as tie

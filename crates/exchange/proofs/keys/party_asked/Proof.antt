@@ -1,6 +1,6 @@
 -- `exchange::party_asked` meets its contract: the checks in their order. Assumes nothing.
 use borrow.Author.Needs.{needs}
-use Rattle.session.specs.Held.{wiresIn}
+use Rattle.circuit.specs.Held.{wiresIn}
 use Rattle.exchange.proofs.KeyPlaces.{party-met}
 use Rattle.exchange.proofs.keys.party_asked.Statement.{statement}
 use Rattle.exchange.proofs.keys.party_asked.Tie as tie

@@ -4,7 +4,7 @@ use Prim.Native.Nat.{_-_}
 use native.Mathlib.Omega.{arith}
 use Rattle.lists.proofs.Steps.{Level, steps-fits, steps-long, steps-call}
 use Rattle.scheme.specs.Draw.{drawn}
-use Rattle.session.specs.Held.{wiresIn}
+use Rattle.circuit.specs.Held.{wiresIn}
 use Rattle.session.proofs.Circuits.{inputs-made}
 use Rattle.round.specs.InputKeys.{inputKey}
 use Rattle.exchange.proofs.KeyPlaces.{small-product, keys-start, keys-done, key-positive, rank-is, zero-inside, rank-inside, key-as}

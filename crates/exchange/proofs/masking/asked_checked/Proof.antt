@@ -1,6 +1,6 @@
 -- `exchange::asked_checked` meets its contract: the checks in their order. Assumes nothing.
 use borrow.Author.Needs.{needs}
-use Rattle.session.specs.Held.{wiresIn}
+use Rattle.circuit.specs.Held.{wiresIn}
 use Rattle.exchange.proofs.OwnExternals.{asked-met}
 use Rattle.exchange.proofs.masking.asked_checked.Statement.{statement}
 use Rattle.exchange.proofs.masking.asked_checked.Tie as tie
