@@ -70,14 +70,14 @@ module _ (file : List ℕ) (n K : ℕ) (contributions values : List ℕ) (meter 
 
   -- the contracts of the calls, one field for each thing that they give
   pub record Played : Type 0 where
-    pub garbleAnswer : Reports (garbleChecked shakePad file n K contributions (lent .rows) (lent .inputMasks) (lent .outputMasks) meter)
+    pub garbleAnswer : Reports (garbleChecked file n K contributions (lent .rows) (lent .inputMasks) (lent .outputMasks) meter)
         (r .garbleNumber) (r .garblePlace)
     pub garbleRowsIs : r .rows ≡ garbleRows shakePad file n K contributions (lent .rows) (lent .inputMasks) (lent .outputMasks) meter
     pub garbleInputMasksIs :
-        r .inputMasks ≡ garbleInputMasks shakePad file n K contributions (lent .rows) (lent .inputMasks) (lent .outputMasks) meter
+        r .inputMasks ≡ garbleInputMasks file n K contributions (lent .rows) (lent .inputMasks) (lent .outputMasks) meter
     pub garbleOutputMasksIs :
-        r .outputMasks ≡ garbleOutputMasks shakePad file n K contributions (lent .rows) (lent .inputMasks) (lent .outputMasks) meter
-    pub garbleMeterIs : r .meter ≡ garbleMeter shakePad file n K contributions (lent .rows) (lent .inputMasks) (lent .outputMasks) meter
+        r .outputMasks ≡ garbleOutputMasks file n K contributions (lent .rows) (lent .inputMasks) (lent .outputMasks) meter
+    pub garbleMeterIs : r .meter ≡ garbleMeter file n K contributions (lent .rows) (lent .inputMasks) (lent .outputMasks) meter
     pub externalsAnswer : (party : ℕ) → party < n
         → Reports (externalsChecked file n party (ownOf values party) (ownOf (r .inputMasks) party) (lent .externals party))
         (r .externalsNumber party) (r .externalsPlace party)

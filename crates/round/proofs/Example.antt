@@ -23,7 +23,7 @@ use Rattle.scheme.specs.Contribution.{offsetAt, contributionSize, contributionM
 use Rattle.pads.specs.Pad.{shakePad}
 use Rattle.plain.specs.Plain.{plainBy, plainTo, plainValues, plainOutputs}
 use Rattle.round.specs.Bytes.{allZero, bytesChecked, contributionsChecked, zeroOffset, offsetsChecked}
-use Rattle.round.specs.Garble.{meterLimit}
+use Rattle.meter.specs.Meter.{HasSpace}
 use Rattle.round.specs.Round.{ownerAt, figures}
 use Rattle.round.specs.Claim.{LengthsRight, Conditions, Promise}
 use Rattle.round.specs.Example.{fileOf, file, wires, outputs, contributions, values, lent}
@@ -78,7 +78,7 @@ values-size : length values ≡ inputsIn wires
 unfolding values wires inputsIn
 values-size = refl
 
-space : 0 + rowsIn wires ≤ meterLimit
+space : HasSpace 0 (rowsIn wires)
 unfolding wires sumTo
 space = omega arith
 

@@ -21,7 +21,7 @@ use Rattle.scheme.specs.Zero.{zeroKey, mask}
 use Rattle.pads.specs.Pad.{Pad}
 use Rattle.plain.specs.Plain.{plainValues, plainOutputs}
 use Rattle.round.specs.Bytes.{contributionsChecked, offsetsChecked}
-use Rattle.round.specs.Garble.{meterLimit}
+use Rattle.meter.specs.Meter.{HasSpace}
 use Rattle.round.specs.Round.{Lent, ownerAt, contributionOf, garbling, externalValues, inputKeys, opening, decoding, plainly, wireKeys, wireExternals, figures, plainFigures}
 
 -- "the lent lengths be right", of the buffers that calls write
@@ -55,7 +55,7 @@ pub record Conditions (file : List ℕ) (n K : ℕ) (contributions values : List
   -- "the lent lengths [are] right"
   pub lengths : LengthsRight n K (readFile file .wires) (readFile file .outputs) lent
   -- "the row meter [has] space"
-  pub space : meter + rowsIn (readFile file .wires) ≤ meterLimit
+  pub space : HasSpace meter (rowsIn (readFile file .wires))
 
 -- what demand 3 promises of the round
 pub record Promise (pad : Pad) (file : List ℕ) (n K : ℕ) (contributions values : List ℕ) (meter : ℕ) (lent : Lent) : Type 0 where

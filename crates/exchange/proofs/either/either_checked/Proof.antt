@@ -11,4 +11,4 @@ either-checked-spec =
     (λ c κs. search needs)
     (λ c κs. search needs)
     (λ c κs. search needs)
-    (λ c. either-met (c .before .before .before .before .before .before .before .args .xs .now) (c .before .before .before .before .before .before .before .args .ps .now) (c .before .before .before .before .before .before .before .args .ys .now) (c .before .before .before .before .before .before .before .args .qs .now) (c .before .before .larger .ensures) (c .before .first-bad .ensures) (c .named .ensures)))
+    (λ c. let s = c .before .before .before .before .before .before .before in either-met (s .args .xs .now) (s .args .ps .now) (s .args .ys .now) (s .args .qs .now) (c .before .before .larger .ensures) (c .before .first-bad .ensures) (c .named .ensures)))

@@ -13,7 +13,7 @@ contents-checked-spec =
     (tie.spec
     (λ c κs. (c .before .before .pre .held .room, omega (arith, c .before .before .pre .externalsLength, inputs-made (c .before .before .pre .held))))
     (λ c κs. ((c .before .before .before .pre .held .room, (omega arith, c .before .before .before .pre .most)), omega (arith, c .before .before .before .pre .contributionLength)))
-    (λ c κs. ((c .before .before .before .before .pre .held .room, (omega arith, c .before .before .before .before .pre .most)), omega (arith, c .before .before .before .before .pre .contributionLength)))
+    (λ c κs. let s = c .before .before .before .before in ((s .pre .held .room, (omega arith, s .pre .most)), omega (arith, s .pre .contributionLength)))
     (λ c κs. search needs)
     (λ c κs. search needs)
-    (λ c. contents-met (c .before .before .before .before .before .before .before .args .k) (wiresIn (c .before .before .before .before .before .before .before .args .circuit)) (c .before .before .before .before .before .before .before .args .contribution .now) (c .before .before .before .before .before .before .before .args .externals .now) (c .before .before .before .before .values-checked .ensures) (c .before .before .before .contributions-checked .ensures) (c .before .before .offsets-checked .ensures) (c .before .followed .ensures) (c .followed2 .ensures)))
+    (λ c. let s = c .before .before .before .before .before .before .before in contents-met (s .args .k) (wiresIn (s .args .circuit)) (s .args .contribution .now) (s .args .externals .now) (c .before .before .before .before .values-checked .ensures) (c .before .before .before .contributions-checked .ensures) (c .before .before .offsets-checked .ensures) (c .before .followed .ensures) (c .followed2 .ensures)))

@@ -14,4 +14,4 @@ party-asked-spec =
     (λ c κs. search needs)
     (λ c κs. search needs)
     (λ c κs. search needs)
-    (λ c. party-met (c .before .before .before .before .before .before .before .args .n) (c .before .before .before .before .before .before .before .args .k) (c .before .before .before .before .before .before .before .args .party) (c .before .before .before .before .before .before .before .args .bytes) (wiresIn (c .before .before .before .before .before .before .before .args .circuit)) (c .before .before .before .before .before .before .before .args .contribution .now) (c .before .before .before .before .before .before .before .args .externals .now) (c .before .before .before .before .key-lengths-checked .ensures) (c .before .before .before .owners-checked .ensures) (c .before .before .followed .ensures) (c .before .party-checked .ensures) (c .followed2 .ensures)))
+    (λ c. let s = c .before .before .before .before .before .before .before in party-met (s .args .n) (s .args .k) (s .args .party) (s .args .bytes) (wiresIn (s .args .circuit)) (s .args .contribution .now) (s .args .externals .now) (c .before .before .before .before .key-lengths-checked .ensures) (c .before .before .before .owners-checked .ensures) (c .before .before .followed .ensures) (c .before .party-checked .ensures) (c .followed2 .ensures)))

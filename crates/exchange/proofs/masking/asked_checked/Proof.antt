@@ -16,4 +16,4 @@ asked-checked-spec =
     (λ c κs. search needs)
     (λ c κs. search needs)
     (λ c κs. search needs)
-    (λ c. asked-met (c .before .before .before .before .before .before .before .before .before .args .n) (c .before .before .before .before .before .before .before .before .before .args .party) (c .before .before .before .before .before .before .before .before .before .args .bytes) (wiresIn (c .before .before .before .before .before .before .before .before .before .args .circuit)) (c .before .before .before .before .before .before .before .before .before .args .values .now) (c .before .before .before .before .before .before .before .before .before .args .masks .now) (c .before .before .before .before .before .before .given-checked .ensures) (c .before .before .before .before .before .owners-checked .ensures) (c .before .before .before .before .followed .ensures) (c .before .before .before .party-checked .ensures) (c .before .before .followed2 .ensures) (c .before .parties-checked .ensures) (c .followed3 .ensures)))
+    (λ c. let s = c .before .before .before .before .before .before .before .before .before in asked-met (s .args .n) (s .args .party) (s .args .bytes) (wiresIn (s .args .circuit)) (s .args .values .now) (s .args .masks .now) (c .before .before .before .before .before .before .given-checked .ensures) (c .before .before .before .before .before .owners-checked .ensures) (c .before .before .before .before .followed .ensures) (c .before .before .before .party-checked .ensures) (c .before .before .followed2 .ensures) (c .before .parties-checked .ensures) (c .followed3 .ensures)))

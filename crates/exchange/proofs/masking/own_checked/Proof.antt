@@ -1,6 +1,7 @@
 -- `exchange::own_checked` meets its contract: the table holds the moduli of the party's inputs. Assumes nothing.
+use native.Mathlib.Omega.{arith}
 use borrow.Author.Needs.{needs}
-use Rattle.exchange.proofs.OwnExternals.{own-covered, own-met}
+use Rattle.exchange.proofs.OwnExternals.{own-most, own-met}
 use Rattle.exchange.proofs.masking.own_checked.Statement.{statement}
 use Rattle.exchange.proofs.masking.own_checked.Tie as tie
 
@@ -12,5 +13,10 @@ own-checked-spec =
     (λ c κs. c .before .before .before .pre .room)
     (λ c. search needs)
     (λ c. search needs)
-    (λ c κs. own-covered (c .before .before .before .before .before .before .pre) (c .before .before .before .own-moduli .ensures) (c .before .before .own-moduli2 .ensures))
+    (λ c κs.
+    let l = c .before .before .before .before .before .before .pre in
+    let m = own-most (l .room) (c .before .before .before .before .before .before .args .party) in
+    let t = c .before .before .before .own-moduli .ensures .long in
+    let u = c .before .before .own-moduli2 .ensures .long in
+    record { left = omega (arith, m, t, u, l .valuesSize, l .masksSize); right = omega (arith, m, t, u, l .valuesSize, l .masksSize) })
     (λ c. own-met (c .before .before .before .before .before .before .before .pre) (c .before .before .before .before .own-moduli .ensures) (c .before .before .before .own-moduli2 .ensures) (c .either-checked .ensures)))

@@ -21,11 +21,13 @@ put-externals-spec =
     Inv-loop
     μ-loop
     (λ c κs. c .before .before .before .pre .lent .room)
-    (λ c. own-start (c .before .before .before .before .args .values .now) (c .before .before .before .before .args .masks .now) (c .own-moduli .result) (omega (arith, c .before .before .before .before .pre .size, c .before .before .before .before .pre .lent .valuesSize)))
-    (λ c. omega (arith, c .before .before .own-moduli .ensures .long, c .before .before .before .before .before .before .pre .lent .valuesSize, own-most (c .before .before .before .before .before .before .pre .lent .room) (c .before .before .before .before .before .before .args .party)))
+    (λ c. let s = c .before .before .before .before in own-start (s .args .values .now) (s .args .masks .now) (c .own-moduli .result) (omega (arith, s .pre .size, s .pre .lent .valuesSize)))
+    (λ c. let s = c .before .before .before .before .before .before in omega (arith, c .before .before .own-moduli .ensures .long, s .pre .lent .valuesSize, own-most (s .pre .lent .room) (s .args .party)))
     (λ c. omega arith)
     (λ c. omega (arith, c .before .before .before .before .before .before .before .before .pre .lent .valuesSize, c .before .before .before .before .before .before .before .before .pre .lent .masksSize))
-    (λ c κs. own-operands (c .before .before .before .before .before .before .before .before .pre) (c .before .before .before .before .own-moduli .ensures) (c .before .before .loop-test .taken))
+    (λ c κs.
+    let o = own-operands (c .before .before .before .before .before .before .before .before .pre) (c .before .before .before .before .own-moduli .ensures) (c .before .before .loop-test .taken) in
+    (omega (arith, o .0, o .1), omega (arith, o .0, o .1)))
     (λ c. omega (arith, c .before .before .before .before .before .before .before .before .before .pre .lent .valuesSize, c .before .before .before .before .before .before .before .before .before .pre .size, c .before .before .before .before .loop .inv .kept))
     (λ c. omega arith)
     (λ c. omega arith)
