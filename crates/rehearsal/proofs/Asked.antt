@@ -21,8 +21,9 @@ use Rattle.circuit.specs.declared.Circuit.{Circuit}
 use Rattle.session.specs.Held.{wiresIn, Held}
 use Rattle.session.proofs.Circuits.{made-is, inputs-made}
 use Rattle.round.specs.Externals.{ownInputs, externalsChecked, externalsAfter}
+use Rattle.round.specs.Round.{ownOf}
 use Rattle.round.proofs.OwnInputs.{owns, placeOf, own-inside}
-use Rattle.rehearsal.specs.Hosts.{Picked, scattered, ownList, ownChecks, ownAfter, gathered}
+use Rattle.rehearsal.specs.Hosts.{Picked, scattered, ownChecks, ownAfter, gathered}
 use Rattle.rehearsal.specs.All.{allOf}
 use Rattle.rehearsal.proofs.InTurn.{turn-start, turn-next}
 
@@ -74,19 +75,19 @@ pub party-ends : {circuit : Circuit} → Held circuit → (file : List ℕ) (n p
     → Meets (ownChecks file n (wiresIn circuit) values masks party) r
     × (after ≡ scattered party (wiresIn circuit) (ownAfter file n (wiresIn circuit) values masks party) before)
 party-ends {circuit} held file n party count values masks before mine {own} {hidden} {blank} {after} {r} size c most v m b met e s =
-    let a1 : take count own ≡ ownList party (wiresIn circuit) values = ap (λ (k : ℕ). take k own) c ∙ v .front in
-    let a2 : take count hidden ≡ ownList party (wiresIn circuit) masks = ap (λ (k : ℕ). take k hidden) c ∙ m .front in
+    let a1 : take count own ≡ ownOf (wiresIn circuit) values party = ap (λ (k : ℕ). take k own) c ∙ v .front in
+    let a2 : take count hidden ≡ ownOf (wiresIn circuit) masks party = ap (λ (k : ℕ). take k hidden) c ∙ m .front in
     let a3 : take count blank ≡ replicate (length (ownInputs party (wiresIn circuit))) 0 =
     ap (λ (l : List ℕ). take count l) b ∙ take-replicate count 1024 0 most ∙ ap (λ (k : ℕ). replicate k 0) c in (
       subst (λ (x : Checked). Meets x r)
           (ap₂ (λ (x y : List ℕ). externalsChecked file n party x y (take count blank)) a1 a2
-          ∙ ap (λ (z : List ℕ). externalsChecked file n party (ownList party (wiresIn circuit) values) (ownList party (wiresIn circuit) masks) z) a3) met,
+          ∙ ap (λ (z : List ℕ). externalsChecked file n party (ownOf (wiresIn circuit) values party) (ownOf (wiresIn circuit) masks party) z) a3) met,
       s ∙ scattered-front held party mine before size
           ∙ ap (λ (l : List ℕ). scattered party (wiresIn circuit) l before)
           (ap (λ (k : ℕ). take k mine) (sym c)
           ∙ e
           ∙ ap₂ (λ (x y : List ℕ). externalsAfter file n party x y (take count blank)) a1 a2
-          ∙ ap (λ (z : List ℕ). externalsAfter file n party (ownList party (wiresIn circuit) values) (ownList party (wiresIn circuit) masks) z) a3),
+          ∙ ap (λ (z : List ℕ). externalsAfter file n party (ownOf (wiresIn circuit) values party) (ownOf (wiresIn circuit) masks party) z) a3),
     )
 
 -- ---- one party after another

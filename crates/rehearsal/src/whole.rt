@@ -32,7 +32,7 @@ pub fn rehearse(
 ) -> Metered
     requires { ⌜ Conditions (now file) n k (now contributions) (now values) meter (lentOf (now file) n k (now rows) (now inputs) (now outputs) (now mine) (now wkeys) (now wexternals) (now results) (now figures))
         × Whole (now file) n k (now externals) (now mine) (now keys) (now wkeys) (now wexternals) (now results) ⌝ }
-    ensures { λ r. ⌜ Rehearsed (now (file .entry)) n k (now (contributions .entry)) (now (values .entry)) meter (r .answer) (r .meter) (now (wkeys .exit)) (now (wexternals .exit)) (now (results .exit)) (now (figures .exit)) ⌝ }
+    ensures { λ r. ⌜ Rehearsed (now (file .entry)) n k (now (contributions .entry)) (now (values .entry)) meter (r .answer) (r .meter) (now (rows .exit)) (now (inputs .exit)) (now (outputs .exit)) (now (externals .exit)) (now (mine .exit)) (now (keys .exit)) (now (wkeys .exit)) (now (wexternals .exit)) (now (results .exit)) (now (figures .exit)) ⌝ }
 {
     let reading = read(file);
     let circuit = reading.circuit;
