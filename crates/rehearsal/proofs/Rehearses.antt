@@ -1,18 +1,14 @@
 -- A round's stages come to what demand 3 says: each stage's memory is the round's, so the claim holds of it.
 -- Assumes nothing.
-use mathlib.Core.Path.{_≡_, refl, sym, ap, _∙_}
+use mathlib.Core.Path.{_≡_, sym, ap, ap₂, _∙_}
 use mathlib.Core.List.{List}
 use Prim.Native.Nat.{ℕ, _+_, _*_, _<_}
 use lib.ListN.{length, getD}
 use Rattle.lists.specs.Blocks.{blocks, tab, nthPiece}
 use Rattle.lists.proofs.Blocks.{blocks-ext, blocks-nth, is-tab}
 use Rattle.residue.specs.Residue.{add}
-use Rattle.checks.specs.declared.Answer.{Answer}
-use Rattle.checks.specs.declared.Answer.the-variants.{Accepted}
-use Rattle.checks.specs.Combined.{followed}
-use Rattle.checks.specs.Checked.{Checked, Meets}
+use Rattle.checks.specs.Checked.{Checked}
 use Rattle.checks.specs.Checked.Checked.{passed}
-use Rattle.checks.specs.Checked.Meets.{accepts, names, namesSome}
 use Rattle.checks.proofs.Passed.{andThen-passed, afterwards-passed}
 use Rattle.words.specs.declared.gate.Wire.{Wire}
 use Rattle.circuit.specs.Wires.{modulusAt, inputsIn}
@@ -35,24 +31,24 @@ use Rattle.round.proofs.External.{externals-size, external-at}
 use Rattle.round.proofs.Keys.{own-keys-are, keys-handed}
 use Rattle.round.proofs.Claim.{delivered-as}
 use Rattle.round.proofs.RealPad.{shakePad-size, shake-claim}
+use Rattle.rehearsal.specs.All.{numberAt, Says, followed}
 use Rattle.rehearsal.specs.Hosts.{ownAfter, ownChecks}
 use Rattle.rehearsal.specs.Stages.{Prepared, Keyed, Finished}
 use Rattle.rehearsal.specs.Rehearsed.{lentOf, Whole, Rehearsed}
 use Rattle.rehearsal.proofs.InTurn.{all-passed}
 use Rattle.rehearsal.proofs.Gathered.{gathered-all}
 
--- an answer that meets checks that pass
-met-accepted : {checks : Checked} {answer : Answer} → Meets checks answer → checks ≡ passed → answer ≡ Accepted
-met-accepted accepts e = refl
-met-accepted names e = cc
-met-accepted (namesSome t) e = cc
+-- checks that pass have number 0
+said-zero : {checks : Checked} {number : ℕ} → Says checks number → checks ≡ passed → number ≡ 0
+unfolding numberAt
+said-zero m e = m .is ∙ ap numberAt e
 
-followed-accepted : {a b c : Answer} → c ≡ followed a b → a ≡ Accepted → b ≡ Accepted → c ≡ Accepted
-followed-accepted {a} {b} {c} e f g = e ∙ ap (λ (x : Answer). followed x b) f ∙ g
+both-zero : {a b c : ℕ} → c ≡ followed a b → a ≡ 0 → b ≡ 0 → c ≡ 0
+both-zero {a} {b} {c} e f g = e ∙ ap₂ followed f g
 
 module _ {file : List ℕ} {n K : ℕ} {contributions values : List ℕ} {meter : ℕ}
     {rows₀ inputs₀ outputs₀ externals₀ mine₀ keys₀ wkeys₀ wexternals₀ results₀ figures₀ : List ℕ}
-    {began handed ended : Answer} {raised : ℕ} {rows inputs outputs externals mine keys wkeys wexternals results : List ℕ}
+    {began handed ended : ℕ} {raised : ℕ} {rows inputs outputs externals mine keys wkeys wexternals results : List ℕ}
     (conditions : Conditions file n K contributions values meter (lentOf file n K rows₀ inputs₀ outputs₀ mine₀ wkeys₀ wexternals₀ results₀ figures₀))
     (whole : Whole file n K externals₀ mine₀ keys₀ wkeys₀ wexternals₀ results₀)
     (prepared : Prepared file (readFile file .wires) n K contributions values meter rows₀ inputs₀ outputs₀ externals₀ began raised rows inputs outputs externals)
@@ -126,20 +122,20 @@ module _ {file : List ℕ} {n K : ℕ} {contributions values : List ℕ} {meter 
   figures-is party h = finished .resultsAre .part party h ∙ rw (wire-externals-is party h, outs-is)
 
   -- the answers
-  begins : began ≡ Accepted
+  begins : began ≡ 0
   unfolding round.garbling round.externalValues
   begins =
-      met-accepted (prepared .met)
+      said-zero (prepared .met)
       (andThen-passed (promise .garbles) (all-passed n (ownChecks file n wires values inputs) (λ party h. rw masks-is (promise .hasExternals party h))))
 
-  hands : handed ≡ Accepted
+  hands : handed ≡ 0
   unfolding round.inputKeys
-  hands = met-accepted (keyed .met) (all-passed n _ (λ party h. rw externals-is (promise .hasKeys party h)))
+  hands = said-zero (keyed .met) (all-passed n _ (λ party h. rw externals-is (promise .hasKeys party h)))
 
-  ends : ended ≡ Accepted
+  ends : ended ≡ 0
   unfolding round.opening round.decoding
   ends =
-      met-accepted (finished .met)
+      said-zero (finished .met)
       (andThen-passed (all-passed n _ (λ party h. rw (externals-is, keys-is, rows-is) (promise .opens party h)))
       (all-passed n _ (λ party h. rw (wire-externals-is party h, outs-is) (promise .decodes party h))))
 
@@ -147,9 +143,9 @@ module _ {file : List ℕ} {n K : ℕ} {contributions values : List ℕ} {meter 
   unfolding garbleMeter round.garbling
   counted = prepared .meterIs ∙ afterwards-passed (promise .garbles) (meter + rowsIn wires) meter
 
-  evaluates : {evaluated : Answer} → Meets (plainChecked file values figures₀) evaluated → evaluated ≡ Accepted
+  evaluates : {evaluated : ℕ} → Says (plainChecked file values figures₀) evaluated → evaluated ≡ 0
   unfolding round.plainly
-  evaluates m = met-accepted m (promise .evaluates)
+  evaluates m = said-zero m (promise .evaluates)
 
   plain-is : {figures : List ℕ} → figures ≡ plainAfter file values figures₀
       → figures ≡ round.plainFigures shakePad file n K contributions values meter lent
@@ -176,13 +172,13 @@ module _ {file : List ℕ} {n K : ℕ} {contributions values : List ℕ} {meter 
       ∙ ap (λ (xs : List ℕ). blocks (inputsIn wires) (λ w. blocks n (λ party. inputKey wires (drawOf file n K contributions values party) xs w)))
       (sym externals-is)
 
-  pub rehearses : {evaluated last rest answer : Answer} {figures : List ℕ} → Meets (plainChecked file values figures₀) evaluated
+  pub rehearses : {evaluated last rest answer : ℕ} {figures : List ℕ} → Says (plainChecked file values figures₀) evaluated
       → figures ≡ plainAfter file values figures₀
       → last ≡ followed ended evaluated → rest ≡ followed handed last → answer ≡ followed began rest
       → Rehearsed file n K contributions values meter answer raised rows inputs outputs externals mine keys wkeys wexternals results figures
   rehearses {evaluated} {last} {rest} {answer} {figures} m e a b c =
       record {
-        accepts = followed-accepted c begins (followed-accepted b hands (followed-accepted a ends (evaluates m)));
+        accepts = both-zero c begins (both-zero b hands (both-zero a ends (evaluates m)));
         counted = counted;
         rowsAre = rows-is ∙ rows-are start;
         masksAre = masks-is ∙ input-masks-are start;

@@ -6,8 +6,6 @@ use Prim.Native.Nat.{ℕ, _+_, _*_}
 use lib.ListN.{length, getD, replicate}
 use Rattle.lists.specs.Blocks.{blocks, tab, nthPiece}
 use Rattle.residue.specs.Residue.{add}
-use Rattle.checks.specs.declared.Answer.{Answer}
-use Rattle.checks.specs.declared.Answer.the-variants.{Accepted}
 use Rattle.words.specs.declared.gate.Wire.{Wire}
 use Rattle.circuit.specs.Wires.{modulusAt, inputsIn}
 use Rattle.circuit.specs.File.{readFile}
@@ -51,11 +49,11 @@ module _ (file : List ℕ) (n K : ℕ) where
     pub wexternalsLong : length wexternals ≡ n * length wires
     pub resultsLong : length results ≡ n * length outputs
 
-  -- what the round comes to: the answer, the meter, and what each buffer holds in the end
-  pub record Rehearsed (contributions values : List ℕ) (meter : ℕ) (answer : Answer) (raised : ℕ)
+  -- what the round comes to: the number of the answer, the meter, and what each buffer holds in the end
+  pub record Rehearsed (contributions values : List ℕ) (meter : ℕ) (number raised : ℕ)
       (rows masks outs externals mine keys wkeys wexternals results figures : List ℕ) : Type 0 where
     -- "every call of the round in document 01 accepts"
-    pub accepts : answer ≡ Accepted
+    pub accepts : number ≡ 0
     -- the meter holds the rows of this circuit besides
     pub counted : raised ≡ meter + rowsIn wires
     -- what garbling wrote, from what all parties drew
