@@ -2,7 +2,7 @@
 -- Assumes nothing.
 use mathlib.Core.Path.{_≡_, refl, ap, _∙_}
 use mathlib.Core.List.{List}
-use Prim.Native.Nat.{ℕ, _+_, _<_}
+use Prim.Native.Nat.{ℕ, _<_}
 use lib.ListN.{getD}
 use Rattle.lists.specs.Blocks.{blocks, nthPiece}
 use Rattle.lists.proofs.Blocks.{blocks-ext, tab-ext}
@@ -14,6 +14,7 @@ use Rattle.words.specs.declared.gate.Wire.{Wire}
 use Rattle.circuit.specs.Wires.{inputsIn}
 use Rattle.circuit.specs.File.{readFile}
 use Rattle.counts.specs.Counts.{rowsIn}
+use Rattle.meter.specs.Meter.{raised}
 use Rattle.pads.specs.Pad.{shakePad}
 use Rattle.round.specs.Garble.{garbleMeter}
 use Rattle.round.specs.Externals.{externalsAfter}
@@ -117,9 +118,9 @@ module _ (file : List ℕ) (n K : ℕ) (contributions values : List ℕ) (meter 
   unfolding round.plainly
   evaluates = zero-of (played .plainAnswer) (promise .evaluates)
 
-  counted : r .meter ≡ meter + rowsIn wires
+  counted : r .meter ≡ raised meter (rowsIn wires)
   unfolding garbleMeter round.garbling
-  counted = played .garbleMeterIs ∙ afterwards-passed (promise .garbles) (meter + rowsIn wires) meter
+  counted = played .garbleMeterIs ∙ afterwards-passed (promise .garbles) (raised meter (rowsIn wires)) meter
 
   plain-is : r .plain ≡ round.plainFigures shakePad file n K contributions values meter lent
   unfolding round.plainFigures

@@ -3,12 +3,13 @@
 -- Assumes nothing.
 use mathlib.Core.Path.{_≡_}
 use mathlib.Core.List.{List}
-use Prim.Native.Nat.{ℕ, _+_, _<_}
+use Prim.Native.Nat.{ℕ, _<_}
 use Rattle.checks.specs.Checked.{Reports}
 use Rattle.words.specs.declared.gate.Wire.{Wire}
 use Rattle.circuit.specs.Wires.{inputsIn}
 use Rattle.circuit.specs.File.{readFile}
 use Rattle.counts.specs.Counts.{rowsIn}
+use Rattle.meter.specs.Meter.{raised}
 use Rattle.pads.specs.Pad.{shakePad}
 use Rattle.plain.specs.Call.{plainChecked, plainAfter}
 use Rattle.round.specs.Garble.{garbleChecked, garbleRows, garbleInputMasks, garbleOutputMasks, garbleMeter}
@@ -60,14 +61,14 @@ module _ (file : List ℕ) (n K : ℕ) (contributions values : List ℕ) (meter 
 
   -- the contracts of the calls, one field for each thing that they give
   pub record Played : Type 0 where
-    pub garbleAnswer : Reports (garbleChecked shakePad file n K contributions (lent .rows) (lent .inputMasks) (lent .outputMasks) meter)
+    pub garbleAnswer : Reports (garbleChecked file n K contributions (lent .rows) (lent .inputMasks) (lent .outputMasks) meter)
         (r .garbleNumber) (r .garblePlace)
     pub garbleRowsIs : r .rows ≡ garbleRows shakePad file n K contributions (lent .rows) (lent .inputMasks) (lent .outputMasks) meter
     pub garbleInputMasksIs :
-        r .inputMasks ≡ garbleInputMasks shakePad file n K contributions (lent .rows) (lent .inputMasks) (lent .outputMasks) meter
+        r .inputMasks ≡ garbleInputMasks file n K contributions (lent .rows) (lent .inputMasks) (lent .outputMasks) meter
     pub garbleOutputMasksIs :
-        r .outputMasks ≡ garbleOutputMasks shakePad file n K contributions (lent .rows) (lent .inputMasks) (lent .outputMasks) meter
-    pub garbleMeterIs : r .meter ≡ garbleMeter shakePad file n K contributions (lent .rows) (lent .inputMasks) (lent .outputMasks) meter
+        r .outputMasks ≡ garbleOutputMasks file n K contributions (lent .rows) (lent .inputMasks) (lent .outputMasks) meter
+    pub garbleMeterIs : r .meter ≡ garbleMeter file n K contributions (lent .rows) (lent .inputMasks) (lent .outputMasks) meter
     pub externalsAnswer : (party : ℕ) → party < n
         → Reports (externalsChecked file n party (ownOf wires values party) (ownOf wires (r .inputMasks) party) (lent .externals party))
         (r .externalsNumber party) (r .externalsPlace party)
@@ -106,6 +107,6 @@ module _ (file : List ℕ) (n K : ℕ) (contributions values : List ℕ) (meter 
     pub decodes : (party : ℕ) → party < n → r .decodeNumber party ≡ 0
     pub evaluates : r .plainNumber ≡ 0
     -- the meter holds the rows of this circuit besides
-    pub counted : r .meter ≡ meter + rowsIn wires
+    pub counted : r .meter ≡ raised meter (rowsIn wires)
     -- and what the rest of it says of what they left
     pub delivers : Delivered file n K contributions values (r .wireKeys) (r .wireExternals) (r .figures) (r .plain)

@@ -21,11 +21,11 @@ pub extern "C" fn lupiknam_garble(
     outputs: &mut [u8],
     meter: &mut u32,
 ) -> Reported
-    ensures { λ r. ⌜ Reports (garbleChecked shakePad (now (file .entry)) n k (now (contributions .entry)) (now (rows .entry)) (now (inputs .entry)) (now (outputs .entry)) (now (meter .entry))) (r .number) (r .place)
+    ensures { λ r. ⌜ Reports (garbleChecked (now (file .entry)) n k (now (contributions .entry)) (now (rows .entry)) (now (inputs .entry)) (now (outputs .entry)) (now (meter .entry))) (r .number) (r .place)
         × (now (rows .exit) ≡ garbleRows shakePad (now (file .entry)) n k (now (contributions .entry)) (now (rows .entry)) (now (inputs .entry)) (now (outputs .entry)) (now (meter .entry)))
-        × (now (inputs .exit) ≡ garbleInputMasks shakePad (now (file .entry)) n k (now (contributions .entry)) (now (rows .entry)) (now (inputs .entry)) (now (outputs .entry)) (now (meter .entry)))
-        × (now (outputs .exit) ≡ garbleOutputMasks shakePad (now (file .entry)) n k (now (contributions .entry)) (now (rows .entry)) (now (inputs .entry)) (now (outputs .entry)) (now (meter .entry)))
-        × (now (meter .exit) ≡ garbleMeter shakePad (now (file .entry)) n k (now (contributions .entry)) (now (rows .entry)) (now (inputs .entry)) (now (outputs .entry)) (now (meter .entry))) ⌝ }
+        × (now (inputs .exit) ≡ garbleInputMasks (now (file .entry)) n k (now (contributions .entry)) (now (rows .entry)) (now (inputs .entry)) (now (outputs .entry)) (now (meter .entry)))
+        × (now (outputs .exit) ≡ garbleOutputMasks (now (file .entry)) n k (now (contributions .entry)) (now (rows .entry)) (now (inputs .entry)) (now (outputs .entry)) (now (meter .entry)))
+        × (now (meter .exit) ≡ garbleMeter (now (file .entry)) n k (now (contributions .entry)) (now (rows .entry)) (now (inputs .entry)) (now (outputs .entry)) (now (meter .entry))) ⌝ }
 {
     let total = *meter;
     let done = garble(file, n, k, contributions, rows, inputs, outputs, total);

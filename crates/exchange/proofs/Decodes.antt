@@ -29,12 +29,13 @@ use Rattle.circuit.specs.File.{readFile, Holds}
 use Rattle.session.specs.Session.{lengthsChecked, tooLarge}
 use Rattle.session.specs.Held.{wiresIn, outputsIn, Held}
 use Rattle.session.proofs.Circuits.{held-of, made-is, given-is}
-use Rattle.round.specs.Decode.{decodeChecked, decodeAfter}
+use Rattle.round.specs.Decode.{decodeBytes, decodeLent, decodeMade, decodeChecked, decodeAfter}
 use Rattle.exchange.specs.Tables.{Front}
 use Rattle.exchange.specs.Either.{eitherChecked}
-use Rattle.exchange.specs.Decoding.{masksChecked, lentChecked, decoded, Masked, Decodes}
+use Rattle.exchange.specs.Decoding.{Masked, Decodes}
 use Rattle.exchange.proofs.TableLoops.{front-moduli}
-use Rattle.exchange.proofs.TwoBuffers.{either-as, Alike, lengths-alike}
+use Rattle.exchange.proofs.TwoBuffers.{either-as}
+use Rattle.exchange.proofs.Lent.{lent-is}
 use Rattle.exchange.proofs.Ending.{stage-passed, stage-next, stage-refused, fails-left, fails-right, fails-guarded, read-met, check-accepted, circuit-accepted, ends-written, ends-refused}
 
 -- ---- 15
@@ -42,7 +43,7 @@ use Rattle.exchange.proofs.Ending.{stage-passed, stage-next, stage-refu
 pub masks-met : {circuit : Circuit} {externals masks table outputs : List ℕ} {answer : Answer} → Masked circuit externals masks
     → table ≡ moduliOf (wiresIn circuit) ++ replicate (1024 - circuit .made) 0
     → Front 1024 (circuit .given) (λ i. modulusAt (wiresIn circuit) (getD (outputsIn circuit) i 0)) outputs
-    → Meets (eitherChecked externals table masks outputs) answer → Meets (masksChecked (wiresIn circuit) (outputsIn circuit) externals masks) answer
+    → Meets (eitherChecked externals table masks outputs) answer → Meets (decodeBytes (wiresIn circuit) (outputsIn circuit) externals masks) answer
 masks-met {circuit} {externals} {masks} {table} {outputs} r e f m =
     either-as externals table masks outputs (length (wiresIn circuit)) (length (outputsIn circuit)) (modulusAt (wiresIn circuit))
     (λ i. modulusAt (wiresIn circuit) (getD (outputsIn circuit) i 0))
@@ -66,15 +67,14 @@ module _ {circuit : Circuit} (held : Held circuit) (externals masks : List ℕ) 
 
   pub lent-masked : answer ≡ Accepted → Masked circuit externals masks
   lent-masked e =
-      let same = lengths-alike (length externals) (length masks) bytes (circuit .made) (circuit .given) (circuit .given) (stage-passed m e) in
-      record { held = held; externalsSize = same .one; masksSize = same .two }
+      let same = lent-is _ _ (stage-passed m e) in record { held = held; externalsSize = same 0; masksSize = same 1 }
 
-  pub lent-next : answer ≡ Accepted → {r : Answer} → Meets (masksChecked (wiresIn circuit) (outputsIn circuit) externals masks) r
-      → Meets (lentChecked (wiresIn circuit) (outputsIn circuit) externals masks bytes) r
+  pub lent-next : answer ≡ Accepted → {r : Answer} → Meets (decodeBytes (wiresIn circuit) (outputsIn circuit) externals masks) r
+      → Meets (decodeLent (wiresIn circuit) (outputsIn circuit) externals masks bytes) r
   lent-next e n = stage-next lengths-met e n
 
-  pub lent-refused : {reason : Refusal} {place : ℕ} → answer ≡ Refused reason place → Meets (lentChecked (wiresIn circuit) (outputsIn circuit) externals masks bytes) (Refused reason place)
-  lent-refused e = stage-refused lengths-met (masksChecked (wiresIn circuit) (outputsIn circuit) externals masks) e
+  pub lent-refused : {reason : Refusal} {place : ℕ} → answer ≡ Refused reason place → Meets (decodeLent (wiresIn circuit) (outputsIn circuit) externals masks bytes) (Refused reason place)
+  lent-refused e = stage-refused lengths-met (decodeBytes (wiresIn circuit) (outputsIn circuit) externals masks) e
 
 -- ---- the results
 
@@ -94,7 +94,7 @@ module _ {circuit : Circuit} {externals masks : List ℕ} {bytes : ℕ} (d : Dec
   long : length os ≡ circuit .given
   long = given-is (d .masked .held)
 
-  pub decode-start : {out₀ : List ℕ} → length out₀ ≡ bytes → Filled out₀ 0 (circuit .given) (decoded ws os externals masks) out₀
+  pub decode-start : {out₀ : List ℕ} → length out₀ ≡ bytes → Filled out₀ 0 (circuit .given) (decodeMade ws os externals masks) out₀
   decode-start e = filled-start (length-tab (length os) result ∙ long) (omega (arith, d .size))
 
   module _ {i at : ℕ} (h : i < circuit .given) (e : at ≡ getD (circuit .outputs) i 0) where
@@ -108,20 +108,20 @@ module _ {circuit : Circuit} {externals masks : List ℕ} {bytes : ℕ} (d : Dec
     decode-operands t =
         (rw (t .entry i h, output-is) (d .external (getD os i 0) (d .made i h)), rw (t .entry i h) (d .mask i h))
 
-    pub decode-step : {out₀ out table : List ℕ} {v : ℕ} → Filled out₀ i (circuit .given) (decoded ws os externals masks) out → table-of table
-        → v ≡ sub (getD table i 0) (getD externals at 0) (getD masks i 0) → Filled out₀ (i + 1) (circuit .given) (decoded ws os externals masks) (set out i v)
+    pub decode-step : {out₀ out table : List ℕ} {v : ℕ} → Filled out₀ i (circuit .given) (decodeMade ws os externals masks) out → table-of table
+        → v ≡ sub (getD table i 0) (getD externals at 0) (getD masks i 0) → Filled out₀ (i + 1) (circuit .given) (decodeMade ws os externals masks) (set out i v)
     decode-step {out₀} {out} {table} {v} r t k =
         filled-step r h
         (getD-tab (length os) result i 0 (omega (arith, long))
         ∙ sym (k ∙ ap₂ (λ (p o : ℕ). sub p (getD externals o 0) (getD masks i 0)) (t .entry i h) output-is))
 
-  pub decode-done : {out₀ out : List ℕ} {i : ℕ} → Filled out₀ i (circuit .given) (decoded ws os externals masks) out → length out₀ ≡ bytes → circuit .given ≤ i → out ≡ decoded ws os externals masks
+  pub decode-done : {out₀ out : List ℕ} {i : ℕ} → Filled out₀ i (circuit .given) (decodeMade ws os externals masks) out → length out₀ ≡ bytes → circuit .given ≤ i → out ≡ decodeMade ws os externals masks
   decode-done r e h = filled-whole r (omega (arith, d .size))
 
 -- ---- the whole call
 
 module _ {reading : Reading} (file externals masks before : List ℕ) (h : Holds reading (readFile file)) {check answer : Answer}
-    (checked : Meets (lentChecked (wiresIn (reading .circuit)) (outputsIn (reading .circuit)) externals masks (length before)) check)
+    (checked : Meets (decodeLent (wiresIn (reading .circuit)) (outputsIn (reading .circuit)) externals masks (length before)) check)
     (joined : answer ≡ followed (reading .answer) check) where
   abbrev circuit : Circuit
   circuit = reading .circuit
@@ -136,28 +136,26 @@ module _ {reading : Reading} (file externals masks before : List ℕ) (h : Holds
   unfolding decodeChecked
   met =
       read-met file h check joined
-      (subst (λ (w : List Wire). Meets (lentChecked w (readFile file .outputs) externals masks (length before)) check) (h .wires)
-      (subst (λ (o : List ℕ). Meets (lentChecked wires o externals masks (length before)) check) (h .outputs) checked))
+      (subst (λ (w : List Wire). Meets (decodeLent w (readFile file .outputs) externals masks (length before)) check) (h .wires)
+      (subst (λ (o : List ℕ). Meets (decodeLent wires o externals masks (length before)) check) (h .outputs) checked))
 
   pub decode-refused : {reason : Refusal} {place : ℕ} → answer ≡ Refused reason place
       → Meets (decodeChecked file externals masks before) (Refused reason place) × (before ≡ decodeAfter file externals masks before)
   unfolding decodeAfter
-  decode-refused e = ends-refused (decoded (readFile file .wires) (readFile file .outputs) externals masks) before met e
+  decode-refused e = ends-refused (decodeMade (readFile file .wires) (readFile file .outputs) externals masks) before met e
 
   module _ (e : answer ≡ Accepted) where
     held : Held circuit
     held = held-of h
 
-    all : lentChecked wires outputs externals masks (length before) ≡ passed
+    all : decodeLent wires outputs externals masks (length before) ≡ passed
     all = stage-passed checked (check-accepted file h check joined e)
 
     abbrev lengths : Checked
     lengths = lengthsChecked (length externals ∷ length masks ∷ length before ∷ []) (length wires ∷ length outputs ∷ length outputs ∷ [])
 
-    sizes : Alike (length externals) (length masks) (length before) (length wires) (length outputs) (length outputs)
-    sizes =
-        lengths-alike (length externals) (length masks) (length before) (length wires) (length outputs) (length outputs)
-        (andThen-left lengths (masksChecked wires outputs externals masks) all)
+    lengthsPassed : lengths ≡ passed
+    lengthsPassed = andThen-left lengths (decodeBytes wires outputs externals masks) all
 
     abbrev left : ℕ → Bool
     left i = ltb i (length wires) && tooLarge externals (modulusAt wires) i
@@ -166,7 +164,7 @@ module _ {reading : Reading} (file externals masks before : List ℕ) (h : Holds
     right i = ltb i (length outputs) && tooLarge masks (λ j. modulusAt wires (getD outputs j 0)) i
 
     fine : (i : ℕ) → i < max (length wires) (length outputs) → (left i || right i) ≡ false
-    fine = noneBad-none (max (length wires) (length outputs)) (λ i. left i || right i) ValueTooLarge (andThen-right lengths (masksChecked wires outputs externals masks) all)
+    fine = noneBad-none (max (length wires) (length outputs)) (λ i. left i || right i) ValueTooLarge (andThen-right lengths (decodeBytes wires outputs externals masks) all)
 
     external-small : (w : ℕ) → w < length wires → getD externals w 0 < modulusAt wires w
     external-small w l =
@@ -183,15 +181,15 @@ module _ {reading : Reading} (file externals masks before : List ℕ) (h : Holds
     pub decodes-of : Decodes (reading .circuit) externals masks (length before)
     decodes-of =
         record {
-          masked = record { held = held; externalsSize = sizes .one ∙ made-is held; masksSize = sizes .two ∙ given-is held };
-          size = sizes .three ∙ given-is held;
+          masked = record { held = held; externalsSize = lent-is _ _ lengthsPassed 0 ∙ made-is held; masksSize = lent-is _ _ lengthsPassed 1 ∙ given-is held };
+          size = lent-is _ _ lengthsPassed 2 ∙ given-is held;
           made = λ i l. omega (arith, circuit-accepted file h check joined e .outputsMade i (omega (arith, given-is held)), made-is held);
           external = λ w l. external-small w (omega (arith, made-is held));
           mask = λ i l. mask-small i (omega (arith, given-is held));
         }
 
-    pub decode-written : {out : List ℕ} → out ≡ decoded wires outputs externals masks
+    pub decode-written : {out : List ℕ} → out ≡ decodeMade wires outputs externals masks
         → Meets (decodeChecked file externals masks before) Accepted × (out ≡ decodeAfter file externals masks before)
     unfolding decodeAfter
     decode-written o =
-        ends-written before met e (o ∙ ap₂ (λ (w : List Wire) (p : List ℕ). decoded w p externals masks) (h .wires) (h .outputs))
+        ends-written before met e (o ∙ ap₂ (λ (w : List Wire) (p : List ℕ). decodeMade w p externals masks) (h .wires) (h .outputs))

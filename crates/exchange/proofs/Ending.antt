@@ -52,11 +52,11 @@ fails-guarded false b k e = let z : _≡_ {A = ℕ} 0 1 = cc in absurd (omega ar
 
 -- ---- the reader's answer comes first
 
-first-accepted : (a b : Answer) → followed a b ≡ Accepted → a ≡ Accepted
+pub first-accepted : (a b : Answer) → followed a b ≡ Accepted → a ≡ Accepted
 first-accepted Accepted b e = refl
 first-accepted (Refused reason place) b e = e
 
-second-accepted : (a b : Answer) → followed a b ≡ Accepted → b ≡ Accepted
+pub second-accepted : (a b : Answer) → followed a b ≡ Accepted → b ≡ Accepted
 second-accepted Accepted b e = e
 second-accepted (Refused reason place) b e = let z : _≡_ {A = ℕ} 0 1 = cc in absurd (omega arith)
 

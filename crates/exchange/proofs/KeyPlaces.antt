@@ -43,9 +43,9 @@ use Rattle.session.specs.Held.{wiresIn, outputsIn, Held}
 use Rattle.session.proofs.Sessions.{session-fits}
 use Rattle.session.proofs.Circuits.{held-of, made-is, inputs-made}
 use Rattle.round.specs.Bytes.{contributionsChecked, offsetsChecked}
-use Rattle.round.specs.InputKeys.{inputKey, inputKeysChecked, inputKeysAfter}
-use Rattle.exchange.specs.Keying.{contentsChecked, lentChecked, partyAsked, keysAsked, keysOf, KeysLent, KeysFit}
-use Rattle.exchange.proofs.TwoBuffers.{Alike, lengths-alike}
+use Rattle.round.specs.InputKeys.{inputKey, inputKeysBytes, inputKeysLent, inputKeysParty, inputKeysAsked, inputKeysMade, inputKeysChecked, inputKeysAfter}
+use Rattle.exchange.specs.Keying.{KeysLent, KeysFit}
+use Rattle.exchange.proofs.Lent.{lent-is}
 use Rattle.exchange.proofs.Ending.{stage-passed, stage-next, stage-refused, stage-followed, read-met, check-accepted, circuit-accepted, ends-written, ends-refused}
 
 -- ---- where an input's key stands
@@ -94,7 +94,7 @@ module _ {circuit : Circuit} {K : ℕ} {contribution externals : List ℕ} {byte
   keys-start e = level-start (omega (arith, fit .size))
 
   pub keys-done : {out₀ out : List ℕ} {w at : ℕ} → Level out₀ 0 w (circuit .inputs) K keyOf at out → length out₀ ≡ bytes → circuit .inputs ≤ w
-      → out ≡ keysOf K (wiresIn circuit) contribution externals
+      → out ≡ inputKeysMade K (wiresIn circuit) contribution externals
   keys-done r e h = level-whole r h (e ∙ fit .size) ∙ ap (λ (n : ℕ). blocks n keyOf) (held .inputs)
 
   module _ {w : ℕ} (h : w < circuit .inputs) where
@@ -150,7 +150,7 @@ module _ {circuit : Circuit} {K : ℕ} {contribution externals : List ℕ} {byte
 
 pub contents-met : (K : ℕ) (wires : List Wire) (contribution externals : List ℕ) {values bytes offsets second first : Answer}
     → Meets (valuesChecked externals (modulusAt wires)) values → Meets (contributionsChecked 1 K wires contribution) bytes → Meets (offsetsChecked 1 K wires contribution) offsets
-    → second ≡ followed bytes offsets → first ≡ followed values second → Meets (contentsChecked K wires contribution externals) first
+    → second ≡ followed bytes offsets → first ≡ followed values second → Meets (inputKeysBytes K wires contribution externals) first
 contents-met K wires contribution externals v b o e f = stage-followed v (stage-followed b o e) f
 
 -- ---- 14, and then those
@@ -159,7 +159,7 @@ module _ {circuit : Circuit} (held : Held circuit) {K : ℕ} (most : K ≤ 128) 
     (c : Counts 429056 (contributionSize K (wiresIn circuit)) size) {answer : Answer}
     (m : Meets (lengthsChecked (length contribution ∷ length externals ∷ bytes ∷ []) (size ∷ circuit .inputs ∷ circuit .inputs * K ∷ [])) answer) where
   abbrev rest : Checked
-  rest = contentsChecked K (wiresIn circuit) contribution externals
+  rest = inputKeysBytes K (wiresIn circuit) contribution externals
 
   abbrev lent : List ℕ
   lent = length contribution ∷ length externals ∷ bytes ∷ []
@@ -170,20 +170,19 @@ module _ {circuit : Circuit} (held : Held circuit) {K : ℕ} (most : K ≤ 128) 
 
   pub keys-lent : answer ≡ Accepted → KeysLent circuit K contribution externals
   keys-lent e =
-      let same = lengths-alike (length contribution) (length externals) bytes size (circuit .inputs) (circuit .inputs * K) (stage-passed m e) in
-      record { held = held; most = most; contributionLength = same .one ∙ c .is; externalsLength = same .two }
+      let same = lent-is _ _ (stage-passed m e) in record { held = held; most = most; contributionLength = same 0 ∙ c .is; externalsLength = same 1 }
 
-  pub keys-next : answer ≡ Accepted → {r : Answer} → Meets rest r → Meets (lentChecked K (wiresIn circuit) contribution externals bytes) r
+  pub keys-next : answer ≡ Accepted → {r : Answer} → Meets rest r → Meets (inputKeysLent K (wiresIn circuit) contribution externals bytes) r
   keys-next e n = stage-next lengths-met e n
 
-  pub keys-stop : {reason : Refusal} {place : ℕ} → answer ≡ Refused reason place → Meets (lentChecked K (wiresIn circuit) contribution externals bytes) (Refused reason place)
+  pub keys-stop : {reason : Refusal} {place : ℕ} → answer ≡ Refused reason place → Meets (inputKeysLent K (wiresIn circuit) contribution externals bytes) (Refused reason place)
   keys-stop e = stage-refused lengths-met rest e
 
 -- ---- 12 and 13
 
 pub party-met : (n K party bytes : ℕ) (wires : List Wire) (contribution externals : List ℕ) {lent owned asked second first : Answer}
-    → Meets (lentChecked K wires contribution externals bytes) lent → Meets (ownersChecked n wires) owned → second ≡ followed owned lent
-    → Meets (partyChecked n party) asked → first ≡ followed asked second → Meets (partyAsked K wires contribution externals n party bytes) first
+    → Meets (inputKeysLent K wires contribution externals bytes) lent → Meets (ownersChecked n wires) owned → second ≡ followed owned lent
+    → Meets (partyChecked n party) asked → first ≡ followed asked second → Meets (inputKeysParty K wires contribution externals n party bytes) first
 party-met n K party bytes wires contribution externals l o e p f = stage-followed p (stage-followed o l e) f
 
 -- ---- 11
@@ -193,17 +192,17 @@ module _ (n K : ℕ) {long : ℕ} {session : Answer} (m : Meets (sessionChecked 
   session-most e = omega (arith, session-fits n K (stage-passed m e) .most)
 
   module _ (wires : List Wire) (contribution externals : List ℕ) (party bytes : ℕ) where
-    pub session-next : session ≡ Accepted → {r : Answer} → Meets (partyAsked long wires contribution externals n party bytes) r → Meets (keysAsked K wires contribution externals n party bytes) r
+    pub session-next : session ≡ Accepted → {r : Answer} → Meets (inputKeysParty long wires contribution externals n party bytes) r → Meets (inputKeysAsked K wires contribution externals n party bytes) r
     session-next e {r} a =
-        stage-next m e (subst (λ (j : ℕ). Meets (partyAsked j wires contribution externals n party bytes) r) k a)
+        stage-next m e (subst (λ (j : ℕ). Meets (inputKeysParty j wires contribution externals n party bytes) r) k a)
 
-    pub session-stop : {reason : Refusal} {place : ℕ} → session ≡ Refused reason place → Meets (keysAsked K wires contribution externals n party bytes) (Refused reason place)
-    session-stop e = stage-refused m (partyAsked K wires contribution externals n party bytes) e
+    pub session-stop : {reason : Refusal} {place : ℕ} → session ≡ Refused reason place → Meets (inputKeysAsked K wires contribution externals n party bytes) (Refused reason place)
+    session-stop e = stage-refused m (inputKeysParty K wires contribution externals n party bytes) e
 
 -- ---- the whole call
 
 module _ {reading : Reading} (file : List ℕ) (n K party : ℕ) (contribution externals before : List ℕ) (h : Holds reading (readFile file)) {check answer : Answer}
-    (checked : Meets (keysAsked K (wiresIn (reading .circuit)) contribution externals n party (length before)) check)
+    (checked : Meets (inputKeysAsked K (wiresIn (reading .circuit)) contribution externals n party (length before)) check)
     (joined : answer ≡ followed (reading .answer) check) where
   abbrev circuit : Circuit
   circuit = reading .circuit
@@ -215,33 +214,31 @@ module _ {reading : Reading} (file : List ℕ) (n K party : ℕ) (contribution e
   unfolding inputKeysChecked
   met =
       read-met file h check joined
-      (subst (λ (w : List Wire). Meets (keysAsked K w contribution externals n party (length before)) check) (h .wires) checked)
+      (subst (λ (w : List Wire). Meets (inputKeysAsked K w contribution externals n party (length before)) check) (h .wires) checked)
 
   pub call-refused : {reason : Refusal} {place : ℕ} → answer ≡ Refused reason place
       → Meets (inputKeysChecked file n K party contribution externals before) (Refused reason place) × (before ≡ inputKeysAfter file n K party contribution externals before)
   unfolding inputKeysAfter
-  call-refused e = ends-refused (keysOf K (readFile file .wires) contribution externals) before met e
+  call-refused e = ends-refused (inputKeysMade K (readFile file .wires) contribution externals) before met e
 
   module _ (e : answer ≡ Accepted) {long : ℕ} (k : long ≡ K) where
     abbrev lengths : Checked
     lengths = lengthsChecked (length contribution ∷ length externals ∷ length before ∷ []) (contributionSize K wires ∷ inputsIn wires ∷ inputsIn wires * K ∷ [])
 
     abbrev asked : Checked
-    asked = partyAsked K wires contribution externals n party (length before)
+    asked = inputKeysParty K wires contribution externals n party (length before)
 
-    all : keysAsked K wires contribution externals n party (length before) ≡ passed
+    all : inputKeysAsked K wires contribution externals n party (length before) ≡ passed
     all = stage-passed checked (check-accepted file h check joined e)
 
-    given : lentChecked K wires contribution externals (length before) ≡ passed
+    given : inputKeysLent K wires contribution externals (length before) ≡ passed
     given =
-        andThen-right (ownersChecked n wires) (lentChecked K wires contribution externals (length before))
-        (andThen-right (partyChecked n party) (andThen (ownersChecked n wires) (lentChecked K wires contribution externals (length before)))
+        andThen-right (ownersChecked n wires) (inputKeysLent K wires contribution externals (length before))
+        (andThen-right (partyChecked n party) (andThen (ownersChecked n wires) (inputKeysLent K wires contribution externals (length before)))
         (andThen-right (sessionChecked n K) asked all))
 
-    sizes : Alike (length contribution) (length externals) (length before) (contributionSize K wires) (inputsIn wires) (inputsIn wires * K)
-    sizes =
-        lengths-alike (length contribution) (length externals) (length before) (contributionSize K wires) (inputsIn wires) (inputsIn wires * K)
-        (andThen-left lengths (contentsChecked K wires contribution externals) given)
+    lengthsPassed : lengths ≡ passed
+    lengthsPassed = andThen-left lengths (inputKeysBytes K wires contribution externals) given
 
     accepted : AcceptedCircuit file (wiresIn (reading .circuit)) (outputsIn (reading .circuit))
     accepted = circuit-accepted file h check joined e
@@ -258,10 +255,10 @@ module _ {reading : Reading} (file : List ℕ) (n K party : ℕ) (contribution e
           lent = record {
             held = held-of h;
             most = session-fits n K (andThen-left (sessionChecked n K) asked all) .most;
-            contributionLength = sizes .one;
-            externalsLength = sizes .two ∙ sym count;
+            contributionLength = lent-is _ _ lengthsPassed 0;
+            externalsLength = lent-is _ _ lengthsPassed 1 ∙ sym count;
           };
-          size = sizes .three ∙ ap (λ (m : ℕ). m * K) (sym count);
+          size = lent-is _ _ lengthsPassed 2 ∙ ap (λ (m : ℕ). m * K) (sym count);
           positive = λ w l. omega (arith, isPrime→Prime (modulusAt wires w) (accepted .fits w (inside w l) .prime) .two);
           byte = λ w l. accepted .fits w (inside w l) .byte;
           recorded = λ w l. one-key (wireAt wires w .gate) (accepted .inputsFirst w (inside w l) ∙ lt-ltb w (inputsIn wires) (omega (arith, count)));
@@ -270,9 +267,9 @@ module _ {reading : Reading} (file : List ℕ) (n K party : ℕ) (contribution e
     pub keys-fit : KeysFit (reading .circuit) long contribution externals (length before)
     keys-fit = subst (λ (j : ℕ). KeysFit (reading .circuit) j contribution externals (length before)) (sym k) fit
 
-    pub call-written : {out : List ℕ} → out ≡ keysOf long wires contribution externals
+    pub call-written : {out : List ℕ} → out ≡ inputKeysMade long wires contribution externals
         → Meets (inputKeysChecked file n K party contribution externals before) Accepted × (out ≡ inputKeysAfter file n K party contribution externals before)
     unfolding inputKeysAfter
     call-written o =
         ends-written before met e
-        (o ∙ ap₂ (λ (j : ℕ) (w : List Wire). keysOf j w contribution externals) k (h .wires))
+        (o ∙ ap₂ (λ (j : ℕ) (w : List Wire). inputKeysMade j w contribution externals) k (h .wires))

@@ -31,12 +31,13 @@ use Rattle.counts.specs.Counts.{mark, ownedBy, inputsOf, Room, Counts}
 use Rattle.counts.proofs.Wires.{room}
 use Rattle.session.specs.Session.{partiesChecked, partyChecked, ownersChecked, lengthsChecked, tooLarge}
 use Rattle.session.specs.Held.{wiresIn}
-use Rattle.round.specs.Externals.{ownInputs, externalsChecked, externalsAfter}
+use Rattle.round.specs.Externals.{ownInputs, externalsBytes, externalsLent, externalsAsked, externalsMade, externalsChecked, externalsAfter}
 use Rattle.round.proofs.OwnInputs.{own-length}
 use Rattle.exchange.specs.Tables.{Front}
 use Rattle.exchange.specs.Either.{eitherChecked, Covered}
-use Rattle.exchange.specs.Masking.{ownChecked, givenChecked, askedChecked, masked, OwnLent, OwnFit}
-use Rattle.exchange.proofs.TwoBuffers.{both-as, Alike, lengths-alike}
+use Rattle.exchange.specs.Masking.{OwnLent, OwnFit}
+use Rattle.exchange.proofs.TwoBuffers.{both-as}
+use Rattle.exchange.proofs.Lent.{lent-is}
 use Rattle.exchange.proofs.Ending.{stage-passed, stage-next, stage-refused, stage-followed, fails-left, fails-right, read-met, check-accepted, ends-written, ends-refused}
 
 -- a party owns no more inputs than there are wires
@@ -69,7 +70,7 @@ module _ {circuit : Circuit} {party : ℕ} {values masks : List ℕ} (lent : Own
       }
 
   pub own-met : {table same : List ℕ} {answer : Answer} → Front 1024 (length own) modulus table → Front 1024 (length own) modulus same
-      → Meets (eitherChecked values table masks same) answer → Meets (ownChecked party ws values masks) answer
+      → Meets (eitherChecked values table masks same) answer → Meets (externalsBytes party ws values masks) answer
   own-met {table} {same} t s m =
       both-as values table masks same (length own) modulus (lent .valuesSize) (lent .masksSize) (t .entry) (s .entry) m
 
@@ -85,28 +86,27 @@ module _ {circuit : Circuit} (space : Room circuit) (party : ℕ) (values masks 
   lent = length values ∷ length masks ∷ bytes ∷ []
 
   abbrev rest : Checked
-  rest = ownChecked party (wiresIn circuit) values masks
+  rest = externalsBytes party (wiresIn circuit) values masks
 
   lengths-met : Meets (lengthsChecked lent (length (ownInputs party (wiresIn circuit)) ∷ length (ownInputs party (wiresIn circuit)) ∷ length (ownInputs party (wiresIn circuit)) ∷ [])) answer
   lengths-met = subst (λ (n : ℕ). Meets (lengthsChecked lent (n ∷ n ∷ n ∷ [])) answer) size-is m
 
   pub own-lent : answer ≡ Accepted → OwnLent circuit party values masks
   own-lent e =
-      let same = lengths-alike (length values) (length masks) bytes size size size (stage-passed m e) in
-      record { room = space; valuesSize = same .one ∙ size-is; masksSize = same .two ∙ size-is }
+      let same = lent-is _ _ (stage-passed m e) in record { room = space; valuesSize = same 0 ∙ size-is; masksSize = same 1 ∙ size-is }
 
-  pub own-next : answer ≡ Accepted → {r : Answer} → Meets rest r → Meets (givenChecked party (wiresIn circuit) values masks bytes) r
+  pub own-next : answer ≡ Accepted → {r : Answer} → Meets rest r → Meets (externalsLent party (wiresIn circuit) values masks bytes) r
   own-next e n = stage-next lengths-met e n
 
-  pub own-refused : {reason : Refusal} {place : ℕ} → answer ≡ Refused reason place → Meets (givenChecked party (wiresIn circuit) values masks bytes) (Refused reason place)
+  pub own-refused : {reason : Refusal} {place : ℕ} → answer ≡ Refused reason place → Meets (externalsLent party (wiresIn circuit) values masks bytes) (Refused reason place)
   own-refused e = stage-refused lengths-met rest e
 
 -- ---- 11 to 15
 
 pub asked-met : (n party bytes : ℕ) (wires : List Wire) (values masks : List ℕ) {given owned asked parties third second first : Answer}
-    → Meets (givenChecked party wires values masks bytes) given → Meets (ownersChecked n wires) owned → third ≡ followed owned given
+    → Meets (externalsLent party wires values masks bytes) given → Meets (ownersChecked n wires) owned → third ≡ followed owned given
     → Meets (partyChecked n party) asked → second ≡ followed asked third → Meets (partiesChecked n) parties → first ≡ followed parties second
-    → Meets (askedChecked party wires values masks n bytes) first
+    → Meets (externalsAsked party wires values masks n bytes) first
 asked-met n party bytes wires values masks g o e a f p k = stage-followed p (stage-followed a (stage-followed o g e) f) k
 
 -- ---- the external values: what the loop writes by its table is v + m
@@ -137,7 +137,7 @@ module _ {circuit : Circuit} {party : ℕ} {values masks : List ℕ} {bytes : �
         (rw (t .entry i l) (fit .value i l), rw (t .entry i l) (fit .mask i l))
 
     pub own-done : {out₀ out : List ℕ} {i : ℕ} → Filled out₀ i (length values) (byTable table values masks) out → length out₀ ≡ bytes → length values ≤ i
-        → out ≡ masked party (wiresIn circuit) values masks
+        → out ≡ externalsMade party (wiresIn circuit) values masks
     own-done {out₀} {out} {i} r e h =
         filled-whole r (omega (arith, fit .size, fit .lent .valuesSize))
         ∙ tab-ext (length values) (λ i. add (getD table i 0) (getD values i 0) (getD masks i 0)) (λ i. add (prime i) (getD values i 0) (getD masks i 0))
@@ -147,7 +147,7 @@ module _ {circuit : Circuit} {party : ℕ} {values masks : List ℕ} {bytes : �
 -- ---- the whole call
 
 module _ {reading : Reading} (file : List ℕ) (n party : ℕ) (values masks before : List ℕ) (h : Holds reading (readFile file)) {check answer : Answer}
-    (checked : Meets (askedChecked party (wiresIn (reading .circuit)) values masks n (length before)) check)
+    (checked : Meets (externalsAsked party (wiresIn (reading .circuit)) values masks n (length before)) check)
     (joined : answer ≡ followed (reading .answer) check) where
   abbrev wires : List Wire
   wires = wiresIn (reading .circuit)
@@ -162,29 +162,29 @@ module _ {reading : Reading} (file : List ℕ) (n party : ℕ) (values masks bef
   unfolding externalsChecked
   met =
       read-met file h check joined
-      (subst (λ (w : List Wire). Meets (askedChecked party w values masks n (length before)) check) (h .wires) checked)
+      (subst (λ (w : List Wire). Meets (externalsAsked party w values masks n (length before)) check) (h .wires) checked)
 
   pub externals-refused : {reason : Refusal} {place : ℕ} → answer ≡ Refused reason place
       → Meets (externalsChecked file n party values masks before) (Refused reason place) × (before ≡ externalsAfter file n party values masks before)
   unfolding externalsAfter
-  externals-refused e = ends-refused (masked party (readFile file .wires) values masks) before met e
+  externals-refused e = ends-refused (externalsMade party (readFile file .wires) values masks) before met e
 
   module _ (e : answer ≡ Accepted) where
     abbrev lengths : Checked
     lengths = lengthsChecked (length values ∷ length masks ∷ length before ∷ []) (length inputs ∷ length inputs ∷ length inputs ∷ [])
 
     abbrev bytes : Checked
-    bytes = ownChecked party wires values masks
+    bytes = externalsBytes party wires values masks
 
-    given : givenChecked party wires values masks (length before) ≡ passed
+    given : externalsLent party wires values masks (length before) ≡ passed
     given =
-        andThen-right (ownersChecked n wires) (givenChecked party wires values masks (length before))
-        (andThen-right (partyChecked n party) (andThen (ownersChecked n wires) (givenChecked party wires values masks (length before)))
-        (andThen-right (partiesChecked n) (andThen (partyChecked n party) (andThen (ownersChecked n wires) (givenChecked party wires values masks (length before))))
+        andThen-right (ownersChecked n wires) (externalsLent party wires values masks (length before))
+        (andThen-right (partyChecked n party) (andThen (ownersChecked n wires) (externalsLent party wires values masks (length before)))
+        (andThen-right (partiesChecked n) (andThen (partyChecked n party) (andThen (ownersChecked n wires) (externalsLent party wires values masks (length before))))
         (stage-passed checked (check-accepted file h check joined e))))
 
-    sizes : Alike (length values) (length masks) (length before) (length inputs) (length inputs) (length inputs)
-    sizes = lengths-alike (length values) (length masks) (length before) (length inputs) (length inputs) (length inputs) (andThen-left lengths bytes given)
+    lengthsPassed : lengths ≡ passed
+    lengthsPassed = andThen-left lengths bytes given
 
     fine : (i : ℕ) → i < length inputs → (tooLarge values inputModulus i || tooLarge masks inputModulus i) ≡ false
     fine = noneBad-none (length inputs) (λ i. tooLarge values inputModulus i || tooLarge masks inputModulus i) ValueTooLarge (andThen-right lengths bytes given)
@@ -192,13 +192,13 @@ module _ {reading : Reading} (file : List ℕ) (n party : ℕ) (values masks bef
     pub own-fit : OwnFit (reading .circuit) party values masks (length before)
     own-fit =
         record {
-          lent = record { room = room h; valuesSize = sizes .one; masksSize = sizes .two };
-          size = sizes .three;
+          lent = record { room = room h; valuesSize = lent-is _ _ lengthsPassed 0; masksSize = lent-is _ _ lengthsPassed 1 };
+          size = lent-is _ _ lengthsPassed 2;
           value = λ i l. leb-false (inputModulus i) (getD values i 0) (fails-left (tooLarge values inputModulus i) (tooLarge masks inputModulus i) (fine i l));
           mask = λ i l. leb-false (inputModulus i) (getD masks i 0) (fails-right (tooLarge values inputModulus i) (tooLarge masks inputModulus i) (fine i l));
         }
 
-    pub externals-written : {out : List ℕ} → out ≡ masked party wires values masks
+    pub externals-written : {out : List ℕ} → out ≡ externalsMade party wires values masks
         → Meets (externalsChecked file n party values masks before) Accepted × (out ≡ externalsAfter file n party values masks before)
     unfolding externalsAfter
-    externals-written o = ends-written before met e (o ∙ ap (λ (w : List Wire). masked party w values masks) (h .wires))
+    externals-written o = ends-written before met e (o ∙ ap (λ (w : List Wire). externalsMade party w values masks) (h .wires))

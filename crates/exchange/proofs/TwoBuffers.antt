@@ -1,8 +1,8 @@
--- Laws of the check of two buffers at once, and of a check of three lengths.
+-- Laws of the check of two buffers at once.
 -- Assumes nothing.
 use mathlib.Core.Path.{_≡_, refl, sym, ap, subst, _∙_}
 use mathlib.Core.Bool.{Bool, true, false, _&&_, _||_}
-use mathlib.Core.List.{List, [], _∷_}
+use mathlib.Core.List.{List}
 use Prim.Native.Nat.{ℕ, max, _≤_, _<_}
 use native.Mathlib.Nat.{max-eq-left, le-refl}
 use native.Mathlib.Decide.{decLt}
@@ -13,17 +13,13 @@ use lib.ListN.{length, getD}
 use Rattle.lists.specs.First.{first}
 use Rattle.lists.proofs.First.{first-at, first-none, first-before, first-here}
 use Rattle.checks.specs.declared.Answer.{Answer}
-use Rattle.checks.specs.declared.Answer.the-variants.{Accepted, Refused}
 use Rattle.checks.specs.declared.Refusal.{Refusal}
-use Rattle.checks.specs.declared.Refusal.the-variants.{WrongLength, ValueTooLarge}
+use Rattle.checks.specs.declared.Refusal.the-variants.{ValueTooLarge}
 use Rattle.checks.specs.Combined.{named}
 use Rattle.checks.specs.Checked.{Checked, Meets, noneBad, unless}
-use Rattle.checks.proofs.Answers.{meets-noneBad, meets-passed, unless-named}
-use Rattle.session.specs.Session.{sameNumbers, lengthsChecked, tooLarge}
-use Rattle.session.proofs.Sessions.{numbers-same, lengths-passed, lengths-same}
+use Rattle.checks.proofs.Answers.{meets-noneBad}
+use Rattle.session.specs.Session.{tooLarge}
 use Rattle.exchange.specs.Either.{badAt, eitherBad, eitherChecked}
-
--- ---- 15 over two buffers
 
 module _ (xs ps : List ℕ) (i : ℕ) where
   pub bad-inside : i < length xs → leb (getD ps i 0) (getD xs i 0) ≡ badAt xs ps i
@@ -96,83 +92,3 @@ module _ (xs ps ys qs : List ℕ) (m : ℕ) (p : ℕ → ℕ) (e : length xs ≡
 
   pub both-as : {answer : Answer} → Meets (eitherChecked xs ps ys qs) answer → Meets (noneBad m (λ i. tooLarge xs p i || tooLarge ys p i) ValueTooLarge) answer
   both-as {answer} k = subst (λ (c : Checked). Meets c answer) alike (either-as xs ps ys qs m m p p e f l r k)
-
--- ---- 14
-
-pub lengths-differ : (lent wanted : List ℕ) → (lent ≡ wanted → ⊥) → Meets (lengthsChecked lent wanted) (Refused WrongLength 0)
-unfolding lengthsChecked
-lengths-differ lent wanted n = unless-named WrongLength 0 (go (sameNumbers lent wanted) refl)
-  where
-    go : (b : Bool) → sameNumbers lent wanted ≡ b → sameNumbers lent wanted ≡ false
-    go true e = absurd (n (numbers-same lent wanted e))
-    go false e = e
-
--- three of them, one by one
-pub lengths-equal : {a b c x y z : ℕ} → a ≡ x → b ≡ y → c ≡ z → Meets (lengthsChecked (a ∷ b ∷ c ∷ []) (x ∷ y ∷ z ∷ [])) Accepted
-lengths-equal e f g = meets-passed (lengths-passed (rw (e, f, g)))
-
-pub record Alike (a b c x y z : ℕ) : Type 0 where
-  pub one : a ≡ x
-  pub two : b ≡ y
-  pub three : c ≡ z
-
-pub lengths-alike : (a b c x y z : ℕ) → lengthsChecked (a ∷ b ∷ c ∷ []) (x ∷ y ∷ z ∷ []) ≡ Checked.passed → Alike a b c x y z
-lengths-alike a b c x y z e =
-    let l = lengths-same (a ∷ b ∷ c ∷ []) (x ∷ y ∷ z ∷ []) e in
-    record {
-      one = ap (λ (l : List ℕ). getD l 0 0) l;
-      two = ap (λ (l : List ℕ). getD l 1 0) l;
-      three = ap (λ (l : List ℕ). getD l 2 0) l;
-    }
-
--- four of them, and six
-
-pub four-same : {a b c d x y z t : ℕ} → a ≡ x → b ≡ y → c ≡ z → d ≡ t → _≡_ {A = List ℕ} (a ∷ b ∷ c ∷ d ∷ []) (x ∷ y ∷ z ∷ t ∷ [])
-four-same e f g h = rw (e, f, g, h)
-
-pub four-equal : {a b c d x y z t : ℕ} → a ≡ x → b ≡ y → c ≡ z → d ≡ t → Meets (lengthsChecked (a ∷ b ∷ c ∷ d ∷ []) (x ∷ y ∷ z ∷ t ∷ [])) Accepted
-four-equal e f g h = meets-passed (lengths-passed (four-same e f g h))
-
-pub record Four (a b c d x y z t : ℕ) : Type 0 where
-  pub one : a ≡ x
-  pub two : b ≡ y
-  pub three : c ≡ z
-  pub four : d ≡ t
-
-pub four-alike : (a b c d x y z t : ℕ) → lengthsChecked (a ∷ b ∷ c ∷ d ∷ []) (x ∷ y ∷ z ∷ t ∷ []) ≡ Checked.passed → Four a b c d x y z t
-four-alike a b c d x y z t e =
-    let l = lengths-same (a ∷ b ∷ c ∷ d ∷ []) (x ∷ y ∷ z ∷ t ∷ []) e in
-    record {
-      one = ap (λ (l : List ℕ). getD l 0 0) l;
-      two = ap (λ (l : List ℕ). getD l 1 0) l;
-      three = ap (λ (l : List ℕ). getD l 2 0) l;
-      four = ap (λ (l : List ℕ). getD l 3 0) l;
-    }
-
-pub six-same : {a b c d m n x y z t u v : ℕ} → a ≡ x → b ≡ y → c ≡ z → d ≡ t → m ≡ u → n ≡ v
-    → _≡_ {A = List ℕ} (a ∷ b ∷ c ∷ d ∷ m ∷ n ∷ []) (x ∷ y ∷ z ∷ t ∷ u ∷ v ∷ [])
-six-same e f g h i j = rw (e, f, g, h, i, j)
-
-pub six-equal : {a b c d m n x y z t u v : ℕ} → a ≡ x → b ≡ y → c ≡ z → d ≡ t → m ≡ u → n ≡ v
-    → Meets (lengthsChecked (a ∷ b ∷ c ∷ d ∷ m ∷ n ∷ []) (x ∷ y ∷ z ∷ t ∷ u ∷ v ∷ [])) Accepted
-six-equal e f g h i j = meets-passed (lengths-passed (six-same e f g h i j))
-
-pub record Six (a b c d m n x y z t u v : ℕ) : Type 0 where
-  pub one : a ≡ x
-  pub two : b ≡ y
-  pub three : c ≡ z
-  pub four : d ≡ t
-  pub five : m ≡ u
-  pub six : n ≡ v
-
-pub six-alike : (a b c d m n x y z t u v : ℕ) → lengthsChecked (a ∷ b ∷ c ∷ d ∷ m ∷ n ∷ []) (x ∷ y ∷ z ∷ t ∷ u ∷ v ∷ []) ≡ Checked.passed → Six a b c d m n x y z t u v
-six-alike a b c d m n x y z t u v e =
-    let l = lengths-same (a ∷ b ∷ c ∷ d ∷ m ∷ n ∷ []) (x ∷ y ∷ z ∷ t ∷ u ∷ v ∷ []) e in
-    record {
-      one = ap (λ (l : List ℕ). getD l 0 0) l;
-      two = ap (λ (l : List ℕ). getD l 1 0) l;
-      three = ap (λ (l : List ℕ). getD l 2 0) l;
-      four = ap (λ (l : List ℕ). getD l 3 0) l;
-      five = ap (λ (l : List ℕ). getD l 4 0) l;
-      six = ap (λ (l : List ℕ). getD l 5 0) l;
-    }

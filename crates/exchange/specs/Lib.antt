@@ -1,4 +1,4 @@
--- The stages of the checks of each call, on a circuit of the code, and what the calls ask of what they are lent.
+-- Tables of moduli, a check of two buffers at once, and what the calls ask of what they are lent.
 pub mod Tables
 pub mod Either
 pub mod Decoding

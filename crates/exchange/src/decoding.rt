@@ -4,10 +4,10 @@ ghost use lib.ListN.{length};
 ghost use Rattle.checks.specs.Checked.{Meets};
 ghost use Rattle.circuit.specs.File.{readFile, Holds};
 ghost use Rattle.session.specs.Held.{wiresIn, outputsIn, Held};
-ghost use Rattle.round.specs.Decode.{decodeChecked, decodeAfter};
-ghost use Rattle.exchange.specs.Decoding.{masksChecked, lentChecked, Masked, Decodes, decoded};
+ghost use Rattle.round.specs.Decode.{decodeBytes, decodeLent, decodeMade, decodeChecked, decodeAfter};
+ghost use Rattle.exchange.specs.Decoding.{Masked, Decodes};
 use super::either::either_checked;
-use super::lengths::lengths_checked;
+use super::lengths::length_checked;
 use super::tables::output_moduli;
 use super::tables::place_of;
 use checks::Answer;
@@ -21,7 +21,7 @@ use residue::sub;
 // Each external value below its wire's modulus, each mask below that of its output's wire.
 fn masks_checked(circuit: Circuit, externals: &[u8], masks: &[u8]) -> Answer
     requires { ⌜ Masked circuit (now externals) (now masks) ⌝ }
-    ensures { λ r. ⌜ Meets (masksChecked (wiresIn circuit) (outputsIn circuit) (now (externals .entry)) (now (masks .entry))) r ⌝ }
+    ensures { λ r. ⌜ Meets (decodeBytes (wiresIn circuit) (outputsIn circuit) (now (externals .entry)) (now (masks .entry))) r ⌝ }
 {
     let wires = moduli(circuit);
     let outputs = output_moduli(circuit);
@@ -31,11 +31,14 @@ fn masks_checked(circuit: Circuit, externals: &[u8], masks: &[u8]) -> Answer
 // The lengths of what is lent, and where they are right the bytes.
 fn lent_checked(circuit: Circuit, externals: &[u8], masks: &[u8], bytes: usize) -> Answer
     requires { ⌜ Held circuit ⌝ }
-    ensures { λ r. ⌜ Meets (lentChecked (wiresIn circuit) (outputsIn circuit) (now (externals .entry)) (now (masks .entry)) bytes) r ⌝ }
+    ensures { λ r. ⌜ Meets (decodeLent (wiresIn circuit) (outputsIn circuit) (now (externals .entry)) (now (masks .entry)) bytes) r ⌝ }
 {
     let made = circuit.made;
     let given = circuit.given;
-    let lengths = lengths_checked(externals.len(), masks.len(), bytes, made, given, given);
+    let values = length_checked(externals.len(), made);
+    let hidden = length_checked(masks.len(), given);
+    let results = length_checked(bytes, given);
+    let lengths = followed(values, followed(hidden, results));
     match lengths {
         Answer::Accepted => masks_checked(circuit, externals, masks),
         Answer::Refused(reason, place) => Answer::Refused(reason, place),
@@ -45,7 +48,7 @@ fn lent_checked(circuit: Circuit, externals: &[u8], masks: &[u8], bytes: usize) 
 // Each output's external value less its mask.
 fn put_decoded(circuit: Circuit, externals: &[u8], masks: &[u8], results: &mut [u8])
     requires { ⌜ Decodes circuit (now externals) (now masks) (length (now results)) ⌝ }
-    ensures { λ _. ⌜ now (results .exit) ≡ decoded (wiresIn circuit) (outputsIn circuit) (now (externals .entry)) (now (masks .entry)) ⌝ }
+    ensures { λ _. ⌜ now (results .exit) ≡ decodeMade (wiresIn circuit) (outputsIn circuit) (now (externals .entry)) (now (masks .entry)) ⌝ }
 {
     let table = output_moduli(circuit);
     let given = circuit.given;

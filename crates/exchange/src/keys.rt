@@ -7,9 +7,9 @@ ghost use Rattle.residue.specs.Vector.{keyV};
 ghost use Rattle.checks.specs.Checked.{Meets};
 ghost use Rattle.circuit.specs.File.{readFile, Holds};
 ghost use Rattle.session.specs.Held.{wiresIn, Held};
-ghost use Rattle.round.specs.InputKeys.{inputKeysChecked, inputKeysAfter};
-ghost use Rattle.exchange.specs.Keying.{contentsChecked, lentChecked, partyAsked, keysAsked, keysOf, KeysLent, KeysFit};
-use super::lengths::lengths_checked;
+ghost use Rattle.round.specs.InputKeys.{inputKeysBytes, inputKeysLent, inputKeysParty, inputKeysAsked, inputKeysMade, inputKeysChecked, inputKeysAfter};
+ghost use Rattle.exchange.specs.Keying.{KeysLent, KeysFit};
+use super::lengths::length_checked;
 use super::tables::counted;
 use checks::Answer;
 use checks::followed;
@@ -31,7 +31,7 @@ use session::values_checked;
 // The bytes, where their number is right: external values, then the contribution, then its offsets.
 fn contents_checked(circuit: Circuit, k: usize, contribution: &[u8], externals: &[u8]) -> Answer
     requires { ⌜ KeysLent circuit k (now contribution) (now externals) ⌝ }
-    ensures { λ r. ⌜ Meets (contentsChecked k (wiresIn circuit) (now (contribution .entry)) (now (externals .entry))) r ⌝ }
+    ensures { λ r. ⌜ Meets (inputKeysBytes k (wiresIn circuit) (now (contribution .entry)) (now (externals .entry))) r ⌝ }
 {
     let values = values_checked(circuit, externals);
     let bytes = contributions_checked(circuit, 1, k, contribution);
@@ -48,19 +48,15 @@ fn key_lengths_checked(
     bytes: usize,
 ) -> Answer
     requires { ⌜ Held circuit × (k ≤ 128) ⌝ }
-    ensures { λ r. ⌜ Meets (lentChecked k (wiresIn circuit) (now (contribution .entry)) (now (externals .entry)) bytes) r ⌝ }
+    ensures { λ r. ⌜ Meets (inputKeysLent k (wiresIn circuit) (now (contribution .entry)) (now (externals .entry)) bytes) r ⌝ }
 {
     let size = contribution_size(circuit, k);
     let inputs = circuit.inputs;
     let all = inputs * k;
-    let lengths = lengths_checked(
-        contribution.len(),
-        externals.len(),
-        bytes,
-        size,
-        inputs,
-        all,
-    );
+    let own = length_checked(contribution.len(), size);
+    let values = length_checked(externals.len(), inputs);
+    let keys = length_checked(bytes, all);
+    let lengths = followed(own, followed(values, keys));
     match lengths {
         Answer::Accepted => contents_checked(circuit, k, contribution, externals),
         Answer::Refused(reason, place) => Answer::Refused(reason, place),
@@ -78,7 +74,7 @@ fn party_asked(
     bytes: usize,
 ) -> Answer
     requires { ⌜ Held circuit × (k ≤ 128) ⌝ }
-    ensures { λ r. ⌜ Meets (partyAsked k (wiresIn circuit) (now (contribution .entry)) (now (externals .entry)) n party bytes) r ⌝ }
+    ensures { λ r. ⌜ Meets (inputKeysParty k (wiresIn circuit) (now (contribution .entry)) (now (externals .entry)) n party bytes) r ⌝ }
 {
     let lent = key_lengths_checked(circuit, k, contribution, externals, bytes);
     let owners = followed(owners_checked(circuit, n), lent);
@@ -96,7 +92,7 @@ fn keys_asked(
     bytes: usize,
 ) -> Answer
     requires { ⌜ Held circuit ⌝ }
-    ensures { λ r. ⌜ Meets (keysAsked k (wiresIn circuit) (now (contribution .entry)) (now (externals .entry)) n party bytes) r ⌝ }
+    ensures { λ r. ⌜ Meets (inputKeysAsked k (wiresIn circuit) (now (contribution .entry)) (now (externals .entry)) n party bytes) r ⌝ }
 {
     let session = session_checked(n, k);
     let long = counted(k);
@@ -126,7 +122,7 @@ fn put_key(p: u8, e: u8, contribution: &[u8], zero: usize, offset: usize, k: usi
 // The keys of all inputs. Inputs come first and have one key each in their records, so these records are of one size.
 pub fn put_keys(circuit: Circuit, k: usize, contribution: &[u8], externals: &[u8], keys: &mut [u8])
     requires { ⌜ KeysFit circuit k (now contribution) (now externals) (length (now keys)) ⌝ }
-    ensures { λ _. ⌜ now (keys .exit) ≡ keysOf k (wiresIn circuit) (now (contribution .entry)) (now (externals .entry)) ⌝ }
+    ensures { λ _. ⌜ now (keys .exit) ≡ inputKeysMade k (wiresIn circuit) (now (contribution .entry)) (now (externals .entry)) ⌝ }
 {
     let places = ranks(circuit);
     let used = counted(moduli_used(circuit));

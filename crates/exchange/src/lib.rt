@@ -11,7 +11,6 @@ mod tables;
 pub use decoding::decode;
 pub use keys::input_keys;
 pub use keys::put_keys;
-pub use lengths::four_lengths_checked;
-pub use lengths::six_lengths_checked;
+pub use lengths::length_checked;
 pub use masking::externals;
 pub use tables::counted;

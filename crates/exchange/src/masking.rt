@@ -5,10 +5,10 @@ ghost use Rattle.checks.specs.Checked.{Meets};
 ghost use Rattle.circuit.specs.File.{readFile, Holds};
 ghost use Rattle.counts.specs.Counts.{Room};
 ghost use Rattle.session.specs.Held.{wiresIn};
-ghost use Rattle.round.specs.Externals.{externalsChecked, externalsAfter};
-ghost use Rattle.exchange.specs.Masking.{ownChecked, givenChecked, askedChecked, masked, OwnLent, OwnFit};
+ghost use Rattle.round.specs.Externals.{externalsBytes, externalsLent, externalsAsked, externalsMade, externalsChecked, externalsAfter};
+ghost use Rattle.exchange.specs.Masking.{OwnLent, OwnFit};
 use super::either::either_checked;
-use super::lengths::lengths_checked;
+use super::lengths::length_checked;
 use super::tables::counted;
 use super::tables::own_moduli;
 use checks::Answer;
@@ -25,7 +25,7 @@ use session::party_checked;
 // Each value and each mask below the modulus of its own input. Both are held to the same table, lent as two.
 fn own_checked(circuit: Circuit, party: u32, values: &[u8], masks: &[u8]) -> Answer
     requires { ⌜ OwnLent circuit party (now values) (now masks) ⌝ }
-    ensures { λ r. ⌜ Meets (ownChecked party (wiresIn circuit) (now (values .entry)) (now (masks .entry))) r ⌝ }
+    ensures { λ r. ⌜ Meets (externalsBytes party (wiresIn circuit) (now (values .entry)) (now (masks .entry))) r ⌝ }
 {
     let own = own_moduli(circuit, party);
     let same = own_moduli(circuit, party);
@@ -35,10 +35,13 @@ fn own_checked(circuit: Circuit, party: u32, values: &[u8], masks: &[u8]) -> Ans
 // The lengths of what is lent, and where they are right the bytes.
 fn given_checked(circuit: Circuit, party: u32, values: &[u8], masks: &[u8], bytes: usize) -> Answer
     requires { ⌜ Room circuit ⌝ }
-    ensures { λ r. ⌜ Meets (givenChecked party (wiresIn circuit) (now (values .entry)) (now (masks .entry)) bytes) r ⌝ }
+    ensures { λ r. ⌜ Meets (externalsLent party (wiresIn circuit) (now (values .entry)) (now (masks .entry)) bytes) r ⌝ }
 {
     let own = counted(inputs_of(circuit, party));
-    let lengths = lengths_checked(values.len(), masks.len(), bytes, own, own, own);
+    let plain = length_checked(values.len(), own);
+    let hidden = length_checked(masks.len(), own);
+    let results = length_checked(bytes, own);
+    let lengths = followed(plain, followed(hidden, results));
     match lengths {
         Answer::Accepted => own_checked(circuit, party, values, masks),
         Answer::Refused(reason, place) => Answer::Refused(reason, place),
@@ -55,7 +58,7 @@ fn asked_checked(
     bytes: usize,
 ) -> Answer
     requires { ⌜ Room circuit ⌝ }
-    ensures { λ r. ⌜ Meets (askedChecked party (wiresIn circuit) (now (values .entry)) (now (masks .entry)) n bytes) r ⌝ }
+    ensures { λ r. ⌜ Meets (externalsAsked party (wiresIn circuit) (now (values .entry)) (now (masks .entry)) n bytes) r ⌝ }
 {
     let given = given_checked(circuit, party, values, masks, bytes);
     let owners = followed(owners_checked(circuit, n), given);
@@ -66,7 +69,7 @@ fn asked_checked(
 // Each own input's value plus its mask.
 fn put_externals(circuit: Circuit, party: u32, values: &[u8], masks: &[u8], externals: &mut [u8])
     requires { ⌜ OwnFit circuit party (now values) (now masks) (length (now externals)) ⌝ }
-    ensures { λ _. ⌜ now (externals .exit) ≡ masked party (wiresIn circuit) (now (values .entry)) (now (masks .entry)) ⌝ }
+    ensures { λ _. ⌜ now (externals .exit) ≡ externalsMade party (wiresIn circuit) (now (values .entry)) (now (masks .entry)) ⌝ }
 {
     let table = own_moduli(circuit, party);
     let size = values.len();

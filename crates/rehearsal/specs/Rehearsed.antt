@@ -2,7 +2,7 @@
 -- Assumes nothing.
 use mathlib.Core.Path.{_≡_}
 use mathlib.Core.List.{List}
-use Prim.Native.Nat.{ℕ, _+_, _*_}
+use Prim.Native.Nat.{ℕ, _*_}
 use lib.ListN.{length, getD, replicate}
 use Rattle.lists.specs.Blocks.{blocks, tab, nthPiece}
 use Rattle.residue.specs.Residue.{add}
@@ -12,6 +12,7 @@ use Rattle.circuit.specs.File.{readFile}
 use Rattle.counts.specs.Counts.{rowsIn}
 use Rattle.scheme.specs.Draw.{drawn}
 use Rattle.scheme.specs.Rows.{garbledRows, inputMasks, outputMasks}
+use Rattle.meter.specs.Meter.{raised}
 use Rattle.pads.specs.Pad.{shakePad}
 use Rattle.round.specs.Externals.{ownInputs}
 use Rattle.round.specs.InputKeys.{inputKey}
@@ -50,12 +51,12 @@ module _ (file : List ℕ) (n K : ℕ) where
     pub resultsLong : length results ≡ n * length outputs
 
   -- what the round comes to: the number of the answer, the meter, and what each buffer holds in the end
-  pub record Rehearsed (contributions values : List ℕ) (meter : ℕ) (number raised : ℕ)
+  pub record Rehearsed (contributions values : List ℕ) (meter : ℕ) (number total : ℕ)
       (rows masks outs externals mine keys wkeys wexternals results figures : List ℕ) : Type 0 where
     -- "every call of the round in document 01 accepts"
     pub accepts : number ≡ 0
     -- the meter holds the rows of this circuit besides
-    pub counted : raised ≡ meter + rowsIn wires
+    pub counted : total ≡ raised meter (rowsIn wires)
     -- what garbling wrote, from what all parties drew
     pub rowsAre : rows ≡ garbledRows shakePad n K file wires (drawn n K wires contributions)
     pub masksAre : masks ≡ inputMasks wires (drawn n K wires contributions)

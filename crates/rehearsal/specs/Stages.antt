@@ -18,11 +18,11 @@ use Rattle.rehearsal.specs.Hosts.{ownChecks, gathered, keysByInput}
 -- garbling, then at each party the external values of its own inputs
 pub record Prepared (file : List ℕ) (wires : List Wire) (n K : ℕ) (contributions values : List ℕ) (meter : ℕ)
     (rows₀ inputs₀ outputs₀ externals₀ : List ℕ) (number : ℕ) (raised : ℕ) (rows inputs outputs externals : List ℕ) : Type 0 where
-  pub met : Says (andThen (garbleChecked shakePad file n K contributions rows₀ inputs₀ outputs₀ meter) (allOf n (ownChecks file n wires values inputs))) number
+  pub met : Says (andThen (garbleChecked file n K contributions rows₀ inputs₀ outputs₀ meter) (allOf n (ownChecks file n wires values inputs))) number
   pub rowsIs : rows ≡ garbleRows shakePad file n K contributions rows₀ inputs₀ outputs₀ meter
-  pub inputsIs : inputs ≡ garbleInputMasks shakePad file n K contributions rows₀ inputs₀ outputs₀ meter
-  pub outputsIs : outputs ≡ garbleOutputMasks shakePad file n K contributions rows₀ inputs₀ outputs₀ meter
-  pub meterIs : raised ≡ garbleMeter shakePad file n K contributions rows₀ inputs₀ outputs₀ meter
+  pub inputsIs : inputs ≡ garbleInputMasks file n K contributions rows₀ inputs₀ outputs₀ meter
+  pub outputsIs : outputs ≡ garbleOutputMasks file n K contributions rows₀ inputs₀ outputs₀ meter
+  pub meterIs : raised ≡ garbleMeter file n K contributions rows₀ inputs₀ outputs₀ meter
   pub externalsIs : externals ≡ gathered file n wires values inputs externals₀ n
 
 -- at each party its input keys, and all of them by input, then party

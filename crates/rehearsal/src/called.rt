@@ -39,11 +39,11 @@ pub fn garble(
     outputs: &mut [u8],
     meter: u32,
 ) -> Metered
-    ensures { λ r. ⌜ Says (garbleChecked shakePad (now (file .entry)) n k (now (contributions .entry)) (now (rows .entry)) (now (inputs .entry)) (now (outputs .entry)) meter) (r .number)
+    ensures { λ r. ⌜ Says (garbleChecked (now (file .entry)) n k (now (contributions .entry)) (now (rows .entry)) (now (inputs .entry)) (now (outputs .entry)) meter) (r .number)
         × (now (rows .exit) ≡ garbleRows shakePad (now (file .entry)) n k (now (contributions .entry)) (now (rows .entry)) (now (inputs .entry)) (now (outputs .entry)) meter)
-        × (now (inputs .exit) ≡ garbleInputMasks shakePad (now (file .entry)) n k (now (contributions .entry)) (now (rows .entry)) (now (inputs .entry)) (now (outputs .entry)) meter)
-        × (now (outputs .exit) ≡ garbleOutputMasks shakePad (now (file .entry)) n k (now (contributions .entry)) (now (rows .entry)) (now (inputs .entry)) (now (outputs .entry)) meter)
-        × (r .meter ≡ garbleMeter shakePad (now (file .entry)) n k (now (contributions .entry)) (now (rows .entry)) (now (inputs .entry)) (now (outputs .entry)) meter) ⌝ }
+        × (now (inputs .exit) ≡ garbleInputMasks (now (file .entry)) n k (now (contributions .entry)) (now (rows .entry)) (now (inputs .entry)) (now (outputs .entry)) meter)
+        × (now (outputs .exit) ≡ garbleOutputMasks (now (file .entry)) n k (now (contributions .entry)) (now (rows .entry)) (now (inputs .entry)) (now (outputs .entry)) meter)
+        × (r .meter ≡ garbleMeter (now (file .entry)) n k (now (contributions .entry)) (now (rows .entry)) (now (inputs .entry)) (now (outputs .entry)) meter) ⌝ }
 {
     let mut total = meter;
     let answer = lupiknam_garble(

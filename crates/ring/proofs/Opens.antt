@@ -10,10 +10,9 @@ use native.Mathlib.Omega.{arith}
 use borrow.Author.Tests.{lt-ltb}
 use lib.ListN.{length, getD, replicate, take}
 use lib.Seq.{length-take-le}
-use Rattle.lists.specs.Blocks.{blocks, nthPiece}
+use Rattle.lists.specs.Blocks.{nthPiece}
 use Rattle.lists.specs.First.{first}
 use Rattle.lists.proofs.Blocks.{length-blocks-same, part-blocks-same}
-use Rattle.residue.specs.Vector.{keyV}
 use Rattle.residue.proofs.Moduli.{isPrime→Prime}
 use Rattle.residue.proofs.Vectors.{keyV-length}
 use Rattle.checks.specs.declared.Answer.{Answer}
@@ -21,16 +20,15 @@ use Rattle.checks.specs.declared.Answer.the-variants.{Accepted, Refused}
 use Rattle.checks.specs.declared.Refusal.{Refusal}
 use Rattle.checks.specs.declared.Refusal.the-variants.{WrongInputKey, NoMultiplier}
 use Rattle.checks.specs.Combined.{followed, named}
-use Rattle.checks.specs.Checked.{Checked, Meets, andThen, afterwards, noneBad}
+use Rattle.checks.specs.Checked.{Checked, Meets, andThen, afterwards}
 use Rattle.checks.specs.Checked.Checked.{passed, refused}
-use Rattle.checks.proofs.Passed.{andThen-left, andThen-right, afterwards-passed, noneBad-passed}
-use Rattle.checks.proofs.Answers.{meets-noneBad, named-past, named-found, meets-passed, meets-next, meets-refused, afterwards-accepted, afterwards-refused}
+use Rattle.checks.proofs.Passed.{andThen-left, andThen-right, afterwards-passed}
+use Rattle.checks.proofs.Answers.{meets-noneBad, named-past, named-found, meets-next, meets-refused, afterwards-accepted, afterwards-refused}
 use Rattle.words.specs.declared.gate.Wire.{Wire}
 use Rattle.circuit.specs.declared.Circuit.{Circuit}
 use Rattle.circuit.specs.declared.Reading.{Reading}
 use Rattle.circuit.specs.Wires.{wireAt, modulusAt, inputsIn}
 use Rattle.circuit.specs.File.{readFile, Holds}
-use Rattle.circuit.specs.Accepted.{AcceptedCircuit}
 use Rattle.counts.specs.Counts.{rowsIn, recordKeysOf, Counts}
 use Rattle.pads.specs.Pad.{shakePad}
 use Rattle.search.specs.Search.{same}
@@ -40,16 +38,17 @@ use Rattle.scheme.specs.Opening.{wireKeys, wireExternals}
 use Rattle.scheme.proofs.Used.{used-modulus}
 use Rattle.scheme.proofs.Drawn.{offset-length, key-length}
 use Rattle.session.specs.Session.{fileChecked, sessionChecked, partyChecked, ownersChecked, lengthsChecked, valuesChecked}
-use Rattle.session.specs.Held.{wiresIn, outputsIn, Held}
+use Rattle.session.specs.Held.{wiresIn, Held}
 use Rattle.session.proofs.Sessions.{SessionFits, session-fits, party-below}
 use Rattle.session.proofs.Circuits.{held-of, made-is, inputs-made}
 use Rattle.round.specs.Bytes.{contributionsChecked, offsetsChecked, keysChecked, rowsChecked}
-use Rattle.round.specs.InputKeys.{inputKey}
-use Rattle.round.specs.Open.{inputKeyWrong, beforeOpening, gatesChecked, openChecked, openKeys, openExternals}
-use Rattle.exchange.specs.Keying.{keysOf, KeysFit}
+use Rattle.round.specs.InputKeys.{inputKey, inputKeysMade}
+use Rattle.round.specs.Open.{openLengths, openBytes, openLent, openParty, openAsked, inputKeyWrong, ownKeysChecked, gatesChecked, beforeOpening, openChecked, openKeys, openExternals}
+use Rattle.exchange.specs.Keying.{KeysFit}
 use Rattle.evaluation.specs.Given.{Given, Evaluated}
-use Rattle.ring.specs.Opened.{bytesChecked, sizesChecked, openLent, openParty, openAsked, otherKey, ownKeysChecked, fitsChecked, OpenSizes, Compared}
-use Rattle.exchange.proofs.TwoBuffers.{Six, six-alike, six-same, first-ext}
+use Rattle.ring.specs.Opened.{OpenSizes, Compared}
+use Rattle.exchange.proofs.TwoBuffers.{first-ext}
+use Rattle.exchange.proofs.Lent.{lent-is}
 use Rattle.exchange.proofs.KeyPlaces.{one-key}
 use Rattle.exchange.proofs.Ending.{stage-passed, stage-next, stage-refused, stage-followed, read-met, check-accepted, circuit-accepted}
 
@@ -58,11 +57,15 @@ use Rattle.exchange.proofs.Ending.{stage-passed, stage-next, stage-refused, sta
 pub bytes-met : (n K : ℕ) (wires : List Wire) (contribution externals keys rows : List ℕ) {values bytes offsets lent lines last third second first : Answer}
     → Meets (valuesChecked externals (modulusAt wires)) values → Meets (contributionsChecked 1 K wires contribution) bytes → Meets (offsetsChecked 1 K wires contribution) offsets
     → Meets (keysChecked n K wires keys) lent → Meets (rowsChecked n K wires rows) lines → last ≡ followed lent lines → third ≡ followed offsets last → second ≡ followed bytes third
-    → first ≡ followed values second → Meets (bytesChecked n K wires contribution externals keys rows) first
+    → first ≡ followed values second → Meets (openBytes n K wires contribution externals keys rows) first
 bytes-met n K wires contribution externals keys rows v b o k r e f g h =
     stage-followed v (stage-followed b (stage-followed o (stage-followed k r e) f) g) h
 
 -- ---- 14, and then those
+
+six-same : {a b c d m n x y z t u v : ℕ} → a ≡ x → b ≡ y → c ≡ z → d ≡ t → m ≡ u → n ≡ v
+    → _≡_ {A = List ℕ} (a ∷ b ∷ c ∷ d ∷ m ∷ n ∷ []) (x ∷ y ∷ z ∷ t ∷ u ∷ v ∷ [])
+six-same e f g h i j = rw (e, f, g, h, i, j)
 
 module _ {circuit : Circuit} (held : Held circuit) (n K : ℕ) (few : n ≤ 8) (most : K ≤ 128) (contribution externals keys rows : List ℕ) (wkeys wexternals : ℕ)
     {parties long size raw count : ℕ} (p : parties ≡ n) (l : long ≡ K) (s : Counts 429056 (contributionSize long (wiresIn circuit)) size)
@@ -75,12 +78,12 @@ module _ {circuit : Circuit} (held : Held circuit) (n K : ℕ) (few : n ≤ 8) (
   lent = length contribution ∷ length externals ∷ length keys ∷ length rows ∷ wkeys ∷ wexternals ∷ []
 
   abbrev rest : ℕ → ℕ → Checked
-  rest a b = bytesChecked a b (wiresIn circuit) contribution externals keys rows
+  rest a b = openBytes a b (wiresIn circuit) contribution externals keys rows
 
   wide : parties * long ≡ n * K
   wide = ap₂ (λ (a b : ℕ). a * b) p l
 
-  lengths-met : Meets (sizesChecked n K ws contribution externals keys rows wkeys wexternals) answer
+  lengths-met : Meets (openLengths n K ws contribution externals keys rows wkeys wexternals) answer
   lengths-met =
       subst (λ (w : List ℕ). Meets (lengthsChecked lent w) answer)
       (six-same (s .is ∙ ap (λ (k : ℕ). contributionSize k ws) l) (held .inputs) (ap₂ (λ (a b : ℕ). a * b) (held .inputs) wide)
@@ -88,16 +91,15 @@ module _ {circuit : Circuit} (held : Held circuit) (n K : ℕ) (few : n ≤ 8) (
 
   pub open-sizes : answer ≡ Accepted → OpenSizes circuit parties long contribution externals keys rows
   open-sizes e =
-      let same = six-alike (length contribution) (length externals) (length keys) (length rows) wkeys wexternals size (circuit .inputs) (circuit .inputs * (parties * long))
-      (count * (parties * long)) (circuit .made * (parties * long)) (circuit .made) (stage-passed m e) in
+      let same = lent-is _ _ (stage-passed m e) in
       record {
         held = held;
         parties = omega arith;
         most = omega arith;
-        contributionLength = same .one ∙ s .is;
-        externalsLength = same .two ∙ held .inputs;
-        keysLength = same .three ∙ ap (λ (a : ℕ). a * (parties * long)) (held .inputs);
-        rowsLength = same .four ∙ ap (λ (a : ℕ). a * (parties * long)) (d ∙ c .is);
+        contributionLength = same 0 ∙ s .is;
+        externalsLength = same 1 ∙ held .inputs;
+        keysLength = same 2 ∙ ap (λ (a : ℕ). a * (parties * long)) (held .inputs);
+        rowsLength = same 3 ∙ ap (λ (a : ℕ). a * (parties * long)) (d ∙ c .is);
       }
 
   pub lent-next : answer ≡ Accepted → {r : Answer} → Meets (rest parties long) r → Meets (openLent n K (wiresIn circuit) contribution externals keys rows wkeys wexternals) r
@@ -188,7 +190,7 @@ module _ {file : List ℕ} {circuit : Circuit} {n K party : ℕ} {contribution e
       ∙ omega arith
 
   -- the party's own keys, made
-  pub own-compared : {own : List ℕ} → own ≡ keysOf K (wiresIn circuit) contribution externals → Compared n K party (circuit .inputs) keys own
+  pub own-compared : {own : List ℕ} → own ≡ inputKeysMade K (wiresIn circuit) contribution externals → Compared n K party (circuit .inputs) keys own
   own-compared e =
       record {
         seated = g .seated;
@@ -202,20 +204,20 @@ module _ {file : List ℕ} {circuit : Circuit} {n K party : ℕ} {contribution e
   pub work-cut : (work : List ℕ) → length work ≡ 131072 → length (take (circuit .inputs * K) work) ≡ circuit .inputs * K
   work-cut work e = length-take-le (circuit .inputs * K) work (omega (arith, own-room))
 
-  pub wrong-is : {own : List ℕ} {r : ℕ} → own ≡ keysOf K (wiresIn circuit) contribution externals
+  pub wrong-is : {own : List ℕ} {r : ℕ} → own ≡ inputKeysMade K (wiresIn circuit) contribution externals
       → r ≡ first (circuit .inputs) (λ w. not (same (nthPiece keys K (w * n + party)) (nthPiece own K w)))
-      → r ≡ first (inputsIn (wiresIn circuit)) (otherKey n K (wiresIn circuit) contribution externals keys rows party)
+      → r ≡ first (inputsIn (wiresIn circuit)) (inputKeyWrong n K party (wiresIn circuit) contribution externals keys)
   wrong-is {own} {r} e f =
       f
       ∙ ap (λ (i : ℕ). first i (λ w. not (same (nthPiece keys K (w * n + party)) (nthPiece own K w)))) count
-      ∙ first-ext (inputsIn wires) (λ w. not (same (nthPiece keys K (w * n + party)) (nthPiece own K w))) (otherKey n K wires contribution externals keys rows party)
+      ∙ first-ext (inputsIn wires) (λ w. not (same (nthPiece keys K (w * n + party)) (nthPiece own K w))) (inputKeyWrong n K party wires contribution externals keys)
       (λ w l. ap (λ (x : List ℕ). not (same (nthPiece keys K (w * n + party)) x))
       (ap (λ (x : List ℕ). nthPiece x K w) e ∙ part-blocks-same (inputsIn wires) K keyOf own-length w l))
 
   -- ---- 20
 
   abbrev fate : Checked
-  fate = fitsChecked n K (wiresIn circuit) contribution externals keys rows party
+  fate = gatesChecked shakePad n K party (wiresIn circuit) (drawn 1 K (wiresIn circuit) contribution) externals keys rows
 
   abbrev newKeys : List ℕ
   newKeys = wireKeys shakePad n K party (wiresIn circuit) (drawn 1 K (wiresIn circuit) contribution) externals keys rows
@@ -250,19 +252,19 @@ module _ {file : List ℕ} {circuit : Circuit} {n K party : ℕ} {contribution e
   -- ---- 19, and then 20
 
   abbrev own : Checked
-  own = ownKeysChecked n K (wiresIn circuit) contribution externals keys rows party
+  own = ownKeysChecked n K party (wiresIn circuit) contribution externals keys
 
   abbrev Ends : List ℕ → List ℕ → Answer → List ℕ → List ℕ → Type 0
   Ends wkeys₀ wexternals₀ answer wkeys wexternals =
       Meets (andThen own fate) answer × (wkeys ≡ afterwards own (afterwards fate newKeys (replicate (length wkeys₀) 0)) wkeys₀)
       × (wexternals ≡ afterwards own (afterwards fate newExternals (replicate (length wexternals₀) 0)) wexternals₀)
 
-  module _ (wkeys₀ wexternals₀ : List ℕ) {r : ℕ} {answer : Answer} (f : r ≡ first (inputsIn (wiresIn circuit)) (otherKey n K (wiresIn circuit) contribution externals keys rows party))
+  module _ (wkeys₀ wexternals₀ : List ℕ) {r : ℕ} {answer : Answer} (f : r ≡ first (inputsIn (wiresIn circuit)) (inputKeyWrong n K party (wiresIn circuit) contribution externals keys))
       (e : answer ≡ named (circuit .inputs) r WrongInputKey) where
     own-met : Meets own answer
     own-met =
         subst (Meets own) (sym (e ∙ ap₂ (λ (a b : ℕ). named a b WrongInputKey) count f))
-        (meets-noneBad (inputsIn wires) (otherKey n K wires contribution externals keys rows party) WrongInputKey)
+        (meets-noneBad (inputsIn wires) (inputKeyWrong n K party wires contribution externals keys) WrongInputKey)
 
     pub own-next : {wkeys wexternals : List ℕ} {z : Answer} → answer ≡ Accepted
         → Meets fate z × (wkeys ≡ afterwards fate newKeys (replicate (length wkeys₀) 0)) × (wexternals ≡ afterwards fate newExternals (replicate (length wexternals₀) 0))
@@ -278,14 +280,10 @@ module _ {file : List ℕ} {circuit : Circuit} {n K party : ℕ} {contribution e
 
 -- ---- the whole call
 
-pub andThen-assoc : (a b c : Checked) → andThen (andThen a b) c ≡ andThen a (andThen b c)
+andThen-assoc : (a b c : Checked) → andThen (andThen a b) c ≡ andThen a (andThen b c)
 unfolding andThen
 andThen-assoc passed b c = refl
 andThen-assoc (refused reason place) b c = refl
-
--- one check more at the end of a chain
-under : (a b c : Checked) {d : Checked} → andThen b c ≡ d → andThen (andThen a b) c ≡ andThen a d
-under a b c e = andThen-assoc a b c ∙ ap (andThen a) e
 
 after-both : (a b : Checked) (new old : List ℕ) → a ≡ passed → afterwards (andThen a b) new old ≡ afterwards b new old
 unfolding andThen
@@ -307,29 +305,15 @@ module _ {reading : Reading} (file : List ℕ) (n K party : ℕ) (contribution e
   earlier = andThen (fileChecked file) (openAsked n K read contribution externals keys rows party (length wkeys) (length wexternals))
 
   abbrev ownKeys : Checked
-  ownKeys = ownKeysChecked n K read contribution externals keys rows party
+  ownKeys = ownKeysChecked n K party read contribution externals keys
 
   abbrev gates : Checked
-  gates = fitsChecked n K read contribution externals keys rows party
+  gates = gatesChecked shakePad n K party read (drawn 1 K read contribution) externals keys rows
 
   earlier-met : Meets earlier answer
   earlier-met =
       read-met file h check joined
       (subst (λ (w : List Wire). Meets (openAsked n K w contribution externals keys rows party (length wkeys) (length wexternals)) check) (h .wires) checked)
-
-  before-is : andThen earlier ownKeys ≡ beforeOpening shakePad file n K party contribution externals keys rows wkeys wexternals
-  unfolding beforeOpening inputKeyWrong
-  before-is =
-      under (fileChecked file) (openAsked n K read contribution externals keys rows party (length wkeys) (length wexternals)) ownKeys
-      (under (sessionChecked n K) (openParty n K read contribution externals keys rows party (length wkeys) (length wexternals)) ownKeys
-      (under (partyChecked n party) (andThen (ownersChecked n read) (openLent n K read contribution externals keys rows (length wkeys) (length wexternals))) ownKeys
-      (under (ownersChecked n read) (openLent n K read contribution externals keys rows (length wkeys) (length wexternals)) ownKeys
-      (under (sizesChecked n K read contribution externals keys rows (length wkeys) (length wexternals)) (bytesChecked n K read contribution externals keys rows) ownKeys
-      (under (valuesChecked externals (modulusAt read))
-      (andThen (contributionsChecked 1 K read contribution) (andThen (offsetsChecked 1 K read contribution) (andThen (keysChecked n K read keys) (rowsChecked n K read rows)))) ownKeys
-      (under (contributionsChecked 1 K read contribution) (andThen (offsetsChecked 1 K read contribution) (andThen (keysChecked n K read keys) (rowsChecked n K read rows))) ownKeys
-      (under (offsetsChecked 1 K read contribution) (andThen (keysChecked n K read keys) (rowsChecked n K read rows)) ownKeys
-      (andThen-assoc (keysChecked n K read keys) (rowsChecked n K read rows) ownKeys))))))))
 
   abbrev Opens : Answer → List ℕ → List ℕ → Type 0
   Opens a wkeys′ wexternals′ =
@@ -348,12 +332,8 @@ module _ {reading : Reading} (file : List ℕ) (n K party : ℕ) (contribution e
   -- the call's ends, by the checks as they were made
   ends : {a : Answer} {wkeys′ wexternals′ : List ℕ} → Meets (andThen (andThen earlier ownKeys) gates) a → wkeys′ ≡ afterwards (andThen earlier ownKeys) zeroKeys wkeys
       → wexternals′ ≡ afterwards (andThen earlier ownKeys) zeroExternals wexternals → Opens a wkeys′ wexternals′
-  unfolding openChecked openKeys openExternals gatesChecked
-  ends {a} {wkeys′} {wexternals′} m k x = (
-    subst (λ (b : Checked). Meets (andThen b gates) a) before-is m,
-    k ∙ ap (λ (b : Checked). afterwards b zeroKeys wkeys) before-is,
-    x ∙ ap (λ (b : Checked). afterwards b zeroExternals wexternals) before-is,
-  )
+  unfolding openChecked openKeys openExternals beforeOpening
+  ends m k x = (m, k, x)
 
   pub open-refused : {reason : Refusal} {place : ℕ} → answer ≡ Refused reason place → Opens (Refused reason place) wkeys wexternals
   open-refused {reason} {place} e =
@@ -362,10 +342,10 @@ module _ {reading : Reading} (file : List ℕ) (n K party : ℕ) (contribution e
 
   module _ (e : answer ≡ Accepted) {parties long seat : ℕ} (p : parties ≡ n) (l : long ≡ K) (t : seat ≡ party) where
     abbrev bytes : Checked
-    bytes = bytesChecked n K here contribution externals keys rows
+    bytes = openBytes n K here contribution externals keys rows
 
     abbrev lengths : Checked
-    lengths = sizesChecked n K here contribution externals keys rows (length wkeys) (length wexternals)
+    lengths = openLengths n K here contribution externals keys rows (length wkeys) (length wexternals)
 
     abbrev asked : Checked
     asked = openParty n K here contribution externals keys rows party (length wkeys) (length wexternals)
@@ -384,10 +364,8 @@ module _ {reading : Reading} (file : List ℕ) (n K party : ℕ) (contribution e
         andThen-right (ownersChecked n here) (andThen lengths bytes)
         (andThen-right (partyChecked n party) (andThen (ownersChecked n here) (andThen lengths bytes)) (andThen-right (sessionChecked n K) asked all))
 
-    sizes : Six (length contribution) (length externals) (length keys) (length rows) (length wkeys) (length wexternals) (contributionSize K here) (inputsIn here) (inputsIn here * (n * K)) (rowsIn here * (n * K)) (length here * (n * K)) (length here)
-    sizes =
-        six-alike (length contribution) (length externals) (length keys) (length rows) (length wkeys) (length wexternals) (contributionSize K here) (inputsIn here) (inputsIn here * (n * K))
-        (rowsIn here * (n * K)) (length here * (n * K)) (length here) (andThen-left lengths bytes lentPassed)
+    sizes : lengths ≡ passed
+    sizes = andThen-left lengths bytes lentPassed
 
     -- 16 on, 17 on, 18 on
     abbrev lines : Checked
@@ -413,10 +391,10 @@ module _ {reading : Reading} (file : List ℕ) (n K party : ℕ) (contribution e
           accepted = circuit-accepted file h check joined e;
           sizes = record { some = fits .parties .least; parties = fits .parties .most; long = fits .least; short = fits .most };
           seated = seated;
-          ownSize = sizes .one;
-          externalsSize = sizes .two;
-          keysSize = sizes .three;
-          rowsSize = sizes .four;
+          ownSize = lent-is _ _ sizes 0;
+          externalsSize = lent-is _ _ sizes 1;
+          keysSize = lent-is _ _ sizes 2;
+          rowsSize = lent-is _ _ sizes 3;
           externalsBelow = andThen-left (valuesChecked externals (modulusAt here)) (andThen (contributionsChecked 1 K here contribution) offsets) contents;
           contributionBelow = andThen-left (contributionsChecked 1 K here contribution) offsets contributed;
           keysBelow = andThen-left (keysChecked n K here keys) (rowsChecked n K here rows) lined;
@@ -431,18 +409,18 @@ module _ {reading : Reading} (file : List ℕ) (n K party : ℕ) (contribution e
 
     pub open-room : (length wkeys ≡ reading .circuit .made * (parties * long)) × (length wexternals ≡ reading .circuit .made)
     open-room =
-        (sizes .five ∙ ap₂ (λ (a b : ℕ). a * b) (made-is (held-of h)) (ap₂ (λ (a b : ℕ). a * b) (sym p) (sym l)), sizes .six ∙ made-is (held-of h))
+        (lent-is _ _ sizes 4 ∙ ap₂ (λ (a b : ℕ). a * b) (made-is (held-of h)) (ap₂ (λ (a b : ℕ). a * b) (sym p) (sym l)), lent-is _ _ sizes 5 ∙ made-is (held-of h))
 
     -- what opening the rows gave, on the circuit of the code
     abbrev Came : ℕ → ℕ → ℕ → List Wire → Answer → List ℕ → List ℕ → Type 0
     Came a b c w z wkeys′ wexternals′ =
-        Meets (andThen (ownKeysChecked a b w contribution externals keys rows c) (fitsChecked a b w contribution externals keys rows c)) z
+        Meets (andThen (ownKeysChecked a b c w contribution externals keys) (gatesChecked shakePad a b c w (drawn 1 b w contribution) externals keys rows)) z
         × (wkeys′
-        ≡ afterwards (ownKeysChecked a b w contribution externals keys rows c)
-        (afterwards (fitsChecked a b w contribution externals keys rows c) (wireKeys shakePad a b c w (drawn 1 b w contribution) externals keys rows) (replicate (length wkeys) 0)) wkeys)
+        ≡ afterwards (ownKeysChecked a b c w contribution externals keys)
+        (afterwards (gatesChecked shakePad a b c w (drawn 1 b w contribution) externals keys rows) (wireKeys shakePad a b c w (drawn 1 b w contribution) externals keys rows) (replicate (length wkeys) 0)) wkeys)
         × (wexternals′
-        ≡ afterwards (ownKeysChecked a b w contribution externals keys rows c)
-        (afterwards (fitsChecked a b w contribution externals keys rows c) (wireExternals shakePad a b c w (drawn 1 b w contribution) externals keys rows) (replicate (length wexternals) 0)) wexternals)
+        ≡ afterwards (ownKeysChecked a b c w contribution externals keys)
+        (afterwards (gatesChecked shakePad a b c w (drawn 1 b w contribution) externals keys rows) (wireExternals shakePad a b c w (drawn 1 b w contribution) externals keys rows) (replicate (length wexternals) 0)) wexternals)
 
     pub open-done : {z : Answer} {wkeys′ wexternals′ : List ℕ} → Came parties long seat (wiresIn (reading .circuit)) z wkeys′ wexternals′ → Opens z wkeys′ wexternals′
     open-done {z} {wkeys′} {wexternals′} came =

@@ -1,3 +1,3 @@
--- The stages of the checks of garbling and opening, on a circuit of the code.
+-- What the checks of garbling and opening rest on, on a circuit of the code.
 pub mod Garbled
 pub mod Opened

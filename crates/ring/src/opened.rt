@@ -13,9 +13,9 @@ ghost use Rattle.session.specs.Held.{wiresIn, outputsIn, Held};
 ghost use Rattle.pads.specs.Pad.{shakePad};
 ghost use Rattle.scheme.specs.Draw.{drawn};
 ghost use Rattle.scheme.specs.Opening.{wireKeys, wireExternals};
-ghost use Rattle.round.specs.Open.{openChecked, openKeys, openExternals};
+ghost use Rattle.round.specs.Open.{openBytes, openLent, openParty, openAsked, inputKeyWrong, ownKeysChecked, gatesChecked, openChecked, openKeys, openExternals};
 ghost use Rattle.evaluation.specs.Given.{Given};
-ghost use Rattle.ring.specs.Opened.{bytesChecked, openLent, openParty, openAsked, otherKey, ownKeysChecked, fitsChecked, OpenSizes, Compared};
+ghost use Rattle.ring.specs.Opened.{OpenSizes, Compared};
 use checks::Answer;
 use checks::Refusal;
 use checks::followed;
@@ -30,8 +30,8 @@ use contribution::offsets_checked;
 use contribution::rows_checked;
 use evaluation::evaluate;
 use exchange::counted;
+use exchange::length_checked;
 use exchange::put_keys;
-use exchange::six_lengths_checked;
 use lists::nth_piece;
 use search::same_bytes;
 use session::owners_checked;
@@ -50,7 +50,7 @@ fn bytes_checked(
     rows: &[u8],
 ) -> Answer
     requires { ⌜ OpenSizes circuit n k (now contribution) (now externals) (now keys) (now rows) ⌝ }
-    ensures { λ r. ⌜ Meets (bytesChecked n k (wiresIn circuit) (now (contribution .entry)) (now (externals .entry)) (now (keys .entry)) (now (rows .entry))) r ⌝ }
+    ensures { λ r. ⌜ Meets (openBytes n k (wiresIn circuit) (now (contribution .entry)) (now (externals .entry)) (now (keys .entry)) (now (rows .entry))) r ⌝ }
 {
     let values = values_checked(circuit, externals);
     let bytes = contributions_checked(circuit, 1, k, contribution);
@@ -86,20 +86,13 @@ fn open_lent(
     let first = inputs * width;
     let bytes = count * width;
     let all = made * width;
-    let lengths = six_lengths_checked(
-        contribution.len(),
-        externals.len(),
-        keys.len(),
-        rows.len(),
-        wkeys,
-        wexternals,
-        size,
-        inputs,
-        first,
-        bytes,
-        all,
-        made,
-    );
+    let own = length_checked(contribution.len(), size);
+    let values = length_checked(externals.len(), inputs);
+    let lent = length_checked(keys.len(), first);
+    let lines = length_checked(rows.len(), bytes);
+    let opened = length_checked(wkeys, all);
+    let last = followed(opened, length_checked(wexternals, made));
+    let lengths = followed(own, followed(values, followed(lent, followed(lines, last))));
     match lengths {
         Answer::Accepted => bytes_checked(
             circuit,
@@ -215,7 +208,7 @@ fn first_unlike(
 ) -> usize
     requires { ⌜ Given (now file) circuit n k party (now contribution) (now externals) (now keys) (now rows) ⌝ }
     requires { ⌜ length (now own) ≡ circuit .inputs * k ⌝ }
-    ensures { λ r. ⌜ r ≡ first (inputsIn (wiresIn circuit)) (otherKey n k (wiresIn circuit) (now (contribution .entry)) (now (externals .entry)) (now (keys .entry)) (now (rows .entry)) party) ⌝ }
+    ensures { λ r. ⌜ r ≡ first (inputsIn (wiresIn circuit)) (inputKeyWrong n k party (wiresIn circuit) (now (contribution .entry)) (now (externals .entry)) (now (keys .entry))) ⌝ }
 {
     let inputs = circuit.inputs;
     put_keys(circuit, k, contribution, externals, &mut *own);
@@ -237,7 +230,7 @@ fn first_wrong_in(
 ) -> usize
     requires { ⌜ Given (now file) circuit n k party (now contribution) (now externals) (now keys) (now rows) ⌝ }
     requires { ⌜ length (now work) ≡ 131072 ⌝ }
-    ensures { λ r. ⌜ r ≡ first (inputsIn (wiresIn circuit)) (otherKey n k (wiresIn circuit) (now (contribution .entry)) (now (externals .entry)) (now (keys .entry)) (now (rows .entry)) party) ⌝ }
+    ensures { λ r. ⌜ r ≡ first (inputsIn (wiresIn circuit)) (inputKeyWrong n k party (wiresIn circuit) (now (contribution .entry)) (now (externals .entry)) (now (keys .entry))) ⌝ }
 {
     let bytes = circuit.inputs * k;
     first_unlike(
@@ -267,7 +260,7 @@ fn first_wrong(
     rows: &[u8],
 ) -> usize
     requires { ⌜ Given (now file) circuit n k party (now contribution) (now externals) (now keys) (now rows) ⌝ }
-    ensures { λ r. ⌜ r ≡ first (inputsIn (wiresIn circuit)) (otherKey n k (wiresIn circuit) (now (contribution .entry)) (now (externals .entry)) (now (keys .entry)) (now (rows .entry)) party) ⌝ }
+    ensures { λ r. ⌜ r ≡ first (inputsIn (wiresIn circuit)) (inputKeyWrong n k party (wiresIn circuit) (now (contribution .entry)) (now (externals .entry)) (now (keys .entry))) ⌝ }
 {
     let mut work = no_keys();
     first_wrong_in(
@@ -300,9 +293,9 @@ fn open_gates(
 ) -> Answer
     requires { ⌜ Given (now file) circuit n k party (now contribution) (now externals) (now keys) (now rows) ⌝ }
     requires { ⌜ (length (now wkeys) ≡ circuit .made * (n * k)) × (length (now wexternals) ≡ circuit .made) ⌝ }
-    ensures { λ r. ⌜ Meets (fitsChecked n k (wiresIn circuit) (now (contribution .entry)) (now (externals .entry)) (now (keys .entry)) (now (rows .entry)) party) r
-        × (now (wkeys .exit) ≡ afterwards (fitsChecked n k (wiresIn circuit) (now (contribution .entry)) (now (externals .entry)) (now (keys .entry)) (now (rows .entry)) party) (wireKeys shakePad n k party (wiresIn circuit) (drawn 1 k (wiresIn circuit) (now (contribution .entry))) (now (externals .entry)) (now (keys .entry)) (now (rows .entry))) (replicate (length (now (wkeys .entry))) 0))
-        × (now (wexternals .exit) ≡ afterwards (fitsChecked n k (wiresIn circuit) (now (contribution .entry)) (now (externals .entry)) (now (keys .entry)) (now (rows .entry)) party) (wireExternals shakePad n k party (wiresIn circuit) (drawn 1 k (wiresIn circuit) (now (contribution .entry))) (now (externals .entry)) (now (keys .entry)) (now (rows .entry))) (replicate (length (now (wexternals .entry))) 0)) ⌝ }
+    ensures { λ r. ⌜ Meets (gatesChecked shakePad n k party (wiresIn circuit) (drawn 1 k (wiresIn circuit) (now (contribution .entry))) (now (externals .entry)) (now (keys .entry)) (now (rows .entry))) r
+        × (now (wkeys .exit) ≡ afterwards (gatesChecked shakePad n k party (wiresIn circuit) (drawn 1 k (wiresIn circuit) (now (contribution .entry))) (now (externals .entry)) (now (keys .entry)) (now (rows .entry))) (wireKeys shakePad n k party (wiresIn circuit) (drawn 1 k (wiresIn circuit) (now (contribution .entry))) (now (externals .entry)) (now (keys .entry)) (now (rows .entry))) (replicate (length (now (wkeys .entry))) 0))
+        × (now (wexternals .exit) ≡ afterwards (gatesChecked shakePad n k party (wiresIn circuit) (drawn 1 k (wiresIn circuit) (now (contribution .entry))) (now (externals .entry)) (now (keys .entry)) (now (rows .entry))) (wireExternals shakePad n k party (wiresIn circuit) (drawn 1 k (wiresIn circuit) (now (contribution .entry))) (now (externals .entry)) (now (keys .entry)) (now (rows .entry))) (replicate (length (now (wexternals .entry))) 0)) ⌝ }
 {
     let made = circuit.made;
     let found = evaluate(
@@ -337,9 +330,9 @@ fn open_inputs(
 ) -> Answer
     requires { ⌜ Given (now file) circuit n k party (now contribution) (now externals) (now keys) (now rows) ⌝ }
     requires { ⌜ (length (now wkeys) ≡ circuit .made * (n * k)) × (length (now wexternals) ≡ circuit .made) ⌝ }
-    ensures { λ r. ⌜ Meets (andThen (ownKeysChecked n k (wiresIn circuit) (now (contribution .entry)) (now (externals .entry)) (now (keys .entry)) (now (rows .entry)) party) (fitsChecked n k (wiresIn circuit) (now (contribution .entry)) (now (externals .entry)) (now (keys .entry)) (now (rows .entry)) party)) r
-        × (now (wkeys .exit) ≡ afterwards (ownKeysChecked n k (wiresIn circuit) (now (contribution .entry)) (now (externals .entry)) (now (keys .entry)) (now (rows .entry)) party) (afterwards (fitsChecked n k (wiresIn circuit) (now (contribution .entry)) (now (externals .entry)) (now (keys .entry)) (now (rows .entry)) party) (wireKeys shakePad n k party (wiresIn circuit) (drawn 1 k (wiresIn circuit) (now (contribution .entry))) (now (externals .entry)) (now (keys .entry)) (now (rows .entry))) (replicate (length (now (wkeys .entry))) 0)) (now (wkeys .entry)))
-        × (now (wexternals .exit) ≡ afterwards (ownKeysChecked n k (wiresIn circuit) (now (contribution .entry)) (now (externals .entry)) (now (keys .entry)) (now (rows .entry)) party) (afterwards (fitsChecked n k (wiresIn circuit) (now (contribution .entry)) (now (externals .entry)) (now (keys .entry)) (now (rows .entry)) party) (wireExternals shakePad n k party (wiresIn circuit) (drawn 1 k (wiresIn circuit) (now (contribution .entry))) (now (externals .entry)) (now (keys .entry)) (now (rows .entry))) (replicate (length (now (wexternals .entry))) 0)) (now (wexternals .entry))) ⌝ }
+    ensures { λ r. ⌜ Meets (andThen (ownKeysChecked n k party (wiresIn circuit) (now (contribution .entry)) (now (externals .entry)) (now (keys .entry))) (gatesChecked shakePad n k party (wiresIn circuit) (drawn 1 k (wiresIn circuit) (now (contribution .entry))) (now (externals .entry)) (now (keys .entry)) (now (rows .entry)))) r
+        × (now (wkeys .exit) ≡ afterwards (ownKeysChecked n k party (wiresIn circuit) (now (contribution .entry)) (now (externals .entry)) (now (keys .entry))) (afterwards (gatesChecked shakePad n k party (wiresIn circuit) (drawn 1 k (wiresIn circuit) (now (contribution .entry))) (now (externals .entry)) (now (keys .entry)) (now (rows .entry))) (wireKeys shakePad n k party (wiresIn circuit) (drawn 1 k (wiresIn circuit) (now (contribution .entry))) (now (externals .entry)) (now (keys .entry)) (now (rows .entry))) (replicate (length (now (wkeys .entry))) 0)) (now (wkeys .entry)))
+        × (now (wexternals .exit) ≡ afterwards (ownKeysChecked n k party (wiresIn circuit) (now (contribution .entry)) (now (externals .entry)) (now (keys .entry))) (afterwards (gatesChecked shakePad n k party (wiresIn circuit) (drawn 1 k (wiresIn circuit) (now (contribution .entry))) (now (externals .entry)) (now (keys .entry)) (now (rows .entry))) (wireExternals shakePad n k party (wiresIn circuit) (drawn 1 k (wiresIn circuit) (now (contribution .entry))) (now (externals .entry)) (now (keys .entry)) (now (rows .entry))) (replicate (length (now (wexternals .entry))) 0)) (now (wexternals .entry))) ⌝ }
 {
     let inputs = circuit.inputs;
     let found = first_wrong(

@@ -3,7 +3,7 @@
 -- Assumes nothing.
 use mathlib.Core.Path.{_≡_, refl, sym, ap, ap₂, subst, _∙_}
 use mathlib.Core.List.{List, [], _∷_}
-use Prim.Native.Nat.{ℕ, zero, suc, _+_, _*_, _≤_, _<_}
+use Prim.Native.Nat.{ℕ, zero, suc, _*_, _<_}
 use native.Mathlib.Omega.{arith}
 use lib.ListN.{length, getD, length-replicate}
 use Rattle.lists.specs.Blocks.{blocks, part, sumTo}
@@ -24,7 +24,7 @@ use Rattle.scheme.specs.Contribution.{offsetAt, contributionSize, contributionM
 use Rattle.pads.specs.Pad.{shakePad}
 use Rattle.plain.specs.Plain.{plainBy, plainTo, plainValues, plainOutputs}
 use Rattle.round.specs.Bytes.{allZero, bytesChecked, contributionsChecked, zeroOffset, offsetsChecked}
-use Rattle.round.specs.Garble.{meterLimit}
+use Rattle.meter.specs.Meter.{HasSpace}
 use Rattle.round.specs.Round.{ownerAt, figures}
 use Rattle.round.specs.Claim.{LengthsRight, Conditions, Promise}
 use Rattle.round.specs.Example.{fileOf, file, wires, outputs, contributions, values, lent}
@@ -79,7 +79,7 @@ values-size : length values ≡ inputsIn wires
 unfolding values wires inputsIn
 values-size = refl
 
-space : 0 + rowsIn wires ≤ meterLimit
+space : HasSpace 0 (rowsIn wires)
 unfolding wires sumTo
 space = omega arith
 
@@ -108,7 +108,7 @@ conditions =
       lengths =
           as-read (λ ws. LengthsRight 2 1 ws (readFile file .outputs) lent)
           (subst (λ (outs : List ℕ). LengthsRight 2 1 wires outs lent) (sym outputs-read) lengths);
-      space = as-read (λ ws. 0 + rowsIn ws ≤ meterLimit) space;
+      space = as-read (λ ws. HasSpace 0 (rowsIn ws)) space;
     }
 
 promise : Promise shakePad file 2 1 contributions values 0 lent

@@ -34,7 +34,7 @@ module _ {pad : Pad} {file : List ℕ} {n K : ℕ} {contributions values : List 
   pub garbles : garbling pad file n K contributions values meter lent ≡ passed
   unfolding garbling
   garbles =
-      garble-passed pad file n K contributions (lent .rows) (lent .inputMasks) (lent .outputMasks) meter
+      garble-passed file n K contributions (lent .rows) (lent .inputMasks) (lent .outputMasks) meter
       (record {
         read = start .conditions .accepted;
         session = session-fits start;

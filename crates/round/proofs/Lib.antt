@@ -11,6 +11,7 @@ pub mod ExternalsPass
 pub mod FromContributions
 pub mod Garbled
 pub mod GarblingPasses
+pub mod Metered
 pub mod InputKeysPass
 pub mod Inputs
 pub mod Keys

@@ -16,7 +16,6 @@ use Rattle.circuit.specs.File.{readFile}
 use Rattle.counts.specs.Counts.{rowsIn}
 use Rattle.scheme.specs.Contribution.{contributionSize}
 use Rattle.scheme.specs.Draw.{drawn}
-use Rattle.pads.specs.Pad.{Pad}
 use Rattle.scheme.proofs.Contributed.{Contributed}
 use Rattle.search.specs.Search.{same}
 use Rattle.search.proofs.Same.{same-refl}
@@ -46,13 +45,14 @@ pub record OpeningFits (file : List ℕ) (n K party : ℕ) (contribution externa
   pub ownKey : (w : ℕ) → w < inputsIn (readFile file .wires)
       → nthPiece keys K (w * n + party) ≡ inputKey (readFile file .wires) (drawn 1 K (readFile file .wires) contribution) externals w
 
-pub opening-passed : (pad : Pad) {file : List ℕ} {n K party : ℕ} {contribution externals keys rows wkeys wexternals : List ℕ}
+pub opening-passed : {file : List ℕ} {n K party : ℕ} {contribution externals keys rows wkeys wexternals : List ℕ}
     → OpeningFits file n K party contribution externals keys rows wkeys wexternals
-    → beforeOpening pad file n K party contribution externals keys rows wkeys wexternals ≡ passed
-unfolding beforeOpening inputKeyWrong
-opening-passed pad {file} {n} {K} {party} {contribution} {externals} {keys} {rows} {wkeys} {wexternals} r =
+    → beforeOpening file n K party contribution externals keys rows wkeys wexternals ≡ passed
+unfolding beforeOpening
+opening-passed {file} {n} {K} {party} {contribution} {externals} {keys} {rows} {wkeys} {wexternals} r =
     let wires : List Wire = readFile file .wires in
-    andThen-passed (file-passed file (r .read))
+    andThen-passed
+    (andThen-passed (file-passed file (r .read))
     (andThen-passed (session-passed (r .session))
     (andThen-passed (party-passed (r .takesPart))
     (andThen-passed (owners-passed (r .owners))
@@ -62,7 +62,7 @@ opening-passed pad {file} {n} {K} {party} {contribution} {externals} {keys} {row
     (andThen-passed (contributions-passed 1 K wires contribution (r .contributed))
     (andThen-passed (r .offsets)
     (andThen-passed (r .keysBelow)
-    (andThen-passed (r .rowsBelow)
-    (noneBad-passed (inputsIn wires) (inputKeyWrong pad file n K party contribution externals keys rows wkeys wexternals) WrongInputKey
+    (r .rowsBelow))))))))))
+    (noneBad-passed (inputsIn wires) (inputKeyWrong n K party wires contribution externals keys) WrongInputKey
     (λ w h. ap not (ap (λ (l : List ℕ). same l (inputKey wires (drawn 1 K wires contribution) externals w)) (r .ownKey w h)
-    ∙ same-refl (inputKey wires (drawn 1 K wires contribution) externals w)))))))))))))
+    ∙ same-refl (inputKey wires (drawn 1 K wires contribution) externals w))))

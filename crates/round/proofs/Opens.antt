@@ -129,9 +129,9 @@ module _ {pad : Pad} {file : List ℕ} {n K : ℕ} {contributions values : List 
 
     -- ---- the checks
 
-    before : beforeOpening pad file n K party (contribution party) inputs inputKeys garbled (lent .wireKeys party) (lent .wireExternals party) ≡ passed
+    before : beforeOpening file n K party (contribution party) inputs inputKeys garbled (lent .wireKeys party) (lent .wireExternals party) ≡ passed
     before =
-        opening-passed pad
+        opening-passed
         (record {
           read = start .conditions .accepted;
           session = session-fits start;
@@ -151,8 +151,7 @@ module _ {pad : Pad} {file : List ℕ} {n K : ℕ} {contributions values : List 
           ownKey = λ w l. key-among start party w h l;
         })
 
-    gates : gatesChecked pad file n K party (contribution party) inputs inputKeys garbled (lent .wireKeys party) (lent .wireExternals party) ≡ passed
-    unfolding gatesChecked
+    gates : gatesChecked pad n K party wires (own party) inputs inputKeys garbled ≡ passed
     gates = noneBad-passed (length wires) _ NoMultiplier (λ w made. ap not (rightly w made .fits))
 
     pub opens : opening pad file n K contributions values meter lent party ≡ passed

@@ -3,7 +3,7 @@
 -- Assumes nothing.
 use mathlib.Core.Path.{_≡_}
 use mathlib.Core.List.{List}
-use Prim.Native.Nat.{ℕ, _+_, _*_, _≤_, _<_}
+use Prim.Native.Nat.{ℕ, _*_, _≤_, _<_}
 use lib.ListN.{length, getD}
 use Rattle.lists.specs.Blocks.{nthPiece}
 use Rattle.residue.specs.Residue.{add}
@@ -20,7 +20,7 @@ use Rattle.scheme.specs.Zero.{zeroKey, mask}
 use Rattle.pads.specs.Pad.{Pad}
 use Rattle.plain.specs.Plain.{plainValues, plainOutputs}
 use Rattle.round.specs.Bytes.{contributionsChecked, offsetsChecked}
-use Rattle.round.specs.Garble.{meterLimit}
+use Rattle.meter.specs.Meter.{HasSpace}
 use Rattle.round.specs.Round as round
 use Rattle.round.specs.Round.{Lent, ownerAt, contributionOf}
 
@@ -62,7 +62,7 @@ module _ (file : List ℕ) (n K : ℕ) (contributions values : List ℕ) where
     -- "the lent lengths [are] right"
     pub lengths : LengthsRight n K wires outputs lent
     -- "the row meter [has] space"
-    pub space : meter + rowsIn wires ≤ meterLimit
+    pub space : HasSpace meter (rowsIn wires)
 
   -- wire w's value, "being the plain circuit's", and its mask, of what all parties drew
   abbrev pub valueOf : ℕ → ℕ

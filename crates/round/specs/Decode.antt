@@ -1,6 +1,6 @@
 -- The call for decoding: e − m modulo the wire's prime for each output, from external values of all wires and output masks (no n, K or party).
 -- Assumes nothing.
-use mathlib.Core.Bool.{Bool, _&&_, _||_}
+use mathlib.Core.Bool.{_&&_, _||_}
 use lib.Dec.{ltb}
 use mathlib.Core.List.{List, [], _∷_}
 use Prim.Native.Nat.{ℕ, max}
@@ -14,6 +14,28 @@ use Rattle.circuit.specs.Wires.{modulusAt}
 use Rattle.circuit.specs.File.{readFile}
 use Rattle.session.specs.Session.{fileChecked, lengthsChecked, tooLarge}
 
+-- on the wires and outputs of a circuit
+module _ (wires : List Wire) (outputs externals masks : List ℕ) where
+  abbrev outputModulus : ℕ → ℕ
+  outputModulus i = modulusAt wires (getD outputs i 0)
+
+  -- 15 over two buffers: the lowest index over both, each counted from its own start
+  abbrev pub decodeBytes : Checked
+  decodeBytes =
+      noneBad (max (length wires) (length outputs))
+      (λ i. (ltb i (length wires) && tooLarge externals (modulusAt wires) i) || (ltb i (length outputs) && tooLarge masks outputModulus i))
+      ValueTooLarge
+
+  -- 14, where so many bytes are lent for the results, then 15
+  abbrev pub decodeLent : ℕ → Checked
+  decodeLent results =
+      andThen (lengthsChecked (length externals ∷ length masks ∷ results ∷ []) (length wires ∷ length outputs ∷ length outputs ∷ [])) decodeBytes
+
+  -- e − m for each output
+  abbrev pub decodeMade : List ℕ
+  decodeMade = tab (length outputs) (λ i. sub (outputModulus i) (getD externals (getD outputs i 0) 0) (getD masks i 0))
+
+-- the call: the file first
 module _ (file : List ℕ) (externals masks results : List ℕ) where
   abbrev wires : List Wire
   wires = readFile file .wires
@@ -21,23 +43,8 @@ module _ (file : List ℕ) (externals masks results : List ℕ) where
   abbrev outputs : List ℕ
   outputs = readFile file .outputs
 
-  abbrev outputModulus : ℕ → ℕ
-  outputModulus i = modulusAt wires (getD outputs i 0)
-
-  -- 15 over two buffers: the lowest index over both, each counted from its own start
-  abbrev valueBad : ℕ → Bool
-  valueBad i =
-      (ltb i (length wires) && tooLarge externals (modulusAt wires) i)
-      || (ltb i (length outputs) && tooLarge masks outputModulus i)
-
   unfoldable pub decodeChecked : Checked
-  decodeChecked =
-      andThen (fileChecked file)
-      (andThen
-      (lengthsChecked (length externals ∷ length masks ∷ length results ∷ []) (length wires ∷ length outputs ∷ length outputs ∷ []))
-      (noneBad (max (length wires) (length outputs)) valueBad ValueTooLarge))
+  decodeChecked = andThen (fileChecked file) (decodeLent wires outputs externals masks (length results))
 
   unfoldable pub decodeAfter : List ℕ
-  decodeAfter =
-      afterwards decodeChecked
-      (tab (length outputs) (λ i. sub (outputModulus i) (getD externals (getD outputs i 0) 0) (getD masks i 0))) results
+  decodeAfter = afterwards decodeChecked (decodeMade wires outputs externals masks) results

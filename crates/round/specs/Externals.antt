@@ -1,8 +1,8 @@
 -- The call for the external values of a party's own inputs, from their values and masks, a byte each per own input (n and party given, no K).
 -- Assumes nothing.
-use mathlib.Core.Bool.{Bool, true, false, _||_, cond}
-use mathlib.Core.List.{List, [], _∷_, _++_}
-use Prim.Native.Nat.{ℕ, zero, suc}
+use mathlib.Core.Bool.{_||_, cond}
+use mathlib.Core.List.{List, [], _∷_}
+use Prim.Native.Nat.{ℕ}
 use lib.ListN.{length, getD}
 use Rattle.lists.specs.Blocks.{blocks, tab}
 use Rattle.residue.specs.Residue.{add}
@@ -18,10 +18,8 @@ use Rattle.session.specs.Session.{fileChecked, partiesChecked, partyChecked, ow
 unfoldable pub ownInputs : ℕ → List Wire → List ℕ
 ownInputs party wires = blocks (length wires) (λ w. cond (ownedBy party (wireAt wires w .gate)) (w ∷ []) [])
 
-module _ (file : List ℕ) (n party : ℕ) (values masks externals : List ℕ) where
-  abbrev wires : List Wire
-  wires = readFile file .wires
-
+-- on the wires of a circuit
+module _ (party : ℕ) (wires : List Wire) (values masks : List ℕ) where
   abbrev own : List ℕ
   own = ownInputs party wires
 
@@ -29,17 +27,30 @@ module _ (file : List ℕ) (n party : ℕ) (values masks externals : List ℕ) w
   ownModulus i = modulusAt wires (getD own i 0)
 
   -- 15 over two buffers: the lowest index over both
-  unfoldable pub externalsChecked : Checked
-  externalsChecked =
-      andThen (fileChecked file)
-      (andThen (partiesChecked n)
-      (andThen (partyChecked n party)
-      (andThen (ownersChecked n wires)
-      (andThen
-      (lengthsChecked (length values ∷ length masks ∷ length externals ∷ []) (length own ∷ length own ∷ length own ∷ []))
-      (noneBad (length own) (λ i. tooLarge values ownModulus i || tooLarge masks ownModulus i) ValueTooLarge)))))
+  abbrev pub externalsBytes : Checked
+  externalsBytes = noneBad (length own) (λ i. tooLarge values ownModulus i || tooLarge masks ownModulus i) ValueTooLarge
+
+  -- 14, where so many bytes are lent for the external values, then 15
+  abbrev pub externalsLent : ℕ → Checked
+  externalsLent externals =
+      andThen (lengthsChecked (length values ∷ length masks ∷ externals ∷ []) (length own ∷ length own ∷ length own ∷ [])) externalsBytes
+
+  -- 11, 12 and 13, with n parties, then those
+  abbrev pub externalsAsked : ℕ → ℕ → Checked
+  externalsAsked n externals =
+      andThen (partiesChecked n) (andThen (partyChecked n party) (andThen (ownersChecked n wires) (externalsLent externals)))
 
   -- e = (v + m) mod p
+  abbrev pub externalsMade : List ℕ
+  externalsMade = tab (length own) (λ i. add (ownModulus i) (getD values i 0) (getD masks i 0))
+
+-- the call: the file first
+module _ (file : List ℕ) (n party : ℕ) (values masks externals : List ℕ) where
+  abbrev wires : List Wire
+  wires = readFile file .wires
+
+  unfoldable pub externalsChecked : Checked
+  externalsChecked = andThen (fileChecked file) (externalsAsked party wires values masks n (length externals))
+
   unfoldable pub externalsAfter : List ℕ
-  externalsAfter =
-      afterwards externalsChecked (tab (length own) (λ i. add (ownModulus i) (getD values i 0) (getD masks i 0))) externals
+  externalsAfter = afterwards externalsChecked (externalsMade party wires values masks) externals

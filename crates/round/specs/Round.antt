@@ -71,16 +71,16 @@ module _ (pad : Pad) (file : List ℕ) (n K : ℕ) (contributions values : List 
 
   -- garbling, from all contributions
   unfoldable pub garbling : Checked
-  garbling = garbleChecked pad file n K contributions (lent .rows) (lent .inputMasks) (lent .outputMasks) meter
+  garbling = garbleChecked file n K contributions (lent .rows) (lent .inputMasks) (lent .outputMasks) meter
 
   unfoldable pub rows : List ℕ
   rows = garbleRows pad file n K contributions (lent .rows) (lent .inputMasks) (lent .outputMasks) meter
 
   unfoldable pub inputMasks : List ℕ
-  inputMasks = garbleInputMasks pad file n K contributions (lent .rows) (lent .inputMasks) (lent .outputMasks) meter
+  inputMasks = garbleInputMasks file n K contributions (lent .rows) (lent .inputMasks) (lent .outputMasks) meter
 
   unfoldable pub outputMasks : List ℕ
-  outputMasks = garbleOutputMasks pad file n K contributions (lent .rows) (lent .inputMasks) (lent .outputMasks) meter
+  outputMasks = garbleOutputMasks file n K contributions (lent .rows) (lent .inputMasks) (lent .outputMasks) meter
 
   -- at each party, the external values of its own inputs, with the masks garbling wrote for them
   unfoldable pub externalValues : ℕ → Checked

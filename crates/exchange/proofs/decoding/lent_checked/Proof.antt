@@ -1,5 +1,6 @@
 -- `exchange::lent_checked` meets its contract: a wrong length, or what the check of the bytes answers. Assumes nothing.
 use borrow.Author.Needs.{needs}
+use Rattle.exchange.proofs.Lent.{lengths-met}
 use Rattle.exchange.proofs.Decodes.{lent-masked, lent-next, lent-refused}
 use Rattle.exchange.proofs.decoding.lent_checked.Statement.{statement}
 use Rattle.exchange.proofs.decoding.lent_checked.Tie as tie
@@ -8,9 +9,13 @@ pub lent-checked-spec : {M : Type 1} → statement M
 lent-checked-spec =
     tie.close
     (tie.spec
-    (λ c κs. search needs)
+    (λ c κs. tt)
+    (λ c κs. tt)
+    (λ c κs. tt)
+    (λ c κs. tt)
+    (λ c κs. tt)
     (λ c. search needs)
-    (λ c κs. lent-masked (c .before .before .before .before .before .pre) (c .before .before .before .before .before .args .externals .now) (c .before .before .before .before .before .args .masks .now) (c .before .before .before .before .before .args .bytes) (c .before .before .lengths-checked .ensures) (c .enum-told .given .1))
+    (λ c κs. lent-masked (c .before .before .before .before .before .before .before .before .before .pre) (c .before .before .before .before .before .before .before .before .before .args .externals .now) (c .before .before .before .before .before .before .before .before .before .args .masks .now) (c .before .before .before .before .before .before .before .before .before .args .bytes) (lengths-met _ _ _ _ (c .before .before .before .before .before .before .length-checked .ensures) (lengths-met _ _ _ _ (c .before .before .before .before .before .length-checked2 .ensures) (c .before .before .before .before .length-checked3 .ensures) (c .before .before .before .followed .ensures)) (c .before .before .followed2 .ensures)) (c .enum-told .given .1))
     (λ c. search needs)
-    (λ c. lent-next (c .before .before .before .before .before .before .pre) (c .before .before .before .before .before .before .args .externals .now) (c .before .before .before .before .before .before .args .masks .now) (c .before .before .before .before .before .before .args .bytes) (c .before .before .before .lengths-checked .ensures) (c .before .enum-told .given .1) (c .masks-checked .ensures))
-    (λ c. lent-refused (c .before .before .before .before .before .before .pre) (c .before .before .before .before .before .before .args .externals .now) (c .before .before .before .before .before .before .args .masks .now) (c .before .before .before .before .before .before .args .bytes) (c .before .before .before .lengths-checked .ensures) (c .before .lengths .given .1)))
+    (λ c. lent-next (c .before .before .before .before .before .before .before .before .before .before .pre) (c .before .before .before .before .before .before .before .before .before .before .args .externals .now) (c .before .before .before .before .before .before .before .before .before .before .args .masks .now) (c .before .before .before .before .before .before .before .before .before .before .args .bytes) (lengths-met _ _ _ _ (c .before .before .before .before .before .before .before .length-checked .ensures) (lengths-met _ _ _ _ (c .before .before .before .before .before .before .length-checked2 .ensures) (c .before .before .before .before .before .length-checked3 .ensures) (c .before .before .before .before .followed .ensures)) (c .before .before .before .followed2 .ensures)) (c .before .enum-told .given .1) (c .masks-checked .ensures))
+    (λ c. lent-refused (c .before .before .before .before .before .before .before .before .before .before .pre) (c .before .before .before .before .before .before .before .before .before .before .args .externals .now) (c .before .before .before .before .before .before .before .before .before .before .args .masks .now) (c .before .before .before .before .before .before .before .before .before .before .args .bytes) (lengths-met _ _ _ _ (c .before .before .before .before .before .before .before .length-checked .ensures) (lengths-met _ _ _ _ (c .before .before .before .before .before .before .length-checked2 .ensures) (c .before .before .before .before .before .length-checked3 .ensures) (c .before .before .before .before .followed .ensures)) (c .before .before .before .followed2 .ensures)) (c .before .lengths .given .1)))

@@ -4,13 +4,13 @@ use Prim.Native.Nat.{_-_}
 use native.Mathlib.Omega.{arith}
 use Rattle.lists.proofs.Filled.{Filled}
 use Rattle.session.specs.Held.{wiresIn, outputsIn}
-use Rattle.exchange.specs.Decoding.{decoded}
+use Rattle.round.specs.Decode.{decodeMade}
 use Rattle.exchange.proofs.Decodes.{decode-start, decode-held, decode-operands, decode-step, decode-done}
 use Rattle.exchange.proofs.decoding.put_decoded.Statement.{statement}
 use Rattle.exchange.proofs.decoding.put_decoded.Tie as tie
 
 abbrev Inv-loop : tie.InvT-loop
-Inv-loop externals masks results₀ circuit table given i₀ results i = Filled results₀ i (circuit .given) (decoded (wiresIn circuit) (outputsIn circuit) externals masks) results
+Inv-loop externals masks results₀ circuit table given i₀ results i = Filled results₀ i (circuit .given) (decodeMade (wiresIn circuit) (outputsIn circuit) externals masks) results
 
 abbrev μ-loop : tie.MeasureT-loop
 μ-loop externals masks results₀ circuit table given i₀ results i = circuit .given - i

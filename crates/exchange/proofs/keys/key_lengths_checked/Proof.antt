@@ -2,6 +2,7 @@
 use native.Mathlib.Omega.{arith}
 use borrow.Author.Needs.{needs}
 use Rattle.session.proofs.Circuits.{inputs-made}
+use Rattle.exchange.proofs.Lent.{lengths-met}
 use Rattle.exchange.proofs.KeyPlaces.{small-product, keys-lent, keys-next, keys-stop}
 use Rattle.exchange.proofs.keys.key_lengths_checked.Statement.{statement}
 use Rattle.exchange.proofs.keys.key_lengths_checked.Tie as tie
@@ -12,9 +13,13 @@ key-lengths-checked-spec =
     (tie.spec
     (λ c κs. (c .before .before .pre .0 .room, c .before .before .pre .1))
     (λ c. omega (arith, small-product {a = c .before .before .before .args .circuit .inputs} {b = c .before .before .before .args .k} {m = 1024} {n = 128} (omega (arith, inputs-made (c .before .before .before .pre .0), c .before .before .before .pre .0 .room .made)) (c .before .before .before .pre .1)))
-    (λ c κs. search needs)
+    (λ c κs. tt)
+    (λ c κs. tt)
+    (λ c κs. tt)
+    (λ c κs. tt)
+    (λ c κs. tt)
     (λ c. search needs)
-    (λ c κs. keys-lent (c .before .before .before .before .before .before .pre .0) (c .before .before .before .before .before .before .pre .1) (c .before .before .before .before .before .before .args .contribution .now) (c .before .before .before .before .before .before .args .externals .now) (c .before .before .before .before .before .before .args .bytes) (c .before .before .before .contribution-size .ensures) (c .before .before .lengths-checked .ensures) (c .enum-told .given .1))
+    (λ c κs. keys-lent (c .before .before .before .before .before .before .before .before .before .before .pre .0) (c .before .before .before .before .before .before .before .before .before .before .pre .1) (c .before .before .before .before .before .before .before .before .before .before .args .contribution .now) (c .before .before .before .before .before .before .before .before .before .before .args .externals .now) (c .before .before .before .before .before .before .before .before .before .before .args .bytes) (c .before .before .before .before .before .before .before .contribution-size .ensures) (lengths-met _ _ _ _ (c .before .before .before .before .before .before .length-checked .ensures) (lengths-met _ _ _ _ (c .before .before .before .before .before .length-checked2 .ensures) (c .before .before .before .before .length-checked3 .ensures) (c .before .before .before .followed .ensures)) (c .before .before .followed2 .ensures)) (c .enum-told .given .1))
     (λ c. search needs)
-    (λ c. keys-next (c .before .before .before .before .before .before .before .pre .0) (c .before .before .before .before .before .before .before .pre .1) (c .before .before .before .before .before .before .before .args .contribution .now) (c .before .before .before .before .before .before .before .args .externals .now) (c .before .before .before .before .before .before .before .args .bytes) (c .before .before .before .before .contribution-size .ensures) (c .before .before .before .lengths-checked .ensures) (c .before .enum-told .given .1) (c .contents-checked .ensures))
-    (λ c. keys-stop (c .before .before .before .before .before .before .before .pre .0) (c .before .before .before .before .before .before .before .pre .1) (c .before .before .before .before .before .before .before .args .contribution .now) (c .before .before .before .before .before .before .before .args .externals .now) (c .before .before .before .before .before .before .before .args .bytes) (c .before .before .before .before .contribution-size .ensures) (c .before .before .before .lengths-checked .ensures) (c .before .lengths .given .1)))
+    (λ c. keys-next (c .before .before .before .before .before .before .before .before .before .before .before .pre .0) (c .before .before .before .before .before .before .before .before .before .before .before .pre .1) (c .before .before .before .before .before .before .before .before .before .before .before .args .contribution .now) (c .before .before .before .before .before .before .before .before .before .before .before .args .externals .now) (c .before .before .before .before .before .before .before .before .before .before .before .args .bytes) (c .before .before .before .before .before .before .before .before .contribution-size .ensures) (lengths-met _ _ _ _ (c .before .before .before .before .before .before .before .length-checked .ensures) (lengths-met _ _ _ _ (c .before .before .before .before .before .before .length-checked2 .ensures) (c .before .before .before .before .before .length-checked3 .ensures) (c .before .before .before .before .followed .ensures)) (c .before .before .before .followed2 .ensures)) (c .before .enum-told .given .1) (c .contents-checked .ensures))
+    (λ c. keys-stop (c .before .before .before .before .before .before .before .before .before .before .before .pre .0) (c .before .before .before .before .before .before .before .before .before .before .before .pre .1) (c .before .before .before .before .before .before .before .before .before .before .before .args .contribution .now) (c .before .before .before .before .before .before .before .before .before .before .before .args .externals .now) (c .before .before .before .before .before .before .before .before .before .before .before .args .bytes) (c .before .before .before .before .before .before .before .before .contribution-size .ensures) (lengths-met _ _ _ _ (c .before .before .before .before .before .before .before .length-checked .ensures) (lengths-met _ _ _ _ (c .before .before .before .before .before .before .length-checked2 .ensures) (c .before .before .before .before .before .length-checked3 .ensures) (c .before .before .before .before .followed .ensures)) (c .before .before .before .followed2 .ensures)) (c .before .lengths .given .1)))

@@ -1,5 +1,6 @@
 -- `exchange::given_checked` meets its contract: a wrong length, or what the check of the bytes answers. Assumes nothing.
 use borrow.Author.Needs.{needs}
+use Rattle.exchange.proofs.Lent.{lengths-met}
 use Rattle.exchange.proofs.OwnExternals.{own-lent, own-next, own-refused}
 use Rattle.exchange.proofs.masking.given_checked.Statement.{statement}
 use Rattle.exchange.proofs.masking.given_checked.Tie as tie
@@ -10,9 +11,13 @@ given-checked-spec =
     (tie.spec
     (λ c κs. search needs)
     (λ c κs. search needs)
-    (λ c κs. search needs)
+    (λ c κs. tt)
+    (λ c κs. tt)
+    (λ c κs. tt)
+    (λ c κs. tt)
+    (λ c κs. tt)
     (λ c. search needs)
-    (λ c κs. own-lent (c .before .before .before .before .before .before .before .pre) (c .before .before .before .before .before .before .before .args .party) (c .before .before .before .before .before .before .before .args .values .now) (c .before .before .before .before .before .before .before .args .masks .now) (c .before .before .before .before .before .before .before .args .bytes) (c .before .before .before .before .inputs-of .ensures) (c .before .before .before .counted .ensures) (c .before .before .lengths-checked .ensures) (c .enum-told .given .1))
+    (λ c κs. own-lent (c .before .before .before .before .before .before .before .before .before .before .before .pre) (c .before .before .before .before .before .before .before .before .before .before .before .args .party) (c .before .before .before .before .before .before .before .before .before .before .before .args .values .now) (c .before .before .before .before .before .before .before .before .before .before .before .args .masks .now) (c .before .before .before .before .before .before .before .before .before .before .before .args .bytes) (c .before .before .before .before .before .before .before .before .inputs-of .ensures) (c .before .before .before .before .before .before .before .counted .ensures) (lengths-met _ _ _ _ (c .before .before .before .before .before .before .length-checked .ensures) (lengths-met _ _ _ _ (c .before .before .before .before .before .length-checked2 .ensures) (c .before .before .before .before .length-checked3 .ensures) (c .before .before .before .followed .ensures)) (c .before .before .followed2 .ensures)) (c .enum-told .given .1))
     (λ c. search needs)
-    (λ c. own-next (c .before .before .before .before .before .before .before .before .pre) (c .before .before .before .before .before .before .before .before .args .party) (c .before .before .before .before .before .before .before .before .args .values .now) (c .before .before .before .before .before .before .before .before .args .masks .now) (c .before .before .before .before .before .before .before .before .args .bytes) (c .before .before .before .before .before .inputs-of .ensures) (c .before .before .before .before .counted .ensures) (c .before .before .before .lengths-checked .ensures) (c .before .enum-told .given .1) (c .own-checked .ensures))
-    (λ c. own-refused (c .before .before .before .before .before .before .before .before .pre) (c .before .before .before .before .before .before .before .before .args .party) (c .before .before .before .before .before .before .before .before .args .values .now) (c .before .before .before .before .before .before .before .before .args .masks .now) (c .before .before .before .before .before .before .before .before .args .bytes) (c .before .before .before .before .before .inputs-of .ensures) (c .before .before .before .before .counted .ensures) (c .before .before .before .lengths-checked .ensures) (c .before .lengths .given .1)))
+    (λ c. own-next (c .before .before .before .before .before .before .before .before .before .before .before .before .pre) (c .before .before .before .before .before .before .before .before .before .before .before .before .args .party) (c .before .before .before .before .before .before .before .before .before .before .before .before .args .values .now) (c .before .before .before .before .before .before .before .before .before .before .before .before .args .masks .now) (c .before .before .before .before .before .before .before .before .before .before .before .before .args .bytes) (c .before .before .before .before .before .before .before .before .before .inputs-of .ensures) (c .before .before .before .before .before .before .before .before .counted .ensures) (lengths-met _ _ _ _ (c .before .before .before .before .before .before .before .length-checked .ensures) (lengths-met _ _ _ _ (c .before .before .before .before .before .before .length-checked2 .ensures) (c .before .before .before .before .before .length-checked3 .ensures) (c .before .before .before .before .followed .ensures)) (c .before .before .before .followed2 .ensures)) (c .before .enum-told .given .1) (c .own-checked .ensures))
+    (λ c. own-refused (c .before .before .before .before .before .before .before .before .before .before .before .before .pre) (c .before .before .before .before .before .before .before .before .before .before .before .before .args .party) (c .before .before .before .before .before .before .before .before .before .before .before .before .args .values .now) (c .before .before .before .before .before .before .before .before .before .before .before .before .args .masks .now) (c .before .before .before .before .before .before .before .before .before .before .before .before .args .bytes) (c .before .before .before .before .before .before .before .before .before .inputs-of .ensures) (c .before .before .before .before .before .before .before .before .counted .ensures) (lengths-met _ _ _ _ (c .before .before .before .before .before .before .before .length-checked .ensures) (lengths-met _ _ _ _ (c .before .before .before .before .before .before .length-checked2 .ensures) (c .before .before .before .before .before .length-checked3 .ensures) (c .before .before .before .before .followed .ensures)) (c .before .before .before .followed2 .ensures)) (c .before .lengths .given .1)))

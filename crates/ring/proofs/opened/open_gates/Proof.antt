@@ -4,21 +4,12 @@ use borrow.Author.Needs.{needs}
 use Rattle.ring.proofs.opened.open_gates.Statement.{statement}
 use Rattle.ring.proofs.opened.open_gates.Tie as tie
 
-evaluate-requires : tie.Need-evaluate-requires
-evaluate-requires c κs = c .before .before .before .before .before .before .before .before .before .pre
-
-named-requires : tie.Need-named-requires
-named-requires c κs = tt
-
-same-length : tie.Need-same-length
-same-length c = search needs
-
-same-length-2 : tie.Need-same-length-2
-same-length-2 c = search needs
-
-returns : tie.Need-returns
-returns c = gates-met (c .before .before .before .before .before .before .before .before .before .before .before .before .before .before .before .pre .0) (c .before .before .before .before .before .evaluate .ensures) (c .named .ensures)
-
 pub open-gates-spec : {M : Type 1} → statement M
 open-gates-spec =
-    tie.close (tie.spec evaluate-requires named-requires same-length same-length-2 returns)
+    tie.close
+    (tie.spec
+    (λ c κs. c .before .before .before .before .before .before .before .before .before .pre)
+    (λ c κs. tt)
+    (λ c. search needs)
+    (λ c. search needs)
+    (λ c. gates-met (c .before .before .before .before .before .before .before .before .before .before .before .before .before .before .before .pre .0) (c .before .before .before .before .before .evaluate .ensures) (c .named .ensures)))

@@ -4,31 +4,13 @@ use Rattle.ring.proofs.Opens.{party-followed}
 use Rattle.ring.proofs.opened.open_party.Statement.{statement}
 use Rattle.ring.proofs.opened.open_party.Tie as tie
 
-open-lent-requires : tie.Need-open-lent-requires
-open-lent-requires c κs = c .before .before .before .before .pre
-
-owners-checked-requires : tie.Need-owners-checked-requires
-owners-checked-requires c κs = c .before .before .before .before .before .pre .0 .room
-
-followed-requires : tie.Need-followed-requires
-followed-requires c κs = tt
-
-party-checked-requires : tie.Need-party-checked-requires
-party-checked-requires c κs = tt
-
-followed-requires-2 : tie.Need-followed-requires-2
-followed-requires-2 c κs = tt
-
-returns : tie.Need-returns
-returns c = party-followed (c .before .before .before .before .before .before .before .before .before .args .n) (c .before .before .before .before .before .before .before .before .before .args .k) (wiresIn (c .before .before .before .before .before .before .before .before .before .args .circuit)) (c .before .before .before .before .before .before .before .before .before .args .contribution .now) (c .before .before .before .before .before .before .before .before .before .args .externals .now) (c .before .before .before .before .before .before .before .before .before .args .keys .now) (c .before .before .before .before .before .before .before .before .before .args .rows .now) (c .before .before .before .before .before .before .before .before .before .args .party) (c .before .before .before .before .before .before .before .before .before .args .wkeys) (c .before .before .before .before .before .before .before .before .before .args .wexternals) (c .before .before .before .before .open-lent .ensures) (c .before .before .before .owners-checked .ensures) (c .before .before .followed .ensures) (c .before .party-checked .ensures) (c .followed2 .ensures)
-
 pub open-party-spec : {M : Type 1} → statement M
 open-party-spec =
     tie.close
     (tie.spec
-    open-lent-requires
-    owners-checked-requires
-    followed-requires
-    party-checked-requires
-    followed-requires-2
-    returns)
+    (λ c κs. c .before .before .before .before .pre)
+    (λ c κs. c .before .before .before .before .before .pre .0 .room)
+    (λ c κs. tt)
+    (λ c κs. tt)
+    (λ c κs. tt)
+    (λ c. party-followed (c .before .before .before .before .before .before .before .before .before .args .n) (c .before .before .before .before .before .before .before .before .before .args .k) (wiresIn (c .before .before .before .before .before .before .before .before .before .args .circuit)) (c .before .before .before .before .before .before .before .before .before .args .contribution .now) (c .before .before .before .before .before .before .before .before .before .args .externals .now) (c .before .before .before .before .before .before .before .before .before .args .keys .now) (c .before .before .before .before .before .before .before .before .before .args .rows .now) (c .before .before .before .before .before .before .before .before .before .args .party) (c .before .before .before .before .before .before .before .before .before .args .wkeys) (c .before .before .before .before .before .before .before .before .before .args .wexternals) (c .before .before .before .before .open-lent .ensures) (c .before .before .before .owners-checked .ensures) (c .before .before .followed .ensures) (c .before .party-checked .ensures) (c .followed2 .ensures)))

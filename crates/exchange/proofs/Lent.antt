@@ -1,0 +1,50 @@
+-- 14, one length after another: how to check several lent lengths.
+--
+-- Where the code says `followed(length_checked(a, x), followed(length_checked(b, y), length_checked(c, z)))`, the answer meets
+-- `lengthsChecked (a ∷ b ∷ c ∷ []) (x ∷ y ∷ z ∷ [])` by `lengths-met (lengths-met last)`, each with what its call ensures.
+-- Assumes nothing.
+use mathlib.Core.Path.{_≡_, refl, ap}
+use mathlib.Core.Bool.{Bool, true, false, _&&_}
+use mathlib.Core.List.{List, [], _∷_}
+use Prim.Native.Nat.{ℕ}
+use borrow.Author.Tests.{eq-eqb, ne-eqb}
+use lib.Dec.{eqb}
+use lib.ListN.{getD}
+use Rattle.checks.specs.declared.Answer.{Answer}
+use Rattle.checks.specs.declared.Answer.the-variants.{Accepted, Refused}
+use Rattle.checks.specs.declared.Refusal.the-variants.{WrongLength}
+use Rattle.checks.specs.Combined.{followed}
+use Rattle.checks.specs.Checked.{Meets, unless, andThen}
+use Rattle.checks.specs.Checked.Checked.{passed}
+use Rattle.checks.proofs.Answers.{unless-met, unless-named, meets-andThen}
+use Rattle.session.specs.Session.{sameNumbers, lengthsChecked}
+use Rattle.session.proofs.Sessions.{lengths-same}
+
+-- one length
+module _ (lent wanted : ℕ) where
+  pub length-met : lent ≡ wanted → Meets (lengthsChecked (lent ∷ []) (wanted ∷ [])) Accepted
+  unfolding lengthsChecked sameNumbers
+  length-met e = unless-met WrongLength 0 (rw (eq-eqb lent wanted e))
+
+  pub length-wrong : (lent ≡ wanted → ⊥) → Meets (lengthsChecked (lent ∷ []) (wanted ∷ [])) (Refused WrongLength 0)
+  unfolding lengthsChecked sameNumbers
+  length-wrong n = unless-named WrongLength 0 (rw (ne-eqb lent wanted n))
+
+-- two tests, one refusal
+two-tests : (a b : Bool) → unless (a && b) WrongLength 0 ≡ andThen (unless (a && true) WrongLength 0) (unless b WrongLength 0)
+unfolding unless andThen
+two-tests true b = refl
+two-tests false b = refl
+
+-- the first length, and then the others
+module _ (x y : ℕ) (xs ys : List ℕ) where
+  pub lengths-cons : lengthsChecked (x ∷ xs) (y ∷ ys) ≡ andThen (lengthsChecked (x ∷ []) (y ∷ [])) (lengthsChecked xs ys)
+  unfolding lengthsChecked sameNumbers
+  lengths-cons = two-tests (eqb x y) (sameNumbers xs ys)
+
+  pub lengths-met : {first next answer : Answer} → Meets (lengthsChecked (x ∷ []) (y ∷ [])) first → Meets (lengthsChecked xs ys) next → answer ≡ followed first next → Meets (lengthsChecked (x ∷ xs) (y ∷ ys)) answer
+  lengths-met m n e = rw (e, lengths-cons) (meets-andThen m (λ _. n))
+
+-- where they pass, each length is the one wanted
+pub lent-is : (lent wanted : List ℕ) → lengthsChecked lent wanted ≡ passed → (i : ℕ) → getD lent i 0 ≡ getD wanted i 0
+lent-is lent wanted e i = ap (λ (l : List ℕ). getD l i 0) (lengths-same lent wanted e)

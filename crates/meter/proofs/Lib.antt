@@ -1,0 +1,2 @@
+-- Laws of the row meter.
+pub mod Totals

@@ -1,0 +1,2 @@
+-- The row meter.
+pub mod Meter
