@@ -25,9 +25,9 @@ use Rattle.words.specs.declared.gate.Wire.{Wire}
 use Rattle.circuit.specs.declared.Circuit.{Circuit}
 use Rattle.circuit.specs.declared.Reading.{Reading}
 use Rattle.circuit.specs.Wires.{modulusAt, moduliOf}
-use Rattle.circuit.specs.File.{readFile, Holds}
+use Rattle.circuit.specs.File.{readFile}
+use Rattle.circuit.specs.Held.{wiresIn, outputsIn, Held, Holds}
 use Rattle.session.specs.Session.{lengthsChecked, tooLarge}
-use Rattle.session.specs.Held.{wiresIn, outputsIn, Held}
 use Rattle.session.proofs.Circuits.{held-of, made-is, given-is}
 use Rattle.round.specs.Decode.{decodeBytes, decodeLent, decodeMade, decodeChecked, decodeAfter}
 use Rattle.exchange.specs.Tables.{Front}

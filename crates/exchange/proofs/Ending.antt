@@ -14,11 +14,11 @@ use Rattle.checks.specs.Checked.Checked.{passed}
 use Rattle.checks.proofs.Answers.{meets-answered, meets-andThen, meets-refused, meets-next, meets-accepted, afterwards-accepted, afterwards-refused}
 use Rattle.words.specs.declared.gate.Wire.{Wire}
 use Rattle.circuit.specs.declared.Reading.{Reading}
-use Rattle.circuit.specs.File.{readFile, Holds}
+use Rattle.circuit.specs.File.{readFile}
 use Rattle.circuit.specs.Accepted.{AcceptedCircuit}
+use Rattle.circuit.specs.Held.{wiresIn, outputsIn, Holds}
 use Rattle.circuit.proofs.Accepted.{accepted}
 use Rattle.session.specs.Session.{fileChecked}
-use Rattle.session.specs.Held.{wiresIn, outputsIn}
 
 -- ---- one stage of checks, and then the next
 

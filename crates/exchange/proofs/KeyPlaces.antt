@@ -27,8 +27,9 @@ use Rattle.words.specs.declared.gate.Wire.{Wire}
 use Rattle.circuit.specs.declared.Circuit.{Circuit}
 use Rattle.circuit.specs.declared.Reading.{Reading}
 use Rattle.circuit.specs.Wires.{wireAt, modulusAt, isInput, inputsIn}
-use Rattle.circuit.specs.File.{readFile, Holds}
+use Rattle.circuit.specs.File.{readFile}
 use Rattle.circuit.specs.Accepted.{AcceptedCircuit}
+use Rattle.circuit.specs.Held.{wiresIn, outputsIn, Held, Holds}
 use Rattle.counts.specs.Recipe.{gateRecipe}
 use Rattle.counts.specs.Counts.{recordKeysBy, recordKeysOf, Counts}
 use Rattle.counts.specs.Moduli.{usedBelow, moduliUsed}
@@ -39,7 +40,6 @@ use Rattle.scheme.proofs.Used.{used-modulus}
 use Rattle.scheme.proofs.Places.{offset-fits, key-fits}
 use Rattle.scheme.proofs.Contributed.{nth-whole}
 use Rattle.session.specs.Session.{sessionChecked, partyChecked, ownersChecked, lengthsChecked, valuesChecked}
-use Rattle.session.specs.Held.{wiresIn, outputsIn, Held}
 use Rattle.session.proofs.Sessions.{session-fits}
 use Rattle.session.proofs.Circuits.{held-of, made-is, inputs-made}
 use Rattle.round.specs.Bytes.{contributionsChecked, offsetsChecked}

@@ -26,11 +26,11 @@ use Rattle.words.specs.declared.gate.Wire.{Wire}
 use Rattle.circuit.specs.declared.Circuit.{Circuit}
 use Rattle.circuit.specs.declared.Reading.{Reading}
 use Rattle.circuit.specs.Wires.{wireAt, modulusAt}
-use Rattle.circuit.specs.File.{readFile, Holds}
-use Rattle.counts.specs.Counts.{mark, ownedBy, inputsOf, Room, Counts}
+use Rattle.circuit.specs.File.{readFile}
+use Rattle.circuit.specs.Held.{wiresIn, Room, Holds}
+use Rattle.counts.specs.Counts.{mark, ownedBy, inputsOf, Counts}
 use Rattle.counts.proofs.Wires.{room}
 use Rattle.session.specs.Session.{partiesChecked, partyChecked, ownersChecked, lengthsChecked, tooLarge}
-use Rattle.session.specs.Held.{wiresIn}
 use Rattle.round.specs.Externals.{ownInputs, externalsBytes, externalsLent, externalsAsked, externalsMade, externalsChecked, externalsAfter}
 use Rattle.round.proofs.OwnInputs.{own-length}
 use Rattle.exchange.specs.Tables.{Front}

@@ -6,7 +6,7 @@ use Prim.Native.Nat.{ℕ, _<_}
 use lib.ListN.{length, getD}
 use Rattle.circuit.specs.declared.Circuit.{Circuit}
 use Rattle.circuit.specs.Wires.{modulusAt}
-use Rattle.session.specs.Held.{wiresIn, outputsIn, Held}
+use Rattle.circuit.specs.Held.{wiresIn, outputsIn, Held}
 
 -- an external value for each wire of a circuit of the code, a mask for each output
 pub record Masked (circuit : Circuit) (externals masks : List ℕ) : Type 0 where

@@ -6,9 +6,9 @@ use Prim.Native.Nat.{ℕ, _*_, _≤_, _<_}
 use lib.ListN.{length}
 use Rattle.circuit.specs.declared.Circuit.{Circuit}
 use Rattle.circuit.specs.Wires.{modulusAt}
+use Rattle.circuit.specs.Held.{wiresIn, Held}
 use Rattle.counts.specs.Counts.{recordKeysOf}
 use Rattle.scheme.specs.Contribution.{contributionSize}
-use Rattle.session.specs.Held.{wiresIn, Held}
 
 -- a contribution of its length, and an external value for each input
 pub record KeysLent (circuit : Circuit) (K : ℕ) (contribution externals : List ℕ) : Type 0 where

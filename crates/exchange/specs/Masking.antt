@@ -6,8 +6,7 @@ use Prim.Native.Nat.{ℕ, _<_}
 use lib.ListN.{length, getD}
 use Rattle.circuit.specs.declared.Circuit.{Circuit}
 use Rattle.circuit.specs.Wires.{modulusAt}
-use Rattle.counts.specs.Counts.{Room}
-use Rattle.session.specs.Held.{wiresIn}
+use Rattle.circuit.specs.Held.{wiresIn, Room}
 use Rattle.round.specs.Externals.{ownInputs}
 
 -- a value and a mask for each input that a party owns

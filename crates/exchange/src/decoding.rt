@@ -2,8 +2,8 @@
 ghost use mathlib.Core.Path.{_≡_};
 ghost use lib.ListN.{length};
 ghost use Rattle.checks.specs.Checked.{Meets};
-ghost use Rattle.circuit.specs.File.{readFile, Holds};
-ghost use Rattle.session.specs.Held.{wiresIn, outputsIn, Held};
+ghost use Rattle.circuit.specs.File.{readFile};
+ghost use Rattle.circuit.specs.Held.{wiresIn, outputsIn, Held, Holds};
 ghost use Rattle.round.specs.Decode.{decodeBytes, decodeLent, decodeMade, decodeChecked, decodeAfter};
 ghost use Rattle.exchange.specs.Decoding.{Masked, Decodes};
 use super::either::either_checked;

@@ -2,9 +2,8 @@
 ghost use mathlib.Core.Path.{_≡_};
 ghost use lib.ListN.{length};
 ghost use Rattle.checks.specs.Checked.{Meets};
-ghost use Rattle.circuit.specs.File.{readFile, Holds};
-ghost use Rattle.counts.specs.Counts.{Room};
-ghost use Rattle.session.specs.Held.{wiresIn};
+ghost use Rattle.circuit.specs.File.{readFile};
+ghost use Rattle.circuit.specs.Held.{wiresIn, Room, Holds};
 ghost use Rattle.round.specs.Externals.{externalsBytes, externalsLent, externalsAsked, externalsMade, externalsChecked, externalsAfter};
 ghost use Rattle.exchange.specs.Masking.{OwnLent, OwnFit};
 use super::either::either_checked;

@@ -15,7 +15,7 @@ use Rattle.lists.proofs.Blocks.{tab-ext}
 use Rattle.checks.specs.Checked.{Checked}
 use Rattle.words.specs.declared.gate.Wire.{Wire}
 use Rattle.circuit.specs.declared.Circuit.{Circuit}
-use Rattle.session.specs.Held.{wiresIn, Held}
+use Rattle.circuit.specs.Held.{wiresIn, Held}
 use Rattle.session.proofs.Circuits.{made-is, inputs-made}
 use Rattle.round.specs.Externals.{ownInputs, externalsChecked, externalsAfter}
 use Rattle.round.specs.Round.{ownOf}

@@ -17,9 +17,9 @@ use Rattle.lists.proofs.Filled.{Filled, filled-start, filled-step, filled-old}
 use Rattle.words.specs.declared.gate.Wire.{Wire}
 use Rattle.circuit.specs.declared.Circuit.{Circuit}
 use Rattle.circuit.specs.Wires.{wireAt}
-use Rattle.counts.specs.Counts.{mark, ownedBy, Room, Counts}
+use Rattle.circuit.specs.Held.{wiresIn, Room, Held}
+use Rattle.counts.specs.Counts.{mark, ownedBy, Counts}
 use Rattle.counts.proofs.Wires.{wire-at}
-use Rattle.session.specs.Held.{wiresIn, Held}
 use Rattle.session.proofs.Circuits.{inputs-made}
 use Rattle.round.specs.Externals.{ownInputs}
 use Rattle.round.proofs.OwnInputs.{owns, placeOf, own-length, own-at}

@@ -2,7 +2,7 @@
 ghost use mathlib.Core.Path.{_≡_};
 ghost use Prim.Native.Nat.{_≤_};
 ghost use lib.ListN.{length, take};
-ghost use Rattle.session.specs.Held.{wiresIn, Held};
+ghost use Rattle.circuit.specs.Held.{wiresIn, Held};
 ghost use Rattle.rehearsal.specs.Hosts.{scattered, ownChecks, ownAfter, gathered};
 ghost use Rattle.rehearsal.specs.All.{Says, allOf};
 ghost use Rattle.round.specs.Externals.{externalsChecked, externalsAfter};

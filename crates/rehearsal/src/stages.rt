@@ -2,7 +2,7 @@
 ghost use mathlib.Core.Path.{_≡_};
 ghost use Prim.Native.Nat.{_*_};
 ghost use lib.ListN.{length};
-ghost use Rattle.session.specs.Held.{wiresIn, Held};
+ghost use Rattle.circuit.specs.Held.{wiresIn, Held};
 ghost use Rattle.rehearsal.specs.Stages.{Prepared, Keyed, Finished};
 use super::called::Metered;
 use super::called::followed;

@@ -17,14 +17,14 @@ use Rattle.words.specs.declared.gate.Wire.{Wire}
 use Rattle.circuit.specs.declared.Circuit.{Circuit}
 use Rattle.circuit.specs.declared.Reading.{Reading}
 use Rattle.circuit.specs.Wires.{inputsIn}
-use Rattle.circuit.specs.File.{readFile, Holds}
+use Rattle.circuit.specs.File.{readFile}
+use Rattle.circuit.specs.Held.{wiresIn, outputsIn, Held, Holds}
 use Rattle.counts.specs.Counts.{rowsIn, Counts}
 use Rattle.pads.specs.Pad.{shakePad}
 use Rattle.scheme.specs.Contribution.{contributionSize}
 use Rattle.scheme.specs.Draw.{Draw, drawn}
 use Rattle.scheme.specs.Rows.{garbledRows, inputMasks, outputMasks}
 use Rattle.session.specs.Session.{sessionChecked, ownersChecked, lengthsChecked}
-use Rattle.session.specs.Held.{wiresIn, outputsIn, Held}
 use Rattle.session.proofs.Sessions.{SessionFits, session-fits}
 use Rattle.session.proofs.Circuits.{held-of, given-is}
 use Rattle.meter.specs.Meter.{HasSpace, meterChecked, raised}

@@ -28,7 +28,8 @@ use Rattle.words.specs.declared.gate.Wire.{Wire}
 use Rattle.circuit.specs.declared.Circuit.{Circuit}
 use Rattle.circuit.specs.declared.Reading.{Reading}
 use Rattle.circuit.specs.Wires.{wireAt, modulusAt, inputsIn}
-use Rattle.circuit.specs.File.{readFile, Holds}
+use Rattle.circuit.specs.File.{readFile}
+use Rattle.circuit.specs.Held.{wiresIn, Held, Holds}
 use Rattle.counts.specs.Counts.{rowsIn, recordKeysOf, Counts}
 use Rattle.pads.specs.Pad.{shakePad}
 use Rattle.search.specs.Search.{same}
@@ -38,7 +39,6 @@ use Rattle.scheme.specs.Opening.{wireKeys, wireExternals}
 use Rattle.scheme.proofs.Used.{used-modulus}
 use Rattle.scheme.proofs.Drawn.{offset-length, key-length}
 use Rattle.session.specs.Session.{fileChecked, sessionChecked, partyChecked, ownersChecked, lengthsChecked, valuesChecked}
-use Rattle.session.specs.Held.{wiresIn, Held}
 use Rattle.session.proofs.Sessions.{SessionFits, session-fits, party-below}
 use Rattle.session.proofs.Circuits.{held-of, made-is, inputs-made}
 use Rattle.round.specs.Bytes.{contributionsChecked, offsetsChecked, keysChecked, rowsChecked}

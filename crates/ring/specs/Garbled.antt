@@ -5,8 +5,8 @@ use mathlib.Core.List.{List}
 use Prim.Native.Nat.{ℕ, _*_, _≤_}
 use lib.ListN.{length}
 use Rattle.circuit.specs.declared.Circuit.{Circuit}
+use Rattle.circuit.specs.Held.{wiresIn, Held}
 use Rattle.scheme.specs.Contribution.{contributionSize}
-use Rattle.session.specs.Held.{wiresIn, Held}
 
 -- contributions of their length, one for each party
 pub record Draws (circuit : Circuit) (n K : ℕ) (contributions : List ℕ) : Type 0 where

@@ -6,9 +6,9 @@ use Prim.Native.Nat.{ℕ, _*_, _≤_, _<_}
 use lib.ListN.{length}
 use Rattle.circuit.specs.declared.Circuit.{Circuit}
 use Rattle.circuit.specs.Wires.{inputsIn}
+use Rattle.circuit.specs.Held.{wiresIn, Held}
 use Rattle.counts.specs.Counts.{rowsIn}
 use Rattle.scheme.specs.Contribution.{contributionSize}
-use Rattle.session.specs.Held.{wiresIn, Held}
 
 -- buffers of their lengths
 pub record OpenSizes (circuit : Circuit) (n K : ℕ) (contribution externals keys rows : List ℕ) : Type 0 where

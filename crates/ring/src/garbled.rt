@@ -2,8 +2,8 @@
 ghost use mathlib.Core.Path.{_≡_};
 ghost use Prim.Native.Nat.{_≤_};
 ghost use Rattle.checks.specs.Checked.{Meets};
-ghost use Rattle.circuit.specs.File.{readFile, Holds};
-ghost use Rattle.session.specs.Held.{wiresIn, outputsIn, Held};
+ghost use Rattle.circuit.specs.File.{readFile};
+ghost use Rattle.circuit.specs.Held.{wiresIn, outputsIn, Held, Holds};
 ghost use Rattle.pads.specs.Pad.{shakePad};
 ghost use Rattle.round.specs.Garble.{garbleBytes, garbleLent, garbleOwned, garbleAsked, garbleChecked, garbleRows, garbleInputMasks, garbleOutputMasks, garbleMeter};
 ghost use Rattle.ring.specs.Garbled.{Draws};

@@ -3,7 +3,7 @@ use mathlib.Core.Path.{refl}
 use Prim.Native.Nat.{_-_}
 use native.Mathlib.Omega.{arith}
 use Rattle.lists.proofs.Filled.{Filled}
-use Rattle.session.specs.Held.{wiresIn, outputsIn}
+use Rattle.circuit.specs.Held.{wiresIn, outputsIn}
 use Rattle.round.specs.Decode.{decodeMade}
 use Rattle.exchange.proofs.Decodes.{decode-start, decode-held, decode-operands, decode-step, decode-done}
 use Rattle.exchange.proofs.decoding.put_decoded.Statement.{statement}

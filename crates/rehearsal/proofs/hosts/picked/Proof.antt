@@ -1,7 +1,7 @@
 -- `rehearsal::picked` meets its contract: a pass over the wires, each written to the place after the party's last. Assumes nothing.
 use Prim.Native.Nat.{_-_, _≤_}
 use native.Mathlib.Omega.{arith}
-use Rattle.session.specs.Held.{wiresIn}
+use Rattle.circuit.specs.Held.{wiresIn}
 use Rattle.rehearsal.proofs.Own.{OwnTo, own-start, own-step, own-front}
 use Rattle.rehearsal.proofs.hosts.picked.Statement.{statement}
 use Rattle.rehearsal.proofs.hosts.picked.Tie as tie

@@ -1,7 +1,7 @@
 -- `rehearsal::scatter` meets its contract: a pass over the inputs that changes the party's own alone. Assumes nothing.
 use Prim.Native.Nat.{_-_}
 use native.Mathlib.Omega.{arith}
-use Rattle.session.specs.Held.{wiresIn}
+use Rattle.circuit.specs.Held.{wiresIn}
 use Rattle.session.proofs.Circuits.{inputs-made}
 use Rattle.lists.proofs.Filled.{filled-whole}
 use Rattle.rehearsal.proofs.Own.{ScatterTo, scatter-start, scatter-step}

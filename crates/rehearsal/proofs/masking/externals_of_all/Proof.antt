@@ -2,7 +2,7 @@
 use Prim.Native.Nat.{_-_}
 use mathlib.Core.Path.{_∙_}
 use native.Mathlib.Omega.{arith}
-use Rattle.session.specs.Held.{wiresIn}
+use Rattle.circuit.specs.Held.{wiresIn}
 use Rattle.rehearsal.proofs.Asked.{AllTo, all-start, all-step, all-done}
 use Rattle.rehearsal.proofs.masking.externals_of_all.Statement.{statement}
 use Rattle.rehearsal.proofs.masking.externals_of_all.Tie as tie

@@ -2,7 +2,7 @@
 use mathlib.Core.Path.{sym, _∙_}
 use native.Mathlib.Omega.{arith}
 use Rattle.round.proofs.OwnInputs.{own-length}
-use Rattle.session.specs.Held.{wiresIn}
+use Rattle.circuit.specs.Held.{wiresIn}
 use Rattle.rehearsal.proofs.Asked.{party-ends}
 use borrow.Author.Needs.{needs}
 use Rattle.rehearsal.proofs.masking.party_externals.Statement.{statement}

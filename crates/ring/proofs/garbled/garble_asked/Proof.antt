@@ -1,5 +1,5 @@
 -- `ring::garble_asked` meets its contract: out of range, or what the checks after it answer. Assumes nothing.
-use Rattle.session.specs.Held.{wiresIn, outputsIn}
+use Rattle.circuit.specs.Held.{wiresIn, outputsIn}
 use Rattle.ring.proofs.Garbles.{session-in-range, garble-next, garble-stop}
 use borrow.Author.Needs.{needs}
 use Rattle.ring.proofs.garbled.garble_asked.Statement.{statement}

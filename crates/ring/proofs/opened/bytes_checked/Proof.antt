@@ -1,6 +1,6 @@
 -- `ring::bytes_checked` meets its contract: the checks in their order. Assumes nothing.
 use native.Mathlib.Omega.{arith}
-use Rattle.session.specs.Held.{wiresIn}
+use Rattle.circuit.specs.Held.{wiresIn}
 use Rattle.session.proofs.Circuits.{inputs-made}
 use Rattle.ring.proofs.Opens.{bytes-met}
 use Rattle.ring.proofs.opened.bytes_checked.Statement.{statement}

@@ -1,5 +1,5 @@
 -- `ring::open_asked` meets its contract: out of range, or what the checks after it answer. Assumes nothing.
-use Rattle.session.specs.Held.{wiresIn}
+use Rattle.circuit.specs.Held.{wiresIn}
 use Rattle.ring.proofs.Garbles.{session-in-range}
 use Rattle.ring.proofs.Opens.{open-next, open-stop}
 use borrow.Author.Needs.{needs}

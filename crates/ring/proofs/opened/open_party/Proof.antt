@@ -1,5 +1,5 @@
 -- `ring::open_party` meets its contract: the checks in their order. Assumes nothing.
-use Rattle.session.specs.Held.{wiresIn}
+use Rattle.circuit.specs.Held.{wiresIn}
 use Rattle.ring.proofs.Opens.{party-followed}
 use Rattle.ring.proofs.opened.open_party.Statement.{statement}
 use Rattle.ring.proofs.opened.open_party.Tie as tie
