@@ -2,33 +2,30 @@
 -- Assumes nothing.
 use mathlib.Core.Path.{_≡_, refl, ap, _∙_}
 use mathlib.Core.List.{List}
-use Prim.Native.Nat.{ℕ, _+_, _*_, _<_}
-use lib.ListN.{length, getD}
+use Prim.Native.Nat.{ℕ, _<_}
+use lib.ListN.{getD}
 use Rattle.lists.specs.Blocks.{blocks, nthPiece}
 use Rattle.lists.proofs.Blocks.{blocks-ext, tab-ext}
-use Rattle.residue.specs.Residue.{add}
-use Rattle.residue.specs.Vector.{keyV}
 use Rattle.checks.specs.Checked.{Checked, Reports}
 use Rattle.checks.specs.Checked.Checked.{passed}
 use Rattle.checks.specs.Checked.Meets.{accepts, names, namesSome}
 use Rattle.checks.specs.Checked.Reports.{reports}
 use Rattle.checks.proofs.Passed.{afterwards-passed}
 use Rattle.words.specs.declared.gate.Wire.{Wire}
-use Rattle.circuit.specs.Wires.{modulusAt, inputsIn}
+use Rattle.circuit.specs.Wires.{inputsIn}
 use Rattle.circuit.specs.File.{readFile}
 use Rattle.counts.specs.Counts.{rowsIn}
-use Rattle.scheme.specs.Draw.{drawn}
-use Rattle.scheme.specs.Zero.{zeroKey, mask}
-use Rattle.plain.specs.Plain.{plainValues, plainOutputs}
+use Rattle.meter.specs.Meter.{raised}
 use Rattle.pads.specs.Pad.{shakePad}
 use Rattle.round.specs.Garble.{garbleMeter}
 use Rattle.round.specs.Externals.{externalsAfter}
 use Rattle.round.specs.InputKeys.{inputKeysAfter}
 use Rattle.round.specs.Round as round
-use Rattle.round.specs.Round.{Lent, ownerAt, placeAt}
+use Rattle.round.specs.Round.{Lent, ownerAt, placeAt, contributionOf, ownOf}
 use Rattle.round.specs.Claim.{Conditions, Promise}
+use Rattle.round.proofs.Claim.{delivered-as}
 use Rattle.round.proofs.RealPad.{shake-claim}
-use Rattle.demand.specs.Played.{Results, Played, Kept, ownOf, contributionOf, allExternals, allKeys}
+use Rattle.demand.specs.Played.{Results, Played, Kept, allExternals, allKeys}
 
 -- an answer that meets checks that pass has number 0
 zero-of : {checks : Checked} {number place : ℕ} → Reports checks number place → checks ≡ passed → number ≡ 0
@@ -58,12 +55,10 @@ module _ (file : List ℕ) (n K : ℕ) (contributions values : List ℕ) (meter 
 
   -- what a party's call was handed, and so what it left, is the round's
   externals-is : (party : ℕ) → party < n → r .externals party ≡ round.ownExternals shakePad file n K contributions values meter lent party
-  unfolding round.ownExternals round.ownOf
+  unfolding round.ownExternals
   externals-is party h =
       played .externalsIs party h
-      ∙ ap (λ (masks : List ℕ). externalsAfter file n party (ownOf file n K contributions values meter lent r values party)
-      (ownOf file n K contributions values meter lent r masks party) (lent .externals party))
-      masks-is
+      ∙ ap (λ (masks : List ℕ). externalsAfter file n party (ownOf wires values party) (ownOf wires masks party) (lent .externals party)) masks-is
 
   all-externals-is : allExternals file n K contributions values meter lent r ≡ round.externals shakePad file n K contributions values meter lent
   unfolding round.externals
@@ -73,12 +68,10 @@ module _ (file : List ℕ) (n K : ℕ) (contributions values : List ℕ) (meter 
       (λ w h. ap (λ (xs : List ℕ). getD xs (placeAt wires w) 0) (externals-is (ownerAt wires w) (conditions .owners w h)))
 
   keys-is : (party : ℕ) → party < n → r .keys party ≡ round.ownKeys shakePad file n K contributions values meter lent party
-  unfolding round.ownKeys round.contributionOf
+  unfolding round.ownKeys
   keys-is party h =
       played .keysIs party h
-      ∙ ap (λ (xs : List ℕ). inputKeysAfter file n K party (contributionOf file n K contributions values meter lent r party) xs
-      (lent .inputKeys party))
-      all-externals-is
+      ∙ ap (λ (xs : List ℕ). inputKeysAfter file n K party (contributionOf K wires contributions party) xs (lent .inputKeys party)) all-externals-is
 
   all-keys-is : allKeys file n K contributions values meter lent r ≡ round.keys shakePad file n K contributions values meter lent
   unfolding round.keys
@@ -90,11 +83,11 @@ module _ (file : List ℕ) (n K : ℕ) (contributions values : List ℕ) (meter 
       (λ party l. ap (λ (xs : List ℕ). nthPiece xs K w) (keys-is party l)))
 
   wire-keys-is : (party : ℕ) → party < n → r .wireKeys party ≡ round.wireKeys shakePad file n K contributions values meter lent party
-  unfolding round.wireKeys round.contributionOf
+  unfolding round.wireKeys
   wire-keys-is party h = played .openKeysIs party h ∙ rw (all-externals-is, all-keys-is, rows-is)
 
   wire-externals-is : (party : ℕ) → party < n → r .wireExternals party ≡ round.wireExternals shakePad file n K contributions values meter lent party
-  unfolding round.wireExternals round.contributionOf
+  unfolding round.wireExternals
   wire-externals-is party h = played .openExternalsIs party h ∙ rw (all-externals-is, all-keys-is, rows-is)
 
   figures-is : (party : ℕ) → party < n → r .figures party ≡ round.figures shakePad file n K contributions values meter lent party
@@ -107,15 +100,15 @@ module _ (file : List ℕ) (n K : ℕ) (contributions values : List ℕ) (meter 
   garbles = zero-of (played .garbleAnswer) (promise .garbles)
 
   has-externals : (party : ℕ) → party < n → r .externalsNumber party ≡ 0
-  unfolding round.externalValues round.ownOf
+  unfolding round.externalValues
   has-externals party h = zero-of (played .externalsAnswer party h) (rw masks-is (promise .hasExternals party h))
 
   has-keys : (party : ℕ) → party < n → r .keysNumber party ≡ 0
-  unfolding round.inputKeys round.contributionOf
+  unfolding round.inputKeys
   has-keys party h = zero-of (played .keysAnswer party h) (rw all-externals-is (promise .hasKeys party h))
 
   opens : (party : ℕ) → party < n → r .openNumber party ≡ 0
-  unfolding round.opening round.contributionOf
+  unfolding round.opening
   opens party h = zero-of (played .openAnswer party h) (rw (all-externals-is, all-keys-is, rows-is) (promise .opens party h))
 
   decodes : (party : ℕ) → party < n → r .decodeNumber party ≡ 0
@@ -126,23 +119,13 @@ module _ (file : List ℕ) (n K : ℕ) (contributions values : List ℕ) (meter 
   unfolding round.plainly
   evaluates = zero-of (played .plainAnswer) (promise .evaluates)
 
-  counted : r .meter ≡ meter + rowsIn wires
+  counted : r .meter ≡ raised meter (rowsIn wires)
   unfolding garbleMeter round.garbling
-  counted = played .garbleMeterIs ∙ afterwards-passed (promise .garbles) (meter + rowsIn wires) meter
+  counted = played .garbleMeterIs ∙ afterwards-passed (promise .garbles) (raised meter (rowsIn wires)) meter
 
-  plain-decoded : r .plain ≡ plainOutputs file wires (readFile file .outputs) values
+  plain-is : r .plain ≡ round.plainFigures shakePad file n K contributions values meter lent
   unfolding round.plainFigures
-  plain-decoded = played .plainIs ∙ promise .plainDecoded
-
-  kept-keys : (party w each : ℕ) → party < n → w < length wires → each < n
-      → nthPiece (nthPiece (r .wireKeys party) (n * K) w) K each
-      ≡ keyV (modulusAt wires w)
-      (zeroKey wires (drawn 1 K wires (contributionOf file n K contributions values meter lent r each)) w)
-      (add (modulusAt wires w) (getD (plainValues file wires values) w 0) (mask wires (drawn n K wires contributions) w))
-      (drawn 1 K wires (contributionOf file n K contributions values meter lent r each) .offset (modulusAt wires w))
-  unfolding round.contributionOf
-  kept-keys party w each h made l =
-      ap (λ (xs : List ℕ). nthPiece (nthPiece xs (n * K) w) K each) (wire-keys-is party h) ∙ promise .keys party w each h made l
+  plain-is = played .plainIs
 
   pub demand : Kept file n K contributions values meter lent r
   demand =
@@ -154,9 +137,5 @@ module _ (file : List ℕ) (n K : ℕ) (contributions values : List ℕ) (meter 
         decodes = decodes;
         evaluates = evaluates;
         counted = counted;
-        keys = kept-keys;
-        externals = λ party w h made.
-            ap (λ (xs : List ℕ). getD xs w 0) (wire-externals-is party h) ∙ promise .externals party w h made;
-        decoded = λ party h. figures-is party h ∙ promise .decoded party h;
-        plainDecoded = plain-decoded;
+        delivers = delivered-as wire-keys-is wire-externals-is figures-is plain-is (promise .delivers);
       }

@@ -12,29 +12,27 @@ use lib.Seq.{take-at, getD-take, length-take-le}
 use Rattle.lists.specs.Blocks.{part}
 use Rattle.lists.proofs.Parts.{part-front}
 use Rattle.lists.proofs.Blocks.{tab-ext}
-use Rattle.checks.specs.declared.Answer.{Answer}
-use Rattle.checks.specs.declared.Answer.the-variants.{Accepted}
-use Rattle.checks.specs.Combined.{followed}
-use Rattle.checks.specs.Checked.{Checked, Meets}
+use Rattle.checks.specs.Checked.{Checked}
 use Rattle.words.specs.declared.gate.Wire.{Wire}
 use Rattle.circuit.specs.declared.Circuit.{Circuit}
 use Rattle.circuit.specs.Held.{wiresIn, Held}
 use Rattle.session.proofs.Circuits.{made-is, inputs-made}
 use Rattle.round.specs.Externals.{ownInputs, externalsChecked, externalsAfter}
+use Rattle.round.specs.Round.{ownOf}
 use Rattle.round.proofs.OwnInputs.{owns, placeOf, own-inside}
-use Rattle.rehearsal.specs.Hosts.{Picked, scattered, ownList, ownChecks, ownAfter, gathered}
-use Rattle.rehearsal.specs.All.{allOf}
+use Rattle.rehearsal.specs.Hosts.{Picked, scattered, ownChecks, ownAfter, gathered}
+use Rattle.rehearsal.specs.All.{Says, followed, allOf}
 use Rattle.rehearsal.proofs.InTurn.{turn-start, turn-next}
 
-pub ask-ends : (file : List ℕ) (n party count : ℕ) (values masks out : List ℕ) {own hidden ys : List ℕ} {r : Answer} → count ≤ length out
+pub ask-ends : (file : List ℕ) (n party count : ℕ) (values masks out : List ℕ) {own hidden ys : List ℕ} {r : ℕ} → count ≤ length out
     → own ≡ part values 0 count → hidden ≡ part masks 0 count → length ys ≡ length (take count out)
-    → Meets (externalsChecked file n party own hidden (take count out)) r → ys ≡ externalsAfter file n party own hidden (take count out)
-    → Meets (externalsChecked file n party (take count values) (take count masks) (take count out)) r
+    → Says (externalsChecked file n party own hidden (take count out)) r → ys ≡ externalsAfter file n party own hidden (take count out)
+    → Says (externalsChecked file n party (take count values) (take count masks) (take count out)) r
     × (take count (ys ++ drop count out) ≡ externalsAfter file n party (take count values) (take count masks) (take count out))
 ask-ends file n party count values masks out {own} {hidden} {ys} {r} room o h l m e =
     let o′ : own ≡ take count values = o ∙ part-front values count in
     let h′ : hidden ≡ take count masks = h ∙ part-front masks count in (
-      subst (λ (c : Checked). Meets c r) (ap₂ (λ (a b : List ℕ). externalsChecked file n party a b (take count out)) o′ h′) m,
+      subst (λ (c : Checked). Says c r) (ap₂ (λ (a b : List ℕ). externalsChecked file n party a b (take count out)) o′ h′) m,
       take-at ys (drop count out) count (l ∙ length-take-le count out room)
           ∙ e ∙ ap₂ (λ (a b : List ℕ). externalsAfter file n party a b (take count out)) o′ h′,
     )
@@ -65,46 +63,46 @@ scattered-front {circuit} held party mine before size =
         ∙ sym (ap (λ (b : Bool). cond b (getD (take (length (ownInputs party (wiresIn circuit))) mine) (placeOf party (wiresIn circuit) w) 0) (getD before w 0)) e)
 
 -- the whole: what the party's call answers, and what stands at its inputs' wires
-pub party-ends : {circuit : Circuit} → Held circuit → (file : List ℕ) (n party count : ℕ) (values masks before mine : List ℕ) {own hidden blank after : List ℕ} {r : Answer}
+pub party-ends : {circuit : Circuit} → Held circuit → (file : List ℕ) (n party count : ℕ) (values masks before mine : List ℕ) {own hidden blank after : List ℕ} {r : ℕ}
     → length before ≡ circuit .inputs → count ≡ length (ownInputs party (wiresIn circuit)) → count ≤ 1024
     → Picked party (wiresIn circuit) values own → Picked party (wiresIn circuit) masks hidden → blank ≡ replicate 1024 0
-    → Meets (externalsChecked file n party (take count own) (take count hidden) (take count blank)) r
+    → Says (externalsChecked file n party (take count own) (take count hidden) (take count blank)) r
     → take count mine ≡ externalsAfter file n party (take count own) (take count hidden) (take count blank)
     → after ≡ scattered party (wiresIn circuit) mine before
-    → Meets (ownChecks file n (wiresIn circuit) values masks party) r
+    → Says (ownChecks file n (wiresIn circuit) values masks party) r
     × (after ≡ scattered party (wiresIn circuit) (ownAfter file n (wiresIn circuit) values masks party) before)
 party-ends {circuit} held file n party count values masks before mine {own} {hidden} {blank} {after} {r} size c most v m b met e s =
-    let a1 : take count own ≡ ownList party (wiresIn circuit) values = ap (λ (k : ℕ). take k own) c ∙ v .front in
-    let a2 : take count hidden ≡ ownList party (wiresIn circuit) masks = ap (λ (k : ℕ). take k hidden) c ∙ m .front in
+    let a1 : take count own ≡ ownOf (wiresIn circuit) values party = ap (λ (k : ℕ). take k own) c ∙ v .front in
+    let a2 : take count hidden ≡ ownOf (wiresIn circuit) masks party = ap (λ (k : ℕ). take k hidden) c ∙ m .front in
     let a3 : take count blank ≡ replicate (length (ownInputs party (wiresIn circuit))) 0 =
     ap (λ (l : List ℕ). take count l) b ∙ take-replicate count 1024 0 most ∙ ap (λ (k : ℕ). replicate k 0) c in (
-      subst (λ (x : Checked). Meets x r)
+      subst (λ (x : Checked). Says x r)
           (ap₂ (λ (x y : List ℕ). externalsChecked file n party x y (take count blank)) a1 a2
-          ∙ ap (λ (z : List ℕ). externalsChecked file n party (ownList party (wiresIn circuit) values) (ownList party (wiresIn circuit) masks) z) a3) met,
+          ∙ ap (λ (z : List ℕ). externalsChecked file n party (ownOf (wiresIn circuit) values party) (ownOf (wiresIn circuit) masks party) z) a3) met,
       s ∙ scattered-front held party mine before size
           ∙ ap (λ (l : List ℕ). scattered party (wiresIn circuit) l before)
           (ap (λ (k : ℕ). take k mine) (sym c)
           ∙ e
           ∙ ap₂ (λ (x y : List ℕ). externalsAfter file n party x y (take count blank)) a1 a2
-          ∙ ap (λ (z : List ℕ). externalsAfter file n party (ownList party (wiresIn circuit) values) (ownList party (wiresIn circuit) masks) z) a3),
+          ∙ ap (λ (z : List ℕ). externalsAfter file n party (ownOf (wiresIn circuit) values party) (ownOf (wiresIn circuit) masks party) z) a3),
     )
 
 -- ---- one party after another
 
-pub record AllTo (file : List ℕ) (n : ℕ) (wires : List Wire) (values masks before : List ℕ) (party : ℕ) (answer : Answer) (out : List ℕ) : Type 0 where
+pub record AllTo (file : List ℕ) (n : ℕ) (wires : List Wire) (values masks before : List ℕ) (party : ℕ) (answer : ℕ) (out : List ℕ) : Type 0 where
   pub turns : party ≤ n
   pub kept : length out ≡ length before
   pub eq : out ≡ gathered file n wires values masks before party
-  pub met : Meets (allOf party (ownChecks file n wires values masks)) answer
+  pub met : Says (allOf party (ownChecks file n wires values masks)) answer
 
-pub all-start : (file : List ℕ) (n : ℕ) (wires : List Wire) (values masks before : List ℕ) → AllTo file n wires values masks before 0 Accepted before
+pub all-start : (file : List ℕ) (n : ℕ) (wires : List Wire) (values masks before : List ℕ) → AllTo file n wires values masks before 0 0 before
 unfolding gathered
 all-start file n wires values masks before =
     record { turns = omega arith; kept = refl; eq = refl; met = turn-start (ownChecks file n wires values masks) }
 
-pub all-step : {file : List ℕ} {n : ℕ} {wires : List Wire} {values masks before : List ℕ} {party : ℕ} {answer next both : Answer} {out out′ : List ℕ}
+pub all-step : {file : List ℕ} {n : ℕ} {wires : List Wire} {values masks before : List ℕ} {party : ℕ} {answer next both : ℕ} {out out′ : List ℕ}
     → AllTo file n wires values masks before party answer out → party < n → length out′ ≡ length out
-    → Meets (ownChecks file n wires values masks party) next → out′ ≡ scattered party wires (ownAfter file n wires values masks party) out
+    → Says (ownChecks file n wires values masks party) next → out′ ≡ scattered party wires (ownAfter file n wires values masks party) out
     → both ≡ followed answer next → AllTo file n wires values masks before (party + 1) both out′
 unfolding gathered
 all-step {file} {n} {wires} {values} {masks} {before} {party} {answer} {next} {both} {out} {out′} r h l m e b =
@@ -117,11 +115,11 @@ all-step {file} {n} {wires} {values} {masks} {before} {party} {answer} {next} {b
       met = turn-next (ownChecks file n wires values masks) party (r .met) m refl b;
     }
 
-pub all-done : {file : List ℕ} {n : ℕ} {wires : List Wire} {values masks before : List ℕ} {party : ℕ} {answer : Answer} {out : List ℕ}
+pub all-done : {file : List ℕ} {n : ℕ} {wires : List Wire} {values masks before : List ℕ} {party : ℕ} {answer : ℕ} {out : List ℕ}
     → AllTo file n wires values masks before party answer out → n ≤ party
-    → Meets (allOf n (ownChecks file n wires values masks)) answer × (out ≡ gathered file n wires values masks before n)
+    → Says (allOf n (ownChecks file n wires values masks)) answer × (out ≡ gathered file n wires values masks before n)
 all-done {file} {n} {wires} {values} {masks} {before} {party} {answer} {out} r h =
     let e : party ≡ n = le-antisymm (r .turns) h in (
-      subst (λ (j : ℕ). Meets (allOf j (ownChecks file n wires values masks)) answer) e (r .met),
+      subst (λ (j : ℕ). Says (allOf j (ownChecks file n wires values masks)) answer) e (r .met),
       r .eq ∙ ap (gathered file n wires values masks before) e,
     )

@@ -1,6 +1,6 @@
 -- A call made by each party in turn: how its checks and the parts lent to it go on by one party more.
 -- Assumes nothing.
-use mathlib.Core.Path.{_≡_, refl, ap, subst, _∙_}
+use mathlib.Core.Path.{_≡_, refl, sym, ap, subst, _∙_}
 use mathlib.Core.List.{List}
 use Prim.Native.Nat.{ℕ, zero, suc, _+_, _-_, _*_, _≤_, _<_}
 use native.Mathlib.Numerals.{add-one}
@@ -13,25 +13,21 @@ use Rattle.lists.proofs.Parts.{part-range}
 use Rattle.lists.proofs.Sums.{times-fits}
 use Rattle.lists.proofs.Wrote.{wrote-behind}
 use Rattle.lists.proofs.Steps.{Level, level-place, level-read}
-use Rattle.checks.specs.declared.Answer.{Answer}
-use Rattle.checks.specs.declared.Answer.the-variants.{Accepted}
-use Rattle.checks.specs.Combined.{followed}
-use Rattle.checks.specs.Checked.{Checked, Meets}
+use Rattle.checks.specs.Checked.{Checked}
 use Rattle.checks.specs.Checked.Checked.{passed}
-use Rattle.checks.specs.Checked.Meets.{accepts}
 use Rattle.checks.proofs.Passed.{andThen-passed}
-use Rattle.checks.proofs.Answers.{meets-andThen}
-use Rattle.rehearsal.specs.All.{allOf, Parts}
+use Rattle.rehearsal.specs.All.{numberAt, Says, followed, allOf, Parts}
+use Rattle.rehearsal.proofs.Numbered.{both-said}
 
-pub turn-start : (checks : ℕ → Checked) → Meets (allOf 0 checks) Accepted
-unfolding allOf
-turn-start checks = accepts
+pub turn-start : (checks : ℕ → Checked) → Says (allOf 0 checks) 0
+unfolding allOf numberAt
+turn-start checks = record { is = refl }
 
-pub turn-next : (checks : ℕ → Checked) (i : ℕ) {check : Checked} {a b c : Answer} → Meets (allOf i checks) a → Meets check b → check ≡ checks i → c ≡ followed a b
-    → Meets (allOf (i + 1) checks) c
+pub turn-next : (checks : ℕ → Checked) (i : ℕ) {check : Checked} {a b c : ℕ} → Says (allOf i checks) a → Says check b → check ≡ checks i → c ≡ followed a b
+    → Says (allOf (i + 1) checks) c
 unfolding allOf
 turn-next checks i {check} {a} {b} {c} m n e k =
-    rw (add-one i, k, allOf) (meets-andThen m (λ _. subst (λ (x : Checked). Meets x b) e n))
+    subst (λ (j : ℕ). Says (allOf j checks) c) (sym (add-one i)) (both-said m (record { is = n .is ∙ ap numberAt e }) k)
 
 -- all pass where each does
 pub all-passed : (n : ℕ) (checks : ℕ → Checked) → ((i : ℕ) → i < n → checks i ≡ passed) → allOf n checks ≡ passed
@@ -52,10 +48,10 @@ pub read-next : (xs : List ℕ) (n s i from : ℕ) → length xs ≡ n * s → f
 read-next xs n s i from l e h = omega (arith, times-fits i n s h)
 
 -- all parties' checks, when the loop ends
-pub met-all : {out₀ : List ℕ} {i n s : ℕ} {f : ℕ → List ℕ} {at : ℕ} {out : List ℕ} (checks : ℕ → Checked) {answer : Answer} → Level out₀ 0 i n s f at out → n ≤ i
-    → Meets (allOf i checks) answer → Meets (allOf n checks) answer
+pub met-all : {out₀ : List ℕ} {i n s : ℕ} {f : ℕ → List ℕ} {at : ℕ} {out : List ℕ} (checks : ℕ → Checked) {answer : ℕ} → Level out₀ 0 i n s f at out → n ≤ i
+    → Says (allOf i checks) answer → Says (allOf n checks) answer
 met-all {out₀} {i} {n} {s} {f} {at} {out} checks {answer} r h m =
-    subst (λ (j : ℕ). Meets (allOf j checks) answer) (le-antisymm (r .turns) h) m
+    subst (λ (j : ℕ). Says (allOf j checks) answer) (le-antisymm (r .turns) h) m
 
 -- the parts' sizes, one part more
 pub sized-next : (f : ℕ → List ℕ) (i s : ℕ) → ((j : ℕ) → j < i → length (f j) ≡ s) → length (f i) ≡ s → (j : ℕ) → j < i + 1 → length (f j) ≡ s

@@ -1,18 +1,11 @@
--- The stages' contracts, put together from those of their calls; and a stage's sizes by another name.
+-- The sizes of the stage of the input keys, and a stage's sizes by another name.
 -- Assumes nothing.
 use mathlib.Core.Path.{_≡_, sym, ap, subst, _∙_}
 use mathlib.Core.List.{List}
 use Prim.Native.Nat.{ℕ, _*_}
-use Rattle.checks.specs.declared.Answer.{Answer}
-use Rattle.checks.specs.Combined.{followed}
-use Rattle.checks.specs.Checked.{Checked, Meets, andThen}
-use Rattle.checks.proofs.Answers.{meets-andThen}
 use Rattle.words.specs.declared.gate.Wire.{Wire}
 use Rattle.rehearsal.specs.Hosts.{keysByInput}
 use Rattle.rehearsal.specs.Stages.{Prepared, Keyed, Finished}
-
-pub both-met : {a b : Checked} {x y z : Answer} → Meets a x → Meets b y → z ≡ followed x y → Meets (andThen a b) z
-both-met {a} {b} {x} {y} {z} m k e = subst (λ (w : Answer). Meets (andThen a b) w) (sym e) (meets-andThen m (λ _. k))
 
 -- ---- the stage of the input keys
 
@@ -27,7 +20,7 @@ keys-by n inputs each mine l e = e ∙ ap (λ (x : ℕ). keysByInput n x inputs 
 -- ---- sizes by another name
 
 pub prepared-as : {file : List ℕ} {wires wires′ : List Wire} {n K : ℕ} {contributions values : List ℕ} {meter : ℕ} {rows₀ inputs₀ outputs₀ externals₀ : List ℕ}
-    {answer : Answer} {raised : ℕ} {rows inputs outputs externals : List ℕ}
+    {answer : ℕ} {raised : ℕ} {rows inputs outputs externals : List ℕ}
     → wires ≡ wires′
     → Prepared file wires n K contributions values meter rows₀ inputs₀ outputs₀ externals₀ answer raised rows inputs outputs externals
     → Prepared file wires′ n K contributions values meter rows₀ inputs₀ outputs₀ externals₀ answer raised rows inputs outputs externals
@@ -35,7 +28,7 @@ prepared-as {file} {wires} {wires′} {n} {K} {contributions} {values} {meter} {
     subst (λ (ws : List Wire). Prepared file ws n K contributions values meter rows₀ inputs₀ outputs₀ externals₀ answer raised rows inputs outputs externals) e p
 
 pub keyed-as : {file : List ℕ} {n K : ℕ} {contributions : List ℕ} {size size′ : ℕ} {externals : List ℕ} {inputs inputs′ each each′ : ℕ} {mine₀ : List ℕ}
-    {answer : Answer} {mine keys : List ℕ}
+    {answer : ℕ} {mine keys : List ℕ}
     → size ≡ size′ → inputs ≡ inputs′ → each ≡ each′
     → Keyed file n K contributions size externals inputs each mine₀ answer mine keys
     → Keyed file n K contributions size′ externals inputs′ each′ mine₀ answer mine keys
@@ -45,7 +38,7 @@ keyed-as {file} {n} {K} {contributions} {size} {size′} {externals} {inputs} {i
     (subst (λ (x : ℕ). Keyed file n K contributions size externals inputs x mine₀ answer mine keys) g k))
 
 pub finished-as : {file : List ℕ} {n K : ℕ} {contributions : List ℕ} {size size′ : ℕ} {externals keys rows masks : List ℕ} {wide wide′ long long′ each each′ : ℕ}
-    {wkeys₀ wexternals₀ results₀ : List ℕ} {answer : Answer} {wkeys wexternals results : List ℕ}
+    {wkeys₀ wexternals₀ results₀ : List ℕ} {answer : ℕ} {wkeys wexternals results : List ℕ}
     → size ≡ size′ → wide ≡ wide′ → long ≡ long′ → each ≡ each′
     → Finished file n K contributions size externals keys rows masks wide long each wkeys₀ wexternals₀ results₀ answer wkeys wexternals results
     → Finished file n K contributions size′ externals keys rows masks wide′ long′ each′ wkeys₀ wexternals₀ results₀ answer wkeys wexternals results

@@ -8,3 +8,4 @@ pub mod Gathered
 pub mod Rehearses
 pub mod Joined
 pub mod Sized
+pub mod Numbered

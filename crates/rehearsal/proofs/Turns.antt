@@ -9,15 +9,12 @@ use Rattle.lists.specs.Blocks.{part, nthPiece}
 use Rattle.lists.proofs.Sums.{times-next}
 use Rattle.lists.proofs.Written.{lent}
 use Rattle.lists.proofs.Steps.{Level, level-start, steps-long, steps-call}
-use Rattle.checks.specs.declared.Answer.{Answer}
-use Rattle.checks.specs.declared.Answer.the-variants.{Accepted}
-use Rattle.checks.specs.Combined.{followed}
-use Rattle.checks.specs.Checked.{Checked, Meets}
+use Rattle.checks.specs.Checked.{Checked}
 use Rattle.pads.specs.Pad.{shakePad}
 use Rattle.round.specs.InputKeys.{inputKeysChecked, inputKeysAfter}
 use Rattle.round.specs.Open.{openChecked, openKeys, openExternals}
 use Rattle.round.specs.Decode.{decodeChecked, decodeAfter}
-use Rattle.rehearsal.specs.All.{allOf}
+use Rattle.rehearsal.specs.All.{Says, followed, allOf}
 use Rattle.rehearsal.proofs.InTurn.{turn-start, turn-next, part-next, read-next, met-all, sized-next}
 
 -- a part of what is only read, by its place
@@ -33,14 +30,14 @@ module _ (file : List ℕ) (n K : ℕ) (contributions : List ℕ) (size : ℕ) (
   abbrev pub keysWritten : ℕ → List ℕ
   keysWritten party = inputKeysAfter file n K party (nthPiece contributions size party) externals (nthPiece mine₀ each party)
 
-  pub record KeysTo (party from at : ℕ) (answer : Answer) (mine : List ℕ) : Type 0 where
+  pub record KeysTo (party from at : ℕ) (answer : ℕ) (mine : List ℕ) : Type 0 where
     pub place : from ≡ party * size
     pub level : Level mine₀ 0 party n each keysWritten at mine
     pub sized : (j : ℕ) → j < party → length (keysWritten j) ≡ each
-    pub met : Meets (allOf party keysChecks) answer
+    pub met : Says (allOf party keysChecks) answer
 
 module _ {file : List ℕ} {n K : ℕ} {contributions : List ℕ} {size : ℕ} {externals : List ℕ} {each : ℕ} {mine₀ : List ℕ} where
-  pub keys-start : length mine₀ ≡ n * each → KeysTo file n K contributions size externals each mine₀ 0 0 0 Accepted mine₀
+  pub keys-start : length mine₀ ≡ n * each → KeysTo file n K contributions size externals each mine₀ 0 0 0 0 mine₀
   keys-start l =
       record {
         place = omega arith;
@@ -49,14 +46,14 @@ module _ {file : List ℕ} {n K : ℕ} {contributions : List ℕ} {size : ℕ} {
         met = turn-start (keysChecks file n K contributions size externals each mine₀);
       }
 
-  module _ {party from at : ℕ} {answer : Answer} {mine : List ℕ}
+  module _ {party from at : ℕ} {answer : ℕ} {mine : List ℕ}
       (r : KeysTo file n K contributions size externals each mine₀ party from at answer mine) (h : party < n) where
     pub keys-reads : length contributions ≡ n * size → from + size ≤ length contributions
     keys-reads l = read-next contributions n size party from l (r .place) h
 
-    pub keys-next : {own ys : List ℕ} {next both : Answer} → own ≡ part contributions from size
+    pub keys-next : {own ys : List ℕ} {next both : ℕ} → own ≡ part contributions from size
         → length ys ≡ length (take (at + each - at) (drop at mine))
-        → Meets (inputKeysChecked file n K party own externals (take (at + each - at) (drop at mine))) next
+        → Says (inputKeysChecked file n K party own externals (take (at + each - at) (drop at mine))) next
         → ys ≡ inputKeysAfter file n K party own externals (take (at + each - at) (drop at mine))
         → both ≡ followed answer next
         → KeysTo file n K contributions size externals each mine₀ (party + 1) (from + size) (at + each) both (lent at (at + each) mine ys)
@@ -76,8 +73,8 @@ module _ {file : List ℕ} {n K : ℕ} {contributions : List ℕ} {size : ℕ} {
               (ap₂ (λ (a b : List ℕ). inputKeysChecked file n K party a externals b) o′ p) b;
         }
 
-  pub keys-all : {party from at : ℕ} {answer : Answer} {mine : List ℕ} → KeysTo file n K contributions size externals each mine₀ party from at answer mine → n ≤ party
-      → Meets (allOf n (keysChecks file n K contributions size externals each mine₀)) answer
+  pub keys-all : {party from at : ℕ} {answer : ℕ} {mine : List ℕ} → KeysTo file n K contributions size externals each mine₀ party from at answer mine → n ≤ party
+      → Says (allOf n (keysChecks file n K contributions size externals each mine₀)) answer
   keys-all r h = met-all (keysChecks file n K contributions size externals each mine₀) (r .level) h (r .met)
 
 -- ---- opening
@@ -93,17 +90,17 @@ module _ (file : List ℕ) (n K : ℕ) (contributions : List ℕ) (size : ℕ) (
   openedExternals party =
       openExternals shakePad file n K party (nthPiece contributions size party) externals keys rows (nthPiece wkeys₀ wide party) (nthPiece wexts₀ long party)
 
-  pub record OpenTo (party from at place : ℕ) (answer : Answer) (wkeys wexts : List ℕ) : Type 0 where
+  pub record OpenTo (party from at place : ℕ) (answer : ℕ) (wkeys wexts : List ℕ) : Type 0 where
     pub start : from ≡ party * size
     pub keysLevel : Level wkeys₀ 0 party n wide openedKeys at wkeys
     pub extsLevel : Level wexts₀ 0 party n long openedExternals place wexts
     pub keysSized : (j : ℕ) → j < party → length (openedKeys j) ≡ wide
     pub extsSized : (j : ℕ) → j < party → length (openedExternals j) ≡ long
-    pub met : Meets (allOf party openChecks) answer
+    pub met : Says (allOf party openChecks) answer
 
 module _ {file : List ℕ} {n K : ℕ} {contributions : List ℕ} {size : ℕ} {externals keys rows : List ℕ} {wide : ℕ} {wkeys₀ : List ℕ} {long : ℕ} {wexts₀ : List ℕ} where
   pub open-start : length wkeys₀ ≡ n * wide → length wexts₀ ≡ n * long
-      → OpenTo file n K contributions size externals keys rows wide wkeys₀ long wexts₀ 0 0 0 0 Accepted wkeys₀ wexts₀
+      → OpenTo file n K contributions size externals keys rows wide wkeys₀ long wexts₀ 0 0 0 0 0 wkeys₀ wexts₀
   open-start l k =
       record {
         start = omega arith;
@@ -114,7 +111,7 @@ module _ {file : List ℕ} {n K : ℕ} {contributions : List ℕ} {size : ℕ} {
         met = turn-start (openChecks file n K contributions size externals keys rows wide wkeys₀ long wexts₀);
       }
 
-  module _ {party from at place : ℕ} {answer : Answer} {wkeys wexts : List ℕ}
+  module _ {party from at place : ℕ} {answer : ℕ} {wkeys wexts : List ℕ}
       (r : OpenTo file n K contributions size externals keys rows wide wkeys₀ long wexts₀ party from at place answer wkeys wexts) (h : party < n) where
     abbrev keysPart : List ℕ
     keysPart = take (at + wide - at) (drop at wkeys)
@@ -125,9 +122,9 @@ module _ {file : List ℕ} {n K : ℕ} {contributions : List ℕ} {size : ℕ} {
     pub open-reads : length contributions ≡ n * size → from + size ≤ length contributions
     open-reads l = read-next contributions n size party from l (r .start) h
 
-    pub open-next : {own ys zs : List ℕ} {next both : Answer} → own ≡ part contributions from size
+    pub open-next : {own ys zs : List ℕ} {next both : ℕ} → own ≡ part contributions from size
         → length ys ≡ length keysPart → length zs ≡ length extsPart
-        → Meets (openChecked shakePad file n K party own externals keys rows keysPart extsPart) next
+        → Says (openChecked shakePad file n K party own externals keys rows keysPart extsPart) next
         → ys ≡ openKeys shakePad file n K party own externals keys rows keysPart extsPart
         → zs ≡ openExternals shakePad file n K party own externals keys rows keysPart extsPart
         → both ≡ followed answer next
@@ -156,9 +153,9 @@ module _ {file : List ℕ} {n K : ℕ} {contributions : List ℕ} {size : ℕ} {
               b;
         }
 
-  pub open-all : {party from at place : ℕ} {answer : Answer} {wkeys wexts : List ℕ}
+  pub open-all : {party from at place : ℕ} {answer : ℕ} {wkeys wexts : List ℕ}
       → OpenTo file n K contributions size externals keys rows wide wkeys₀ long wexts₀ party from at place answer wkeys wexts → n ≤ party
-      → Meets (allOf n (openChecks file n K contributions size externals keys rows wide wkeys₀ long wexts₀)) answer
+      → Says (allOf n (openChecks file n K contributions size externals keys rows wide wkeys₀ long wexts₀)) answer
   open-all r h = met-all (openChecks file n K contributions size externals keys rows wide wkeys₀ long wexts₀) (r .keysLevel) h (r .met)
 
 -- ---- decoding
@@ -170,14 +167,14 @@ module _ (file : List ℕ) (n : ℕ) (externals : List ℕ) (long : ℕ) (masks 
   abbrev pub decodedBytes : ℕ → List ℕ
   decodedBytes party = decodeAfter file (nthPiece externals long party) masks (nthPiece results₀ each party)
 
-  pub record DecodeTo (party from at : ℕ) (answer : Answer) (results : List ℕ) : Type 0 where
+  pub record DecodeTo (party from at : ℕ) (answer : ℕ) (results : List ℕ) : Type 0 where
     pub place : from ≡ party * long
     pub level : Level results₀ 0 party n each decodedBytes at results
     pub sized : (j : ℕ) → j < party → length (decodedBytes j) ≡ each
-    pub met : Meets (allOf party decodeChecks) answer
+    pub met : Says (allOf party decodeChecks) answer
 
 module _ {file : List ℕ} {n : ℕ} {externals : List ℕ} {long : ℕ} {masks : List ℕ} {each : ℕ} {results₀ : List ℕ} where
-  pub decode-start : length results₀ ≡ n * each → DecodeTo file n externals long masks each results₀ 0 0 0 Accepted results₀
+  pub decode-start : length results₀ ≡ n * each → DecodeTo file n externals long masks each results₀ 0 0 0 0 results₀
   decode-start l =
       record {
         place = omega arith;
@@ -186,14 +183,14 @@ module _ {file : List ℕ} {n : ℕ} {externals : List ℕ} {long : ℕ} {masks 
         met = turn-start (decodeChecks file n externals long masks each results₀);
       }
 
-  module _ {party from at : ℕ} {answer : Answer} {results : List ℕ}
+  module _ {party from at : ℕ} {answer : ℕ} {results : List ℕ}
       (r : DecodeTo file n externals long masks each results₀ party from at answer results) (h : party < n) where
     pub decode-reads : length externals ≡ n * long → from + long ≤ length externals
     decode-reads l = read-next externals n long party from l (r .place) h
 
-    pub decode-next : {own ys : List ℕ} {next both : Answer} → own ≡ part externals from long
+    pub decode-next : {own ys : List ℕ} {next both : ℕ} → own ≡ part externals from long
         → length ys ≡ length (take (at + each - at) (drop at results))
-        → Meets (decodeChecked file own masks (take (at + each - at) (drop at results))) next
+        → Says (decodeChecked file own masks (take (at + each - at) (drop at results))) next
         → ys ≡ decodeAfter file own masks (take (at + each - at) (drop at results))
         → both ≡ followed answer next
         → DecodeTo file n externals long masks each results₀ (party + 1) (from + long) (at + each) both (lent at (at + each) results ys)
@@ -213,6 +210,6 @@ module _ {file : List ℕ} {n : ℕ} {externals : List ℕ} {long : ℕ} {masks 
               (ap₂ (λ (a b : List ℕ). decodeChecked file a masks b) o′ p) b;
         }
 
-  pub decode-all : {party from at : ℕ} {answer : Answer} {results : List ℕ} → DecodeTo file n externals long masks each results₀ party from at answer results → n ≤ party
-      → Meets (allOf n (decodeChecks file n externals long masks each results₀)) answer
+  pub decode-all : {party from at : ℕ} {answer : ℕ} {results : List ℕ} → DecodeTo file n externals long masks each results₀ party from at answer results → n ≤ party
+      → Says (allOf n (decodeChecks file n externals long masks each results₀)) answer
   decode-all r h = met-all (decodeChecks file n externals long masks each results₀) (r .level) h (r .met)

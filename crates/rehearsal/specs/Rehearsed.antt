@@ -2,23 +2,22 @@
 -- Assumes nothing.
 use mathlib.Core.Path.{_≡_}
 use mathlib.Core.List.{List}
-use Prim.Native.Nat.{ℕ, _+_, _*_, _<_}
+use Prim.Native.Nat.{ℕ, _*_}
 use lib.ListN.{length, getD, replicate}
-use Rattle.lists.specs.Blocks.{nthPiece}
+use Rattle.lists.specs.Blocks.{blocks, tab, nthPiece}
 use Rattle.residue.specs.Residue.{add}
-use Rattle.residue.specs.Vector.{keyV}
-use Rattle.checks.specs.declared.Answer.{Answer}
-use Rattle.checks.specs.declared.Answer.the-variants.{Accepted}
 use Rattle.words.specs.declared.gate.Wire.{Wire}
 use Rattle.circuit.specs.Wires.{modulusAt, inputsIn}
 use Rattle.circuit.specs.File.{readFile}
 use Rattle.counts.specs.Counts.{rowsIn}
-use Rattle.scheme.specs.Contribution.{contributionSize}
 use Rattle.scheme.specs.Draw.{drawn}
-use Rattle.scheme.specs.Zero.{zeroKey, mask}
-use Rattle.plain.specs.Plain.{plainValues, plainOutputs}
+use Rattle.scheme.specs.Rows.{garbledRows, inputMasks, outputMasks}
+use Rattle.meter.specs.Meter.{raised}
+use Rattle.pads.specs.Pad.{shakePad}
 use Rattle.round.specs.Externals.{ownInputs}
+use Rattle.round.specs.InputKeys.{inputKey}
 use Rattle.round.specs.Round.{Lent}
+use Rattle.round.specs.Claim.{maskOf, drawOf, Delivered}
 
 module _ (file : List ℕ) (n K : ℕ) where
   abbrev wires : List Wire
@@ -51,22 +50,23 @@ module _ (file : List ℕ) (n K : ℕ) where
     pub wexternalsLong : length wexternals ≡ n * length wires
     pub resultsLong : length results ≡ n * length outputs
 
-  -- what the round comes to
-  pub record Rehearsed (contributions values : List ℕ) (meter : ℕ) (answer : Answer) (raised : ℕ) (wkeys wexternals results figures : List ℕ) : Type 0 where
+  -- what the round comes to: the number of the answer, the meter, and what each buffer holds in the end
+  pub record Rehearsed (contributions values : List ℕ) (meter : ℕ) (number total : ℕ)
+      (rows masks outs externals mine keys wkeys wexternals results figures : List ℕ) : Type 0 where
     -- "every call of the round in document 01 accepts"
-    pub accepts : answer ≡ Accepted
+    pub accepts : number ≡ 0
     -- the meter holds the rows of this circuit besides
-    pub counted : raised ≡ meter + rowsIn wires
-    -- "At every seat and on every wire, the key opened for each seat is that seat's zero key plus (value plus mask) times its offset"
-    pub keys : (party w each : ℕ) → party < n → w < length wires → each < n
-        → nthPiece (nthPiece (nthPiece wkeys (length wires * (n * K)) party) (n * K) w) K each
-        ≡ keyV (modulusAt wires w) (zeroKey wires (drawn 1 K wires (nthPiece contributions (contributionSize K wires) each)) w)
-        (add (modulusAt wires w) (getD (plainValues file wires values) w 0) (mask wires (drawn n K wires contributions) w))
-        (drawn 1 K wires (nthPiece contributions (contributionSize K wires) each) .offset (modulusAt wires w))
-    -- "the external byte is value plus mask modulo that prime"
-    pub externals : (party w : ℕ) → party < n → w < length wires
-        → getD (nthPiece wexternals (length wires) party) w 0
-        ≡ add (modulusAt wires w) (getD (plainValues file wires values) w 0) (mask wires (drawn n K wires contributions) w)
-    -- "each seat's decoded outputs, and plain evaluation's, are byte for byte the plain circuit's"
-    pub decoded : (party : ℕ) → party < n → nthPiece results (length outputs) party ≡ plainOutputs file wires outputs values
-    pub plainDecoded : figures ≡ plainOutputs file wires outputs values
+    pub counted : total ≡ raised meter (rowsIn wires)
+    -- what garbling wrote, from what all parties drew
+    pub rowsAre : rows ≡ garbledRows shakePad n K file wires (drawn n K wires contributions)
+    pub masksAre : masks ≡ inputMasks wires (drawn n K wires contributions)
+    pub outsAre : outs ≡ outputMasks wires outputs (drawn n K wires contributions)
+    -- the external values of all inputs, in wire order
+    pub externalsAre : externals
+        ≡ tab (inputsIn wires) (λ w. add (modulusAt wires w) (getD values w 0) (maskOf file n K contributions values w))
+    -- the parties' input keys from them, party by party, and by input, then party
+    pub mineAre : mine ≡ blocks n (λ party. blocks (inputsIn wires) (inputKey wires (drawOf file n K contributions values party) externals))
+    pub keysAre : keys ≡ blocks (inputsIn wires) (λ w. blocks n (λ party. inputKey wires (drawOf file n K contributions values party) externals w))
+    -- what demand 3 says of the rest: keys and external values of all wires, figures, and those of plain evaluation
+    pub delivers : Delivered file n K contributions values (λ party. nthPiece wkeys (length wires * (n * K)) party)
+        (λ party. nthPiece wexternals (length wires) party) (λ party. nthPiece results (length outputs) party) figures

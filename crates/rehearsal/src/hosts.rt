@@ -1,6 +1,6 @@
 // What a host does between the calls: a party's own of all inputs' bytes, the parties' external values in wire order, all keys by input, then party.
 ghost use mathlib.Core.Path.{_≡_};
-ghost use Prim.Native.Nat.{_*_, _≤_};
+ghost use Prim.Native.Nat.{_*_};
 ghost use mathlib.Core.Bool.{cond};
 ghost use lib.Dec.{eqb};
 ghost use lib.ListN.{length, getD, replicate};
@@ -43,31 +43,11 @@ pub fn blank() -> [u8; 1024]
     [0u8; 1024]
 }
 
-fn widened(p: u8) -> u32
-    ensures { λ r. ⌜ (r ≡ p) × (r ≤ 255) ⌝ }
-{
-    p as u32
-}
-
-// 1 where two numbers are equal, else 0.
-fn same(a: u32, b: u32) -> usize
-    ensures { λ r. ⌜ Counts 1 (mark (eqb a b)) r ⌝ }
-{
-    if a == b { 1 } else { 0 }
-}
-
 // 1 where a gate is an input that the party owns, else 0.
 fn owned(gate: Gate, party: u32) -> usize
     ensures { λ r. ⌜ Counts 1 (mark (ownedBy party gate)) r ⌝ }
 {
-    match gate {
-        Gate::Input(input) => same(widened(input.owner), party),
-        Gate::Add(_) => 0,
-        Gate::Scale(_) => 0,
-        Gate::Multiply(_) => 0,
-        Gate::Project(_) => 0,
-        Gate::Select(_) => 0,
-    }
+    counts::owned(gate, party) as usize
 }
 
 // What stands at a place, and 0 past the end.

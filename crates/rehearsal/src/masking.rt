@@ -2,20 +2,18 @@
 ghost use mathlib.Core.Path.{_≡_};
 ghost use Prim.Native.Nat.{_≤_};
 ghost use lib.ListN.{length, take};
-ghost use Rattle.checks.specs.Checked.{Meets};
 ghost use Rattle.circuit.specs.Held.{wiresIn, Held};
 ghost use Rattle.rehearsal.specs.Hosts.{scattered, ownChecks, ownAfter, gathered};
-ghost use Rattle.rehearsal.specs.All.{allOf};
+ghost use Rattle.rehearsal.specs.All.{Says, allOf};
 ghost use Rattle.round.specs.Externals.{externalsChecked, externalsAfter};
+use super::called::externals;
+use super::called::followed;
 use super::hosts::blank;
 use super::hosts::picked;
 use super::hosts::scatter;
-use checks::Answer;
-use checks::followed;
 use circuit::Circuit;
 use counts::inputs_of;
 use exchange::counted;
-use exchange::externals;
 use lists::piece;
 
 // The call, on the first `count` bytes of each buffer.
@@ -27,9 +25,9 @@ pub fn ask(
     values: &[u8],
     masks: &[u8],
     out: &mut [u8],
-) -> Answer
+) -> u32
     requires { ⌜ (count ≤ length (now values)) × ((count ≤ length (now masks)) × (count ≤ length (now out))) ⌝ }
-    ensures { λ r. ⌜ Meets (externalsChecked (now (file .entry)) n party (take count (now (values .entry))) (take count (now (masks .entry))) (take count (now (out .entry)))) r
+    ensures { λ r. ⌜ Says (externalsChecked (now (file .entry)) n party (take count (now (values .entry))) (take count (now (masks .entry))) (take count (now (out .entry)))) r
         × (take count (now (out .exit)) ≡ externalsAfter (now (file .entry)) n party (take count (now (values .entry))) (take count (now (masks .entry))) (take count (now (out .entry)))) ⌝ }
 {
     let own = piece(values, 0, count);
@@ -46,9 +44,9 @@ pub fn party_externals(
     values: &[u8],
     masks: &[u8],
     externals: &mut [u8],
-) -> Answer
+) -> u32
     requires { ⌜ Held circuit × (length (now externals) ≡ circuit .inputs) ⌝ }
-    ensures { λ r. ⌜ Meets (ownChecks (now (file .entry)) n (wiresIn circuit) (now (values .entry)) (now (masks .entry)) party) r
+    ensures { λ r. ⌜ Says (ownChecks (now (file .entry)) n (wiresIn circuit) (now (values .entry)) (now (masks .entry)) party) r
         × (now (externals .exit) ≡ scattered party (wiresIn circuit) (ownAfter (now (file .entry)) n (wiresIn circuit) (now (values .entry)) (now (masks .entry)) party) (now (externals .entry))) ⌝ }
 {
     let count = counted(inputs_of(circuit, party));
@@ -68,12 +66,12 @@ pub fn externals_of_all(
     values: &[u8],
     masks: &[u8],
     externals: &mut [u8],
-) -> Answer
+) -> u32
     requires { ⌜ Held circuit × (length (now externals) ≡ circuit .inputs) ⌝ }
-    ensures { λ r. ⌜ Meets (allOf n (ownChecks (now (file .entry)) n (wiresIn circuit) (now (values .entry)) (now (masks .entry)))) r
+    ensures { λ r. ⌜ Says (allOf n (ownChecks (now (file .entry)) n (wiresIn circuit) (now (values .entry)) (now (masks .entry)))) r
         × (now (externals .exit) ≡ gathered (now (file .entry)) n (wiresIn circuit) (now (values .entry)) (now (masks .entry)) (now (externals .entry)) n) ⌝ }
 {
-    let mut answer = Answer::Accepted;
+    let mut answer = 0;
     let mut party = 0;
     while party < n {
         let next = party_externals(file, circuit, n, party, values, masks, &mut *externals);

@@ -3,18 +3,16 @@ ghost use mathlib.Core.Path.{_≡_};
 ghost use Prim.Native.Nat.{_*_};
 ghost use lib.ListN.{length};
 ghost use Rattle.lists.specs.Blocks.{nthPiece};
-ghost use Rattle.checks.specs.Checked.{Meets};
 ghost use Rattle.pads.specs.Pad.{shakePad};
 ghost use Rattle.round.specs.InputKeys.{inputKeysChecked, inputKeysAfter};
 ghost use Rattle.round.specs.Open.{openChecked, openKeys, openExternals};
 ghost use Rattle.round.specs.Decode.{decodeChecked, decodeAfter};
-ghost use Rattle.rehearsal.specs.All.{allOf, Parts};
-use checks::Answer;
-use checks::followed;
-use exchange::decode;
-use exchange::input_keys;
+ghost use Rattle.rehearsal.specs.All.{Says, allOf, Parts};
+use super::called::decode;
+use super::called::followed;
+use super::called::input_keys;
+use super::called::open_rows;
 use lists::piece;
-use ring::open_rows;
 
 // At each party its input keys, from its contribution of `size` bytes; `each` bytes of `mine` are a party's.
 pub fn keys_of_all(
@@ -26,12 +24,12 @@ pub fn keys_of_all(
     externals: &[u8],
     each: usize,
     mine: &mut [u8],
-) -> Answer
+) -> u32
     requires { ⌜ (length (now contributions) ≡ n * size) × (length (now mine) ≡ n * each) ⌝ }
-    ensures { λ r. ⌜ Meets (allOf n (λ party. inputKeysChecked (now (file .entry)) n k party (nthPiece (now (contributions .entry)) size party) (now (externals .entry)) (nthPiece (now (mine .entry)) each party))) r
+    ensures { λ r. ⌜ Says (allOf n (λ party. inputKeysChecked (now (file .entry)) n k party (nthPiece (now (contributions .entry)) size party) (now (externals .entry)) (nthPiece (now (mine .entry)) each party))) r
         × Parts n each (λ party. inputKeysAfter (now (file .entry)) n k party (nthPiece (now (contributions .entry)) size party) (now (externals .entry)) (nthPiece (now (mine .entry)) each party)) (now (mine .exit)) ⌝ }
 {
-    let mut answer = Answer::Accepted;
+    let mut answer = 0;
     let mut from = 0;
     let mut at = 0;
     let mut party = 0;
@@ -70,13 +68,13 @@ pub fn open_all(
     wkeys: &mut [u8],
     long: usize,
     wexternals: &mut [u8],
-) -> Answer
+) -> u32
     requires { ⌜ (length (now contributions) ≡ n * size) × ((length (now wkeys) ≡ n * wide) × (length (now wexternals) ≡ n * long)) ⌝ }
-    ensures { λ r. ⌜ Meets (allOf n (λ party. openChecked shakePad (now (file .entry)) n k party (nthPiece (now (contributions .entry)) size party) (now (externals .entry)) (now (keys .entry)) (now (rows .entry)) (nthPiece (now (wkeys .entry)) wide party) (nthPiece (now (wexternals .entry)) long party))) r
+    ensures { λ r. ⌜ Says (allOf n (λ party. openChecked shakePad (now (file .entry)) n k party (nthPiece (now (contributions .entry)) size party) (now (externals .entry)) (now (keys .entry)) (now (rows .entry)) (nthPiece (now (wkeys .entry)) wide party) (nthPiece (now (wexternals .entry)) long party))) r
         × (Parts n wide (λ party. openKeys shakePad (now (file .entry)) n k party (nthPiece (now (contributions .entry)) size party) (now (externals .entry)) (now (keys .entry)) (now (rows .entry)) (nthPiece (now (wkeys .entry)) wide party) (nthPiece (now (wexternals .entry)) long party)) (now (wkeys .exit))
         × Parts n long (λ party. openExternals shakePad (now (file .entry)) n k party (nthPiece (now (contributions .entry)) size party) (now (externals .entry)) (now (keys .entry)) (now (rows .entry)) (nthPiece (now (wkeys .entry)) wide party) (nthPiece (now (wexternals .entry)) long party)) (now (wexternals .exit))) ⌝ }
 {
-    let mut answer = Answer::Accepted;
+    let mut answer = 0;
     let mut from = 0;
     let mut at = 0;
     let mut place = 0;
@@ -117,12 +115,12 @@ pub fn decode_all(
     masks: &[u8],
     each: usize,
     results: &mut [u8],
-) -> Answer
+) -> u32
     requires { ⌜ (length (now externals) ≡ n * long) × (length (now results) ≡ n * each) ⌝ }
-    ensures { λ r. ⌜ Meets (allOf n (λ party. decodeChecked (now (file .entry)) (nthPiece (now (externals .entry)) long party) (now (masks .entry)) (nthPiece (now (results .entry)) each party))) r
+    ensures { λ r. ⌜ Says (allOf n (λ party. decodeChecked (now (file .entry)) (nthPiece (now (externals .entry)) long party) (now (masks .entry)) (nthPiece (now (results .entry)) each party))) r
         × Parts n each (λ party. decodeAfter (now (file .entry)) (nthPiece (now (externals .entry)) long party) (now (masks .entry)) (nthPiece (now (results .entry)) each party)) (now (results .exit)) ⌝ }
 {
-    let mut answer = Answer::Accepted;
+    let mut answer = 0;
     let mut from = 0;
     let mut at = 0;
     let mut party = 0;

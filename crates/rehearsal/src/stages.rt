@@ -4,17 +4,16 @@ ghost use Prim.Native.Nat.{_*_};
 ghost use lib.ListN.{length};
 ghost use Rattle.circuit.specs.Held.{wiresIn, Held};
 ghost use Rattle.rehearsal.specs.Stages.{Prepared, Keyed, Finished};
+use super::called::Metered;
+use super::called::followed;
+use super::called::garble;
 use super::hosts::put_keys_by_input;
 use super::masking::externals_of_all;
 use super::parties::decode_all;
 use super::parties::keys_of_all;
 use super::parties::open_all;
-use checks::Answer;
-use checks::followed;
 use circuit::Circuit;
 use exchange::counted;
-use ring::Metered;
-use ring::garble;
 
 // Garbling, from all contributions; then at each party the external values of its own inputs, with the masks that garbling wrote.
 pub fn prepare(
@@ -31,7 +30,7 @@ pub fn prepare(
     meter: u32,
 ) -> Metered
     requires { ⌜ Held circuit × (length (now externals) ≡ circuit .inputs) ⌝ }
-    ensures { λ r. ⌜ Prepared (now (file .entry)) (wiresIn circuit) n k (now (contributions .entry)) (now (values .entry)) meter (now (rows .entry)) (now (inputs .entry)) (now (outputs .entry)) (now (externals .entry)) (r .answer) (r .meter) (now (rows .exit)) (now (inputs .exit)) (now (outputs .exit)) (now (externals .exit)) ⌝ }
+    ensures { λ r. ⌜ Prepared (now (file .entry)) (wiresIn circuit) n k (now (contributions .entry)) (now (values .entry)) meter (now (rows .entry)) (now (inputs .entry)) (now (outputs .entry)) (now (externals .entry)) (r .number) (r .meter) (now (rows .exit)) (now (inputs .exit)) (now (outputs .exit)) (now (externals .exit)) ⌝ }
 {
     let garbled = garble(
         file,
@@ -44,11 +43,11 @@ pub fn prepare(
         meter,
     );
     let masked = externals_of_all(file, circuit, n, values, &*inputs, &mut *externals);
-    let first = garbled.answer;
-    let answer = followed(first, masked);
+    let first = garbled.number;
+    let number = followed(first, masked);
     let raised = garbled.meter;
     Metered {
-        answer,
+        number,
         meter: raised,
     }
 }
@@ -65,7 +64,7 @@ pub fn hand_keys(
     each: usize,
     mine: &mut [u8],
     keys: &mut [u8],
-) -> Answer
+) -> u32
     requires { ⌜ (length (now contributions) ≡ n * size) × ((each ≡ inputs * k) × ((length (now mine) ≡ n * each) × (length (now keys) ≡ inputs * (n * k)))) ⌝ }
     ensures { λ r. ⌜ Keyed (now (file .entry)) n k (now (contributions .entry)) size (now (externals .entry)) inputs each (now (mine .entry)) r (now (mine .exit)) (now (keys .exit)) ⌝ }
 {
@@ -92,7 +91,7 @@ pub fn finish(
     wkeys: &mut [u8],
     wexternals: &mut [u8],
     results: &mut [u8],
-) -> Answer
+) -> u32
     requires { ⌜ (length (now contributions) ≡ n * size) × ((length (now wkeys) ≡ n * wide) × ((length (now wexternals) ≡ n * long) × (length (now results) ≡ n * each))) ⌝ }
     ensures { λ r. ⌜ Finished (now (file .entry)) n k (now (contributions .entry)) size (now (externals .entry)) (now (keys .entry)) (now (rows .entry)) (now (masks .entry)) wide long each (now (wkeys .entry)) (now (wexternals .entry)) (now (results .entry)) r (now (wkeys .exit)) (now (wexternals .exit)) (now (results .exit)) ⌝ }
 {

@@ -1,15 +1,15 @@
 // A whole round: every call that document 01 names, for all parties.
 ghost use Rattle.round.specs.Claim.{Conditions};
 ghost use Rattle.rehearsal.specs.Rehearsed.{lentOf, Whole, Rehearsed};
+use super::called::Metered;
+use super::called::followed;
+use super::called::plain;
 use super::stages::finish;
 use super::stages::hand_keys;
 use super::stages::prepare;
-use checks::followed;
 use circuit::read;
 use contribution::contribution_size;
 use exchange::counted;
-use plain::plain;
-use ring::Metered;
 
 // Under demand 3's conditions every call accepts, each party opens value plus mask on every wire, and decodes the plain circuit's outputs.
 pub fn rehearse(
@@ -32,7 +32,7 @@ pub fn rehearse(
 ) -> Metered
     requires { ⌜ Conditions (now file) n k (now contributions) (now values) meter (lentOf (now file) n k (now rows) (now inputs) (now outputs) (now mine) (now wkeys) (now wexternals) (now results) (now figures))
         × Whole (now file) n k (now externals) (now mine) (now keys) (now wkeys) (now wexternals) (now results) ⌝ }
-    ensures { λ r. ⌜ Rehearsed (now (file .entry)) n k (now (contributions .entry)) (now (values .entry)) meter (r .answer) (r .meter) (now (wkeys .exit)) (now (wexternals .exit)) (now (results .exit)) (now (figures .exit)) ⌝ }
+    ensures { λ r. ⌜ Rehearsed (now (file .entry)) n k (now (contributions .entry)) (now (values .entry)) meter (r .number) (r .meter) (now (rows .exit)) (now (inputs .exit)) (now (outputs .exit)) (now (externals .exit)) (now (mine .exit)) (now (keys .exit)) (now (wkeys .exit)) (now (wexternals .exit)) (now (results .exit)) (now (figures .exit)) ⌝ }
 {
     let reading = read(file);
     let circuit = reading.circuit;
@@ -90,11 +90,11 @@ pub fn rehearse(
     let evaluated = plain(file, values, &mut *figures);
     let last = followed(ended, evaluated);
     let rest = followed(handed, last);
-    let first = begun.answer;
-    let answer = followed(first, rest);
+    let first = begun.number;
+    let number = followed(first, rest);
     let raised = begun.meter;
     Metered {
-        answer,
+        number,
         meter: raised,
     }
 }

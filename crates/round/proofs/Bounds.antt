@@ -11,7 +11,7 @@ use Rattle.residue.specs.Vector.{AllBelow}
 use Rattle.checks.specs.declared.Refusal.{Refusal}
 use Rattle.checks.specs.declared.Refusal.the-variants.{ValueTooLarge, KeyOrRowTooLarge}
 use Rattle.checks.specs.Checked.Checked.{passed}
-use Rattle.checks.proofs.Passed.{noneBad-passed, noneBad-none, somewhere-passed, somewhere-none}
+use Rattle.checks.proofs.Passed.{noneBad-passed, somewhere-passed, somewhere-none}
 use Rattle.words.specs.declared.gate.Wire.{Wire}
 use Rattle.circuit.specs.Wires.{modulusAt, inputsIn}
 use Rattle.counts.specs.Counts.{rowsOf}
@@ -37,10 +37,6 @@ module _ (xs : List ℕ) (modulus : ℕ → ℕ) where
   pub values-passed : ((i : ℕ) → i < length xs → getD xs i 0 < modulus i) → valuesChecked xs modulus ≡ passed
   unfolding valuesChecked
   values-passed below = noneBad-passed (length xs) (tooLarge xs modulus) ValueTooLarge (λ i h. below-tooLarge xs modulus i (below i h))
-
-  pub values-below : valuesChecked xs modulus ≡ passed → (i : ℕ) → i < length xs → getD xs i 0 < modulus i
-  unfolding valuesChecked
-  values-below e i h = tooLarge-below xs modulus i (noneBad-none (length xs) (tooLarge xs modulus) ValueTooLarge e i h)
 
 -- ---- 16 and 18
 

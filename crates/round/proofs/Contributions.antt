@@ -19,7 +19,7 @@ use Rattle.scheme.specs.Draw.{drawn}
 use Rattle.scheme.proofs.Used.{someBelow-none, someBelow-fails}
 use Rattle.scheme.proofs.ByteModuli.{length-contributionModuli}
 use Rattle.scheme.proofs.EachBelow.{EachBelow, each-nth, nth-each}
-use Rattle.scheme.proofs.Contributed.{Contributed, contributed-own, length-nth, nth-whole}
+use Rattle.scheme.proofs.Contributed.{Contributed, length-nth, nth-whole}
 use Rattle.scheme.proofs.Drawn.{own-offset, offset-nth}
 use Rattle.round.specs.Bytes.{allZero, contributionsChecked, zeroOffset, offsetsChecked}
 use Rattle.round.proofs.Bounds.{bytes-passed, bytes-below}
@@ -87,10 +87,6 @@ module _ (n K : ℕ) (wires : List Wire) (contributions : List ℕ) where
 -- ---- what passes for all parties passes for party s alone, and its offsets are not zero
 
 module _ (n K : ℕ) (wires : List Wire) (contributions : List ℕ) (s : ℕ) (party : s < n) where
-  pub own-contribution-passed : Contributed n K wires contributions → contributionsChecked 1 K wires (nthPiece contributions (contributionSize K wires) s) ≡ passed
-  own-contribution-passed r =
-      contributions-passed 1 K wires (nthPiece contributions (contributionSize K wires) s) (contributed-own r s party)
-
   module _ (long : length contributions ≡ n * contributionSize K wires) (fine : offsetsChecked n K wires contributions ≡ passed) where
     pub own-offsets-passed : offsetsChecked 1 K wires (nthPiece contributions (contributionSize K wires) s) ≡ passed
     own-offsets-passed =

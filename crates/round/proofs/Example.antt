@@ -1,9 +1,9 @@
 -- The claim at work: the round of specs/Example.antt meets every condition, so under SHAKE256 both parties decode 1 and 3. No pad is computed
 -- here; that the conditions can be met is.
 -- Assumes nothing.
-use mathlib.Core.Path.{_≡_, refl, _∙_}
-use mathlib.Core.List.{[], _∷_}
-use Prim.Native.Nat.{ℕ, zero, suc, _+_, _*_, _≤_, _<_}
+use mathlib.Core.Path.{_≡_, refl, sym, ap, ap₂, subst, _∙_}
+use mathlib.Core.List.{List, [], _∷_}
+use Prim.Native.Nat.{ℕ, zero, suc, _*_, _<_}
 use native.Mathlib.Omega.{arith}
 use lib.ListN.{length, getD, length-replicate}
 use Rattle.lists.specs.Blocks.{blocks, part, sumTo}
@@ -14,9 +14,10 @@ use Rattle.residue.specs.Prime.{remaindersBelow, isPrime}
 use Rattle.residue.specs.Residue.{add, mul}
 use Rattle.checks.specs.Checked.{unless, noneBad, unlessFree, noneBadFree}
 use Rattle.checks.specs.Checked.Checked.{passed}
+use Rattle.words.specs.declared.gate.Wire.{Wire}
 use Rattle.words.specs.Reading.{check, afterEntry, readWord}
 use Rattle.circuit.specs.Wires.{modulusAt, inputsIn}
-use Rattle.circuit.specs.File.{accepted, ended, after, readFrom, headed, readFile}
+use Rattle.circuit.specs.File.{Read, accepted, ended, after, readFrom, headed, readFile}
 use Rattle.counts.specs.Counts.{rowsIn}
 use Rattle.counts.specs.Moduli.{someBelow}
 use Rattle.scheme.specs.Contribution.{offsetAt, contributionSize, contributionModuli}
@@ -82,20 +83,32 @@ space : HasSpace 0 (rowsIn wires)
 unfolding wires sumTo
 space = omega arith
 
+wires-read : readFile file .wires ≡ wires
+wires-read = ap (λ (r : Read). r .wires) reads
+
+outputs-read : readFile file .outputs ≡ outputs
+outputs-read = ap (λ (r : Read). r .outputs) reads
+
+-- what holds of the wires holds of those that are read
+as-read : (P : List Wire → Type 0) → P wires → P (readFile file .wires)
+as-read P = subst P (sym wires-read)
+
 conditions : Conditions file 2 1 contributions values 0 lent
 conditions =
     record {
       accepted = rw reads;
       parties = omega arith;
-      owners = rw reads owners;
+      owners = as-read (λ ws. (w : ℕ) → w < inputsIn ws → ownerAt ws w < 2) owners;
       keyLength = omega arith;
-      contributionsLength = rw reads size;
-      contributionsBytes = rw reads bytes;
-      offsets = rw reads offsets;
-      valuesLength = rw reads values-size;
-      valuesBelow = rw reads below;
-      lengths = rw reads lengths;
-      space = rw reads space;
+      contributionsLength = as-read (λ ws. length contributions ≡ 2 * contributionSize 1 ws) size;
+      contributionsBytes = as-read (λ ws. contributionsChecked 2 1 ws contributions ≡ passed) bytes;
+      offsets = as-read (λ ws. offsetsChecked 2 1 ws contributions ≡ passed) offsets;
+      valuesLength = as-read (λ ws. length values ≡ inputsIn ws) values-size;
+      valuesBelow = as-read (λ ws. (w : ℕ) → w < inputsIn ws → getD values w 0 < modulusAt ws w) below;
+      lengths =
+          as-read (λ ws. LengthsRight 2 1 ws (readFile file .outputs) lent)
+          (subst (λ (outs : List ℕ). LengthsRight 2 1 wires outs lent) (sym outputs-read) lengths);
+      space = as-read (λ ws. HasSpace 0 (rowsIn ws)) space;
     }
 
 promise : Promise shakePad file 2 1 contributions values 0 lent
@@ -106,4 +119,5 @@ unfolding plainOutputs plainValues plainTo plainBy grown extended add mul blocks
 plain = refl
 
 pub both-decode : (party : ℕ) → party < 2 → figures shakePad file 2 1 contributions values 0 lent party ≡ 1 ∷ 3 ∷ []
-both-decode party h = promise .decoded party h ∙ rw reads plain
+both-decode party h =
+    promise .delivers .decoded party h ∙ ap₂ (λ (ws : List Wire) (outs : List ℕ). plainOutputs file ws outs values) wires-read outputs-read ∙ plain

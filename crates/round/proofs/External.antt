@@ -42,17 +42,15 @@ module _ {pad : Pad} {file : List ℕ} {n K : ℕ} {contributions values : List 
   masks = inputMasks pad file n K contributions values meter lent
 
   abbrev own : List ℕ → ℕ → List ℕ
-  own = ownOf pad file n K contributions values meter lent
+  own = ownOf wires
 
   abbrev inputs : List ℕ
   inputs = externals pad file n K contributions values meter lent
 
   own-size : (all : List ℕ) (party : ℕ) → length (own all party) ≡ length (ownInputs party wires)
-  unfolding ownOf
   own-size all party = length-map (ownInputs party wires) (λ w. getD all w 0)
 
   own-at : (all : List ℕ) (party i : ℕ) → i < length (ownInputs party wires) → getD (own all party) i 0 ≡ getD all (getD (ownInputs party wires) i 0) 0
-  unfolding ownOf
   own-at all party i h = map-at (λ w. getD all w 0) (ownInputs party wires) i h
 
   pub mask-fits : (w : ℕ) → w < inputsIn wires → getD masks w 0 < modulusAt wires w

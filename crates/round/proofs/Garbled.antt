@@ -51,11 +51,11 @@ module _ {pad : Pad} {file : List ℕ} {n K : ℕ} {contributions values : List 
   unfolding rows garbleRows garbling
   rows-are = afterwards-passed garbles _ _
 
-  input-masks-are : inputMasks pad file n K contributions values meter lent ≡ Rows.inputMasks wires draw
+  pub input-masks-are : inputMasks pad file n K contributions values meter lent ≡ Rows.inputMasks wires draw
   unfolding inputMasks garbleInputMasks garbling
   input-masks-are = afterwards-passed garbles _ _
 
-  output-masks-are : outputMasks pad file n K contributions values meter lent ≡ Rows.outputMasks wires outputs draw
+  pub output-masks-are : outputMasks pad file n K contributions values meter lent ≡ Rows.outputMasks wires outputs draw
   unfolding outputMasks garbleOutputMasks garbling
   output-masks-are = afterwards-passed garbles _ _
 

@@ -46,7 +46,7 @@ module _ {pad : Pad} {file : List ℕ} {n K : ℕ} {contributions values : List 
   inputs = externals pad file n K contributions values meter lent
 
   abbrev own : ℕ → Draw
-  own party = drawn 1 K wires (contributionOf pad file n K contributions values meter lent party)
+  own party = drawn 1 K wires (contributionOf K wires contributions party)
 
   -- all parties' keys of an input
   abbrev key : ℕ → List ℕ
@@ -89,12 +89,14 @@ module _ {pad : Pad} {file : List ℕ} {n K : ℕ} {contributions values : List 
       (own-part start party h .offset w made)
       ∙ sym (key-part (modulusAt wires w) K party (zeroKey wires draw w) (getD inputs w 0) (draw .offset (modulusAt wires w)))
 
+  pub own-keys-are : (party : ℕ) → party < n
+      → ownKeys pad file n K contributions values meter lent party ≡ blocks (inputsIn wires) (inputKey wires (own party) inputs)
+  unfolding ownKeys inputKeysAfter inputKeys
+  own-keys-are party h = afterwards-passed (has-keys party h) _ _
+
   own-keys : (party : ℕ) → party < n
       → ownKeys pad file n K contributions values meter lent party ≡ blocks (inputsIn wires) (λ w. nthPiece (key w) K party)
-  unfolding ownKeys inputKeysAfter inputKeys
-  own-keys party h =
-      afterwards-passed (has-keys party h) _ _
-      ∙ blocks-ext (inputsIn wires) _ (λ w. nthPiece (key w) K party) (λ w l. inputKey-is party w h l)
+  own-keys party h = own-keys-are party h ∙ blocks-ext (inputsIn wires) _ (λ w. nthPiece (key w) K party) (λ w l. inputKey-is party w h l)
 
   own-key : (party w : ℕ) → party < n → w < inputsIn wires
       → nthPiece (ownKeys pad file n K contributions values meter lent party) K w ≡ nthPiece (key w) K party
@@ -109,6 +111,12 @@ module _ {pad : Pad} {file : List ℕ} {n K : ℕ} {contributions values : List 
   keys-are =
       blocks-ext (inputsIn wires) _ key
       (λ w l. blocks-ext n _ (λ party. nthPiece (key w) K party) (λ party h. own-key party w h l) ∙ blocks-nth n K (key w) (key-size w l))
+
+  pub keys-handed : keys pad file n K contributions values meter lent
+      ≡ blocks (inputsIn wires) (λ w. blocks n (λ party. inputKey wires (own party) inputs w))
+  unfolding keys
+  keys-handed =
+      blocks-ext (inputsIn wires) _ _ (λ w l. blocks-ext n _ _ (λ party h. own-key party w h l ∙ sym (inputKey-is party w h l)))
 
   pub keys-size : length (keys pad file n K contributions values meter lent) ≡ inputsIn wires * (n * K)
   keys-size = ap length keys-are ∙ length-blocks-same (inputsIn wires) (n * K) key key-size

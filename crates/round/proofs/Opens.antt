@@ -69,7 +69,7 @@ module _ {pad : Pad} {file : List ℕ} {n K : ℕ} {contributions values : List 
   garbled = rows pad file n K contributions values meter lent
 
   abbrev contribution : ℕ → List ℕ
-  contribution party = contributionOf pad file n K contributions values meter lent party
+  contribution = contributionOf K wires contributions
 
   abbrev own : ℕ → Draw
   own party = drawn 1 K wires (contribution party)

@@ -22,20 +22,16 @@ module _ {pad : Pad} {file : List ℕ} {n K : ℕ} {contributions values : List 
   wires = readFile file .wires
 
   abbrev contribution : List ℕ
-  contribution = contributionOf pad file n K contributions values meter lent party
+  contribution = contributionOf K wires contributions party
 
   pub own-contribution : length contribution ≡ contributionSize K wires
-  unfolding contributionOf
   own-contribution = start .drew .size party h
 
   pub own-alone : Contributed 1 K wires contribution
-  unfolding contributionOf
   own-alone = start .drew .alone party h
 
   pub own-offsets : offsetsChecked 1 K wires contribution ≡ passed
-  unfolding contributionOf
   own-offsets = start .drew .offsets party h
 
   pub own-part : OwnPart n K party wires (drawn n K wires contributions) (drawn 1 K wires contribution)
-  unfolding contributionOf
   own-part = start .drew .own party h

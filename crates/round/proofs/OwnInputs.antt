@@ -7,10 +7,10 @@ use Prim.Native.Nat.{ℕ, zero, suc, _+_, _≤_, _<_}
 use native.Mathlib.Nat.{not-suc-le-zero, add-zero, le-refl}
 use native.Mathlib.Omega.{arith}
 use lib.ListN.{length, getD}
-use borrow.Author.Tests.{eqb-true, eq-eqb}
-use Rattle.lists.specs.Blocks.{blocks, tab, sumTo}
-use Rattle.lists.proofs.Sums.{sumTo-mono, sumTo-fits}
-use Rattle.lists.proofs.Blocks.{length-blocks, getD-blocks, length-tab, getD-tab}
+use borrow.Author.Tests.{eqb-true}
+use Rattle.lists.specs.Blocks.{blocks, sumTo}
+use Rattle.lists.proofs.Sums.{sumTo-fits}
+use Rattle.lists.proofs.Blocks.{length-blocks, getD-blocks}
 use Rattle.words.specs.declared.gate.Owned.{Owned}
 use Rattle.words.specs.declared.gate.Gate.{Gate}
 use Rattle.words.specs.declared.gate.Gate.the-variants.{Input, Add, Scale, Multiply, Project, Select}
@@ -75,15 +75,6 @@ picked-entry (suc n) test k h =
     last true e (suc i) l = absurd (omega arith)
     last false e i l = absurd (omega arith)
 
--- ascending
-pub picked-ascends : (n : ℕ) (test : ℕ → Bool) (i j : ℕ) → i < j → j < length (picked n test) → getD (picked n test) i 0 < getD (picked n test) j 0
-picked-ascends n test i j h l =
-    let a = picked-entry n test i (omega arith) in
-    let b = picked-entry n test j l in
-    let not-above : getD (picked n test) j 0 ≤ getD (picked n test) i 0 → ⊥ =
-    λ w. omega (arith, sumTo-mono (getD (picked n test) j 0) (getD (picked n test) i 0) (λ v. mark (test v)) w, a .place, b .place) in
-    omega arith
-
 -- ---- a party's own inputs
 
 -- the party owns wire w
@@ -94,10 +85,6 @@ owns party wires w = ownedBy party (wireAt wires w .gate)
 abbrev pub placeOf : ℕ → List Wire → ℕ → ℕ
 placeOf party wires w = sumTo w (λ v. mark (ownedBy party (wireAt wires v .gate)))
 
--- what f gives for each of a party's own inputs, in their order: as its values, masks and external values are lent
-abbrev pub ownOf : ℕ → List Wire → (ℕ → ℕ) → List ℕ
-ownOf party wires f = tab (length (ownInputs party wires)) (λ i. f (getD (ownInputs party wires) i 0))
-
 -- a gate that a party owns is an input of it
 pub owned-input : (party : ℕ) (gate : Gate) → ownedBy party gate ≡ true → (g : Owned) × ((gate ≡ Input g) × (g .owner ≡ party))
 owned-input party (Input g) e = (g, (refl, eqb-true (g .owner) party e))
@@ -106,9 +93,6 @@ owned-input party (Scale g) e = absurd (true≢false (sym e))
 owned-input party (Multiply g) e = absurd (true≢false (sym e))
 owned-input party (Project g) e = absurd (true≢false (sym e))
 owned-input party (Select g) e = absurd (true≢false (sym e))
-
-pub owner-owns : {gate : Gate} {g : Owned} → gate ≡ Input g → ownedBy (g .owner) gate ≡ true
-owner-owns {gate} {g} e = ap (ownedBy (g .owner)) e ∙ eq-eqb (g .owner) (g .owner) refl
 
 module _ (party : ℕ) (wires : List Wire) where
   pub own-length : length (ownInputs party wires) ≡ inputsOf party wires
@@ -126,18 +110,3 @@ module _ (party : ℕ) (wires : List Wire) where
   pub own-entry : (k : ℕ) → k < length (ownInputs party wires) → Picked (length wires) (owns party wires) k (getD (ownInputs party wires) k 0)
   unfolding ownInputs
   own-entry k h = picked-entry (length wires) (owns party wires) k h
-
-  pub own-ascends : (i j : ℕ) → i < j → j < length (ownInputs party wires) → getD (ownInputs party wires) i 0 < getD (ownInputs party wires) j 0
-  unfolding ownInputs
-  own-ascends i j h l = picked-ascends (length wires) (owns party wires) i j h l
-
-  -- what stands in such a list at a place, and at the place of a wire
-  module _ (f : ℕ → ℕ) where
-    pub ownOf-length : length (ownOf party wires f) ≡ length (ownInputs party wires)
-    ownOf-length = length-tab (length (ownInputs party wires)) (λ i. f (getD (ownInputs party wires) i 0))
-
-    pub ownOf-at : (k d : ℕ) → k < length (ownInputs party wires) → getD (ownOf party wires f) k d ≡ f (getD (ownInputs party wires) k 0)
-    ownOf-at k d h = getD-tab (length (ownInputs party wires)) (λ i. f (getD (ownInputs party wires) i 0)) k d h
-
-    pub ownOf-wire : (w d : ℕ) → w < length wires → owns party wires w ≡ true → getD (ownOf party wires f) (placeOf party wires w) d ≡ f w
-    ownOf-wire w d h e = ownOf-at (placeOf party wires w) d (own-inside w h e) ∙ ap f (own-at w 0 h e)

@@ -1,14 +1,14 @@
 -- Document 01, "Where each check stands": the checks of contributions, keys and rows, 16 to 18.
 -- Assumes nothing.
-use mathlib.Core.Bool.{Bool, true, false, _&&_}
+use mathlib.Core.Bool.{Bool, true, _&&_}
 use mathlib.Core.List.{List, [], _∷_}
-use Prim.Native.Nat.{ℕ, _+_, _*_}
+use Prim.Native.Nat.{ℕ, _*_}
 use lib.Dec.{eqb}
 use lib.ListN.{length, getD}
 use Rattle.lists.specs.Blocks.{blocks, runs, part, nthPiece}
 use Rattle.checks.specs.declared.Refusal.{Refusal}
 use Rattle.checks.specs.declared.Refusal.the-variants.{ContributionTooLarge, ZeroOffset, KeyOrRowTooLarge}
-use Rattle.checks.specs.Checked.{Checked, noneBad, noneBadFree, andThen}
+use Rattle.checks.specs.Checked.{Checked, noneBad, noneBadFree}
 use Rattle.words.specs.declared.gate.Wire.{Wire}
 use Rattle.circuit.specs.Wires.{modulusAt, inputsIn}
 use Rattle.counts.specs.Counts.{rowsOf}

@@ -3,26 +3,26 @@
 -- Assumes nothing.
 use mathlib.Core.Path.{_≡_}
 use mathlib.Core.List.{List}
-use Prim.Native.Nat.{ℕ, _+_, _*_, _≤_, _<_}
+use Prim.Native.Nat.{ℕ, _*_, _≤_, _<_}
 use lib.ListN.{length, getD}
 use Rattle.lists.specs.Blocks.{nthPiece}
 use Rattle.residue.specs.Residue.{add}
 use Rattle.residue.specs.Vector.{keyV}
 use Rattle.checks.specs.declared.Answer.the-variants.{Accepted}
-use Rattle.checks.specs.Checked.{Checked}
 use Rattle.checks.specs.Checked.Checked.{passed}
 use Rattle.words.specs.declared.gate.Wire.{Wire}
-use Rattle.circuit.specs.Wires.{wireAt, modulusAt, inputsIn}
+use Rattle.circuit.specs.Wires.{modulusAt, inputsIn}
 use Rattle.circuit.specs.File.{readFile}
 use Rattle.counts.specs.Counts.{rowsIn, inputsOf}
 use Rattle.scheme.specs.Contribution.{contributionSize}
-use Rattle.scheme.specs.Draw.{drawn}
+use Rattle.scheme.specs.Draw.{Draw, drawn}
 use Rattle.scheme.specs.Zero.{zeroKey, mask}
 use Rattle.pads.specs.Pad.{Pad}
 use Rattle.plain.specs.Plain.{plainValues, plainOutputs}
 use Rattle.round.specs.Bytes.{contributionsChecked, offsetsChecked}
 use Rattle.meter.specs.Meter.{HasSpace}
-use Rattle.round.specs.Round.{Lent, ownerAt, contributionOf, garbling, externalValues, inputKeys, opening, decoding, plainly, wireKeys, wireExternals, figures, plainFigures}
+use Rattle.round.specs.Round as round
+use Rattle.round.specs.Round.{Lent, ownerAt, contributionOf}
 
 -- "the lent lengths be right", of the buffers that calls write
 pub record LengthsRight (n K : ℕ) (wires : List Wire) (outputs : List ℕ) (lent : Lent) : Type 0 where
@@ -36,55 +36,75 @@ pub record LengthsRight (n K : ℕ) (wires : List Wire) (outputs : List ℕ) (le
   pub results : (party : ℕ) → party < n → length (lent .results party) ≡ length outputs
   pub plain : length (lent .plain) ≡ length outputs
 
--- the conditions of demand 3
-pub record Conditions (file : List ℕ) (n K : ℕ) (contributions values : List ℕ) (meter : ℕ) (lent : Lent) : Type 0 where
-  -- "every circuit that the reader accepts"
-  pub accepted : readFile file .answer ≡ Accepted
-  -- "two to eight seats taking part"
-  pub parties : (2 ≤ n) × (n ≤ 8)
-  -- "every input's owner [is] among [them]"
-  pub owners : (w : ℕ) → w < inputsIn (readFile file .wires) → ownerAt (readFile file .wires) w < n
-  -- "key length and contributions pass the checks"
-  pub keyLength : (1 ≤ K) × (K ≤ 128)
-  pub contributionsLength : length contributions ≡ n * contributionSize K (readFile file .wires)
-  pub contributionsBytes : contributionsChecked n K (readFile file .wires) contributions ≡ passed
-  pub offsets : offsetsChecked n K (readFile file .wires) contributions ≡ passed
-  -- "each input [is] below its modulus"
-  pub valuesLength : length values ≡ inputsIn (readFile file .wires)
-  pub valuesBelow : (w : ℕ) → w < inputsIn (readFile file .wires) → getD values w 0 < modulusAt (readFile file .wires) w
-  -- "the lent lengths [are] right"
-  pub lengths : LengthsRight n K (readFile file .wires) (readFile file .outputs) lent
-  -- "the row meter [has] space"
-  pub space : HasSpace meter (rowsIn (readFile file .wires))
+module _ (file : List ℕ) (n K : ℕ) (contributions values : List ℕ) where
+  abbrev wires : List Wire
+  wires = readFile file .wires
+
+  abbrev outputs : List ℕ
+  outputs = readFile file .outputs
+
+  -- the conditions of demand 3
+  pub record Conditions (meter : ℕ) (lent : Lent) : Type 0 where
+    -- "every circuit that the reader accepts"
+    pub accepted : readFile file .answer ≡ Accepted
+    -- "two to eight seats taking part"
+    pub parties : (2 ≤ n) × (n ≤ 8)
+    -- "every input's owner [is] among [them]"
+    pub owners : (w : ℕ) → w < inputsIn wires → ownerAt wires w < n
+    -- "key length and contributions pass the checks"
+    pub keyLength : (1 ≤ K) × (K ≤ 128)
+    pub contributionsLength : length contributions ≡ n * contributionSize K wires
+    pub contributionsBytes : contributionsChecked n K wires contributions ≡ passed
+    pub offsets : offsetsChecked n K wires contributions ≡ passed
+    -- "each input [is] below its modulus"
+    pub valuesLength : length values ≡ inputsIn wires
+    pub valuesBelow : (w : ℕ) → w < inputsIn wires → getD values w 0 < modulusAt wires w
+    -- "the lent lengths [are] right"
+    pub lengths : LengthsRight n K wires outputs lent
+    -- "the row meter [has] space"
+    pub space : HasSpace meter (rowsIn wires)
+
+  -- wire w's value, "being the plain circuit's", and its mask, of what all parties drew
+  abbrev pub valueOf : ℕ → ℕ
+  valueOf w = getD (plainValues file wires values) w 0
+
+  abbrev pub maskOf : ℕ → ℕ
+  maskOf w = mask wires (drawn n K wires contributions) w
+
+  -- what a party drew: its zero key on wire w, and its offset of the wire's prime
+  abbrev pub drawOf : ℕ → Draw
+  drawOf each = drawn 1 K wires (contributionOf K wires contributions each)
+
+  abbrev pub zeroKeyOf : ℕ → ℕ → List ℕ
+  zeroKeyOf each w = zeroKey wires (drawOf each) w
+
+  abbrev pub offsetOf : ℕ → ℕ → List ℕ
+  offsetOf each w = drawOf each .offset (modulusAt wires w)
+
+  -- what demand 3 promises of the keys and external values that each party opened, of the figures that it decoded and of those of plain evaluation
+  pub record Delivered (wireKeys wireExternals figures : ℕ → List ℕ) (plain : List ℕ) : Type 0 where
+    -- "At every seat and on every wire, the key opened for each seat is that seat's zero key plus (value plus mask) times its offset, modulo the
+    -- wire's prime, the value being the plain circuit's"
+    pub keys : (party w each : ℕ) → party < n → w < length wires → each < n
+        → nthPiece (nthPiece (wireKeys party) (n * K) w) K each
+        ≡ keyV (modulusAt wires w) (zeroKeyOf each w) (add (modulusAt wires w) (valueOf w) (maskOf w)) (offsetOf each w)
+    -- "the external byte is value plus mask modulo that prime"
+    pub externals : (party w : ℕ) → party < n → w < length wires
+        → getD (wireExternals party) w 0 ≡ add (modulusAt wires w) (valueOf w) (maskOf w)
+    -- "each seat's decoded outputs, and plain evaluation's, are byte for byte the plain circuit's"
+    pub decoded : (party : ℕ) → party < n → figures party ≡ plainOutputs file wires outputs values
+    pub plainDecoded : plain ≡ plainOutputs file wires outputs values
 
 -- what demand 3 promises of the round
 pub record Promise (pad : Pad) (file : List ℕ) (n K : ℕ) (contributions values : List ℕ) (meter : ℕ) (lent : Lent) : Type 0 where
   -- "every call of the round in document 01 accepts, garbling and each seat's opening included"
-  pub garbles : garbling pad file n K contributions values meter lent ≡ passed
-  pub hasExternals : (party : ℕ) → party < n → externalValues pad file n K contributions values meter lent party ≡ passed
-  pub hasKeys : (party : ℕ) → party < n → inputKeys pad file n K contributions values meter lent party ≡ passed
-  pub opens : (party : ℕ) → party < n → opening pad file n K contributions values meter lent party ≡ passed
-  pub decodes : (party : ℕ) → party < n → decoding pad file n K contributions values meter lent party ≡ passed
-  pub evaluates : plainly pad file n K contributions values meter lent ≡ passed
-  -- "At every seat and on every wire, the key opened for each seat is that seat's zero key plus (value plus mask) times its offset, modulo the
-  -- wire's prime, the value being the plain circuit's"
-  pub keys : (party w each : ℕ) → party < n → w < length (readFile file .wires) → each < n
-      → nthPiece (nthPiece (wireKeys pad file n K contributions values meter lent party) (n * K) w) K each
-      ≡ keyV (modulusAt (readFile file .wires) w)
-      (zeroKey (readFile file .wires)
-      (drawn 1 K (readFile file .wires) (contributionOf pad file n K contributions values meter lent each)) w)
-      (add (modulusAt (readFile file .wires) w) (getD (plainValues file (readFile file .wires) values) w 0)
-      (mask (readFile file .wires) (drawn n K (readFile file .wires) contributions) w))
-      (drawn 1 K (readFile file .wires) (contributionOf pad file n K contributions values meter lent each)
-      .offset (modulusAt (readFile file .wires) w))
-  -- "the external byte is value plus mask modulo that prime"
-  pub externals : (party w : ℕ) → party < n → w < length (readFile file .wires)
-      → getD (wireExternals pad file n K contributions values meter lent party) w 0
-      ≡ add (modulusAt (readFile file .wires) w) (getD (plainValues file (readFile file .wires) values) w 0)
-      (mask (readFile file .wires) (drawn n K (readFile file .wires) contributions) w)
-  -- "each seat's decoded outputs, and plain evaluation's, are byte for byte the plain circuit's"
-  pub decoded : (party : ℕ) → party < n
-      → figures pad file n K contributions values meter lent party
-      ≡ plainOutputs file (readFile file .wires) (readFile file .outputs) values
-  pub plainDecoded : plainFigures pad file n K contributions values meter lent
-      ≡ plainOutputs file (readFile file .wires) (readFile file .outputs) values
+  pub garbles : round.garbling pad file n K contributions values meter lent ≡ passed
+  pub hasExternals : (party : ℕ) → party < n → round.externalValues pad file n K contributions values meter lent party ≡ passed
+  pub hasKeys : (party : ℕ) → party < n → round.inputKeys pad file n K contributions values meter lent party ≡ passed
+  pub opens : (party : ℕ) → party < n → round.opening pad file n K contributions values meter lent party ≡ passed
+  pub decodes : (party : ℕ) → party < n → round.decoding pad file n K contributions values meter lent party ≡ passed
+  pub evaluates : round.plainly pad file n K contributions values meter lent ≡ passed
+  -- and what the rest of it says of what they leave
+  pub delivers : Delivered file n K contributions values (round.wireKeys pad file n K contributions values meter lent)
+      (round.wireExternals pad file n K contributions values meter lent) (round.figures pad file n K contributions values meter lent)
+      (round.plainFigures pad file n K contributions values meter lent)

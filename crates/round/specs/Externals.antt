@@ -1,8 +1,8 @@
 -- The call for the external values of a party's own inputs, from their values and masks, a byte each per own input (n and party given, no K).
 -- Assumes nothing.
-use mathlib.Core.Bool.{Bool, true, false, _||_, cond}
-use mathlib.Core.List.{List, [], _∷_, _++_}
-use Prim.Native.Nat.{ℕ, zero, suc}
+use mathlib.Core.Bool.{_||_, cond}
+use mathlib.Core.List.{List, [], _∷_}
+use Prim.Native.Nat.{ℕ}
 use lib.ListN.{length, getD}
 use Rattle.lists.specs.Blocks.{blocks, tab}
 use Rattle.residue.specs.Residue.{add}

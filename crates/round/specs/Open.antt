@@ -5,7 +5,7 @@ use mathlib.Core.Bool.{Bool, not}
 use mathlib.Core.List.{List, [], _∷_}
 use Prim.Native.Nat.{ℕ, _+_, _*_}
 use lib.ListN.{length, getD, replicate}
-use Rattle.lists.specs.Blocks.{blocks, nthPiece}
+use Rattle.lists.specs.Blocks.{nthPiece}
 use Rattle.checks.specs.declared.Refusal.the-variants.{WrongInputKey, NoMultiplier}
 use Rattle.checks.specs.Checked.{Checked, andThen, noneBad, afterwards}
 use Rattle.words.specs.declared.gate.Wire.{Wire}

@@ -1,10 +1,9 @@
 -- Document 01, "A round": the calls on one circuit, one n and K, one contribution from each party, the same in every call that takes it, and
 -- one list of values. Nobody changes a byte between the call that writes it and those that take it.
 -- Assumes nothing.
-use mathlib.Core.Bool.{Bool}
 use mathlib.Core.List.{List, map}
 use Prim.Native.Nat.{ℕ}
-use lib.ListN.{length, getD}
+use lib.ListN.{getD}
 use Rattle.lists.specs.Blocks.{blocks, tab, nthPiece, sumTo}
 use Rattle.checks.specs.Checked.{Checked}
 use Rattle.words.specs.declared.gate.Gate.{Gate}
@@ -34,7 +33,7 @@ pub record Lent : Type 0 where
   pub results : ℕ → List ℕ
   pub plain : List ℕ
 
--- an input's owner, and its place among the owner's inputs
+-- an input's owner, and its place among the owner's inputs; nothing asks it of another gate
 abbrev pub ownerOf : Gate → ℕ
 ownerOf (Input gate) = gate .owner
 ownerOf (Add gate) = 0
@@ -49,13 +48,26 @@ ownerAt wires w = ownerOf (wireAt wires w .gate)
 abbrev pub placeAt : List Wire → ℕ → ℕ
 placeAt wires w = sumTo w (λ v. mark (ownedBy (ownerAt wires w) (wireAt wires v .gate)))
 
+-- what a host hands on: a party's contribution, a party's own of all inputs' bytes, all parties' external values in wire order, and all parties' input
+-- keys by input, then party
+abbrev pub contributionOf : ℕ → List Wire → List ℕ → ℕ → List ℕ
+contributionOf K wires contributions party = nthPiece contributions (contributionSize K wires) party
+
+abbrev pub ownOf : List Wire → List ℕ → ℕ → List ℕ
+ownOf wires all party = map (λ w. getD all w 0) (ownInputs party wires)
+
+abbrev pub inWireOrder : List Wire → (ℕ → List ℕ) → List ℕ
+inWireOrder wires own = tab (inputsIn wires) (λ w. getD (own (ownerAt wires w)) (placeAt wires w) 0)
+
+abbrev pub byInput : ℕ → ℕ → ℕ → (ℕ → List ℕ) → List ℕ
+byInput n K inputs own = blocks inputs (λ w. blocks n (λ party. nthPiece (own party) K w))
+
 module _ (pad : Pad) (file : List ℕ) (n K : ℕ) (contributions values : List ℕ) (meter : ℕ) (lent : Lent) where
   abbrev wires : List Wire
   wires = readFile file .wires
 
-  -- party's contribution
-  unfoldable pub contributionOf : ℕ → List ℕ
-  contributionOf party = nthPiece contributions (contributionSize K wires) party
+  abbrev contribution : ℕ → List ℕ
+  contribution = contributionOf K wires contributions
 
   -- garbling, from all contributions
   unfoldable pub garbling : Checked
@@ -71,42 +83,39 @@ module _ (pad : Pad) (file : List ℕ) (n K : ℕ) (contributions values : List 
   outputMasks = garbleOutputMasks file n K contributions (lent .rows) (lent .inputMasks) (lent .outputMasks) meter
 
   -- at each party, the external values of its own inputs, with the masks garbling wrote for them
-  unfoldable pub ownOf : List ℕ → ℕ → List ℕ
-  ownOf all party = map (λ w. getD all w 0) (ownInputs party wires)
-
   unfoldable pub externalValues : ℕ → Checked
-  externalValues party = externalsChecked file n party (ownOf values party) (ownOf inputMasks party) (lent .externals party)
+  externalValues party = externalsChecked file n party (ownOf wires values party) (ownOf wires inputMasks party) (lent .externals party)
 
   unfoldable pub ownExternals : ℕ → List ℕ
-  ownExternals party = externalsAfter file n party (ownOf values party) (ownOf inputMasks party) (lent .externals party)
+  ownExternals party = externalsAfter file n party (ownOf wires values party) (ownOf wires inputMasks party) (lent .externals party)
 
   -- all those external values in wire order
   unfoldable pub externals : List ℕ
-  externals = tab (inputsIn wires) (λ w. getD (ownExternals (ownerAt wires w)) (placeAt wires w) 0)
+  externals = inWireOrder wires ownExternals
 
   -- at each party, its input keys, from all those external values in wire order
   unfoldable pub inputKeys : ℕ → Checked
-  inputKeys party = inputKeysChecked file n K party (contributionOf party) externals (lent .inputKeys party)
+  inputKeys party = inputKeysChecked file n K party (contribution party) externals (lent .inputKeys party)
 
   unfoldable pub ownKeys : ℕ → List ℕ
-  ownKeys party = inputKeysAfter file n K party (contributionOf party) externals (lent .inputKeys party)
+  ownKeys party = inputKeysAfter file n K party (contribution party) externals (lent .inputKeys party)
 
   -- all those keys: input, then party
   unfoldable pub keys : List ℕ
-  keys = blocks (inputsIn wires) (λ w. blocks n (λ party. nthPiece (ownKeys party) K w))
+  keys = byInput n K (inputsIn wires) ownKeys
 
   -- at each party, opening, from the same external values, all those keys and garbling's rows
   unfoldable pub opening : ℕ → Checked
   opening party =
-      openChecked pad file n K party (contributionOf party) externals keys rows (lent .wireKeys party) (lent .wireExternals party)
+      openChecked pad file n K party (contribution party) externals keys rows (lent .wireKeys party) (lent .wireExternals party)
 
   unfoldable pub wireKeys : ℕ → List ℕ
   wireKeys party =
-      openKeys pad file n K party (contributionOf party) externals keys rows (lent .wireKeys party) (lent .wireExternals party)
+      openKeys pad file n K party (contribution party) externals keys rows (lent .wireKeys party) (lent .wireExternals party)
 
   unfoldable pub wireExternals : ℕ → List ℕ
   wireExternals party =
-      openExternals pad file n K party (contributionOf party) externals keys rows (lent .wireKeys party) (lent .wireExternals party)
+      openExternals pad file n K party (contribution party) externals keys rows (lent .wireKeys party) (lent .wireExternals party)
 
   -- at each party, decoding, from the external bytes its opening wrote and garbling's output masks
   unfoldable pub decoding : ℕ → Checked

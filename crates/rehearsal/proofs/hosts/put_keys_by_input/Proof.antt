@@ -8,10 +8,6 @@ use Rattle.lists.proofs.Steps.{Level, level-start, level-inner, level-nest, lev
 use Rattle.rehearsal.proofs.Interleaved.{key-fits, key-next, key-there}
 use Rattle.rehearsal.proofs.hosts.put_keys_by_input.Statement.{statement}
 use Rattle.rehearsal.proofs.hosts.put_keys_by_input.Tie as tie
-use Rattle.rehearsal.proofs.hosts.put_keys_by_input.Reads as reads
-use Rattle.rehearsal.proofs.hosts.put_keys_by_input.Lts as lts
-use Rattle.lists.proofs.copy.Reads as copy-reads
-use Rattle.lists.proofs.piece.Reads as piece-reads
 
 abbrev Inv-loop2 : tie.InvT-loop2
 Inv-loop2 n k inputs each mine keys₀ at₀ first w from₀ party₀ keys at from party = (from ≡ w * k + party * each) × Level keys₀ at₀ party n k (λ each-party. nthPiece (nthPiece mine each each-party) k w) at keys
@@ -25,78 +21,6 @@ Inv-loop n k inputs each mine keys₀ at₀ first₀ w₀ keys at first w = (fir
 abbrev μ-loop : tie.MeasureT-loop
 μ-loop n k inputs each mine keys₀ at₀ first₀ w₀ keys at first w = inputs - w
 
--- src/hosts.rt:24:5
-loop-holds : tie.Need-loop-holds Inv-loop2 μ-loop2 Inv-loop μ-loop
-loop-holds c = (omega arith, level-start (omega (arith, c .before .before .pre .1 .1)))
-
--- src/hosts.rt:27:9
-loop2-holds : tie.Need-loop2-holds Inv-loop2 μ-loop2 Inv-loop μ-loop
-loop2-holds c = (omega (arith, c .before .loop .inv .0), level-inner (c .before .loop .inv .1) (c .loop-test .taken) refl)
-
--- src/hosts.rt:28:24
-add-past : tie.Need-add-past Inv-loop2 μ-loop2 Inv-loop μ-loop
-add-past c = let a = c .before .before .before .before .before .before .args in omega (arith, key-next (a .inputs) (a .k) (a .each) (a .n) (c .before .before .before .loop .w) (c .before .loop2 .party) (c .before .loop2 .from) (a .mine .now) (c .before .before .before .before .before .before .pre .0) (c .before .before .before .before .before .before .pre .1 .0) (c .before .loop2 .inv .0) (c .before .before .loop-test .taken) (c .loop2-test .taken))
-
--- src/hosts.rt:29:22
-add-to : tie.Need-add-to Inv-loop2 μ-loop2 Inv-loop μ-loop
-add-to c = omega (arith, steps-fits (c .before .loop2 .inv .1) (c .loop2-test .taken))
-
--- src/hosts.rt:30:17
-piece-requires : tie.Need-piece-requires Inv-loop2 μ-loop2 Inv-loop μ-loop
-piece-requires c κs = let a = c .before .before .before .before .before .before .args in key-fits (a .inputs) (a .k) (a .each) (a .n) (c .before .before .before .loop .w) (c .before .loop2 .party) (c .before .loop2 .from) (a .mine .now) (c .before .before .before .before .before .before .pre .0) (c .before .before .before .before .before .before .pre .1 .0) (c .before .loop2 .inv .0) (c .before .before .loop-test .taken) (c .loop2-test .taken)
-
--- src/hosts.rt:31:18
-sub-copy : tie.Need-sub-copy Inv-loop2 μ-loop2 Inv-loop μ-loop
-sub-copy c = omega arith
-
--- src/hosts.rt:31:18
-part-copy-start : tie.Need-part-copy-start Inv-loop2 μ-loop2 Inv-loop μ-loop
-part-copy-start c = omega arith
-
--- src/hosts.rt:31:18
-part-copy-end : tie.Need-part-copy-end Inv-loop2 μ-loop2 Inv-loop μ-loop
-part-copy-end c = omega (arith, steps-fits (c .before .before .loop2 .inv .1) (c .before .loop2-test .taken))
-
--- src/hosts.rt:31:13
-copy-requires : tie.Need-copy-requires Inv-loop2 μ-loop2 Inv-loop μ-loop
-copy-requires c κs = steps-long (c .before .before .before .loop2 .inv .1) (c .before .before .loop2-test .taken) refl ∙ sym (c .before .piece .ensures .1)
-
--- src/hosts.rt:34:13
-add-party : tie.Need-add-party Inv-loop2 μ-loop2 Inv-loop μ-loop
-add-party c = omega arith
-
--- src/hosts.rt:27:9
-loop2-less : tie.Need-loop2-less Inv-loop2 μ-loop2 Inv-loop μ-loop
-loop2-less c = omega arith
-
--- src/hosts.rt:27:9
-loop2-again : tie.Need-loop2-again Inv-loop2 μ-loop2 Inv-loop μ-loop
-loop2-again c = let a = c .before .before .before .before .before .before .before .before .before .before .before .args in (omega (arith, c .before .before .before .before .before .before .loop2 .inv .0, times-next (c .before .before .before .before .before .before .loop2 .party) (a .each)), steps-call (c .before .before .before .before .before .before .loop2 .inv .1) (c .before .before .before .before .before .loop2-test .taken) refl (c .before .before .copy .kept .0) (c .before .before .copy .ensures ∙ c .before .before .before .before .piece .ensures .0 ∙ key-there (a .inputs) (a .k) (a .each) (a .n) (c .before .before .before .before .before .before .before .before .loop .w) (c .before .before .before .before .before .before .loop2 .party) (c .before .before .before .before .before .before .loop2 .from) (a .mine .now) (c .before .before .before .before .before .before .before .before .before .before .before .pre .0) (c .before .before .before .before .before .before .before .before .before .before .before .pre .1 .0) (c .before .before .before .before .before .before .loop2 .inv .0) (c .before .before .before .before .before .before .before .loop-test .taken) (c .before .before .before .before .before .loop2-test .taken)))
-
--- src/hosts.rt:36:9
-add-first : tie.Need-add-first Inv-loop2 μ-loop2 Inv-loop μ-loop
-add-first c = let a = c .before .before .before .before .before .before .args in omega (arith, c .before .before .before .loop .inv .0, c .before .before .before .before .before .before .pre .0, times-fits (c .before .before .before .loop .w) (a .inputs) (a .k) (c .before .before .loop-test .taken))
-
--- src/hosts.rt:37:9
-add-w : tie.Need-add-w Inv-loop2 μ-loop2 Inv-loop μ-loop
-add-w c = omega arith
-
--- src/hosts.rt:24:5
-loop-less : tie.Need-loop-less Inv-loop2 μ-loop2 Inv-loop μ-loop
-loop-less c = omega arith
-
--- src/hosts.rt:24:5
-loop-again : tie.Need-loop-again Inv-loop2 μ-loop2 Inv-loop μ-loop
-loop-again c = let a = c .before .before .before .before .before .before .args in (omega (arith, c .before .before .before .loop .inv .0, times-next (c .before .before .before .loop .w) (a .k)), level-nest (c .before .before .before .loop .inv .1) (c .before .before .loop-test .taken) refl (c .before .loop2 .inv .1) (c .loop2-test .left) refl)
-
--- src/hosts.rt:17:1
-same-length : tie.Need-same-length Inv-loop2 μ-loop2 Inv-loop μ-loop
-same-length c = c .before .loop .inv .1 .kept
-
--- src/hosts.rt:17:1
-returns : tie.Need-returns Inv-loop2 μ-loop2 Inv-loop μ-loop
-returns c = level-whole (c .before .loop .inv .1) (c .loop-test .left) (c .before .before .before .before .pre .1 .1)
-
 pub put-keys-by-input-spec : {M : Type 1} → statement M
 put-keys-by-input-spec =
     tie.close
@@ -105,21 +29,21 @@ put-keys-by-input-spec =
     μ-loop2
     Inv-loop
     μ-loop
-    loop-holds
-    loop2-holds
-    add-past
-    add-to
-    piece-requires
-    sub-copy
-    part-copy-start
-    part-copy-end
-    copy-requires
-    add-party
-    loop2-less
-    loop2-again
-    add-first
-    add-w
-    loop-less
-    loop-again
-    same-length
-    returns)
+    (λ c. (omega arith, level-start (omega (arith, c .before .before .pre .1 .1))))
+    (λ c. (omega (arith, c .before .loop .inv .0), level-inner (c .before .loop .inv .1) (c .loop-test .taken) refl))
+    (λ c. let a = c .before .before .before .before .before .before .args in omega (arith, key-next (a .inputs) (a .k) (a .each) (a .n) (c .before .before .before .loop .w) (c .before .loop2 .party) (c .before .loop2 .from) (a .mine .now) (c .before .before .before .before .before .before .pre .0) (c .before .before .before .before .before .before .pre .1 .0) (c .before .loop2 .inv .0) (c .before .before .loop-test .taken) (c .loop2-test .taken)))
+    (λ c. omega (arith, steps-fits (c .before .loop2 .inv .1) (c .loop2-test .taken)))
+    (λ c κs. let a = c .before .before .before .before .before .before .args in key-fits (a .inputs) (a .k) (a .each) (a .n) (c .before .before .before .loop .w) (c .before .loop2 .party) (c .before .loop2 .from) (a .mine .now) (c .before .before .before .before .before .before .pre .0) (c .before .before .before .before .before .before .pre .1 .0) (c .before .loop2 .inv .0) (c .before .before .loop-test .taken) (c .loop2-test .taken))
+    (λ c. omega arith)
+    (λ c. omega arith)
+    (λ c. omega (arith, steps-fits (c .before .before .loop2 .inv .1) (c .before .loop2-test .taken)))
+    (λ c κs. steps-long (c .before .before .before .loop2 .inv .1) (c .before .before .loop2-test .taken) refl ∙ sym (c .before .piece .ensures .1))
+    (λ c. omega arith)
+    (λ c. omega arith)
+    (λ c. let a = c .before .before .before .before .before .before .before .before .before .before .before .args in (omega (arith, c .before .before .before .before .before .before .loop2 .inv .0, times-next (c .before .before .before .before .before .before .loop2 .party) (a .each)), steps-call (c .before .before .before .before .before .before .loop2 .inv .1) (c .before .before .before .before .before .loop2-test .taken) refl (c .before .before .copy .kept .0) (c .before .before .copy .ensures ∙ c .before .before .before .before .piece .ensures .0 ∙ key-there (a .inputs) (a .k) (a .each) (a .n) (c .before .before .before .before .before .before .before .before .loop .w) (c .before .before .before .before .before .before .loop2 .party) (c .before .before .before .before .before .before .loop2 .from) (a .mine .now) (c .before .before .before .before .before .before .before .before .before .before .before .pre .0) (c .before .before .before .before .before .before .before .before .before .before .before .pre .1 .0) (c .before .before .before .before .before .before .loop2 .inv .0) (c .before .before .before .before .before .before .before .loop-test .taken) (c .before .before .before .before .before .loop2-test .taken))))
+    (λ c. let a = c .before .before .before .before .before .before .args in omega (arith, c .before .before .before .loop .inv .0, c .before .before .before .before .before .before .pre .0, times-fits (c .before .before .before .loop .w) (a .inputs) (a .k) (c .before .before .loop-test .taken)))
+    (λ c. omega arith)
+    (λ c. omega arith)
+    (λ c. let a = c .before .before .before .before .before .before .args in (omega (arith, c .before .before .before .loop .inv .0, times-next (c .before .before .before .loop .w) (a .k)), level-nest (c .before .before .before .loop .inv .1) (c .before .before .loop-test .taken) refl (c .before .loop2 .inv .1) (c .loop2-test .left) refl))
+    (λ c. c .before .loop .inv .1 .kept)
+    (λ c. level-whole (c .before .loop .inv .1) (c .loop-test .left) (c .before .before .before .before .pre .1 .1)))

@@ -1,0 +1,13 @@
+-- `rehearsal::decode` meets its contract: the exported function's, with the number of its answer. Assumes nothing.
+use borrow.Author.Needs.{needs}
+use Rattle.rehearsal.proofs.Numbered.{said}
+use Rattle.rehearsal.proofs.called.decode.Statement.{statement}
+use Rattle.rehearsal.proofs.called.decode.Tie as tie
+
+pub decode-spec : {M : Type 1} → statement M
+decode-spec =
+    tie.close
+    (tie.spec
+    (λ c κs. search needs)
+    (λ c. search needs)
+    (λ c. search (needs, said)))

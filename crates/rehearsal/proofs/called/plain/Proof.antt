@@ -1,0 +1,13 @@
+-- `rehearsal::plain` meets its contract: the exported function's, with the number of its answer. Assumes nothing.
+use borrow.Author.Needs.{needs}
+use Rattle.rehearsal.proofs.Numbered.{said}
+use Rattle.rehearsal.proofs.called.plain.Statement.{statement}
+use Rattle.rehearsal.proofs.called.plain.Tie as tie
+
+pub plain-spec : {M : Type 1} → statement M
+plain-spec =
+    tie.close
+    (tie.spec
+    (λ c κs. search needs)
+    (λ c. search needs)
+    (λ c. search (needs, said)))
