@@ -1,15 +1,10 @@
-use mathlib.Core.Path.{sym, ap, refl, _∙_}
+use mathlib.Core.Path.{_∙_}
 use native.Mathlib.Omega.{arith}
-use lib.ListN.{length}
-use Rattle.residue.proofs.Vectors.{addV-below, addV-length, mulV-length}
+use Rattle.residue.proofs.Vectors.{addV-below}
 use Rattle.evaluation.proofs.Bared.{asked, rowed, bare-more}
 use borrow.Author.Needs.{needs}
 use Rattle.evaluation.proofs.gates.add_bare.Statement.{statement}
 use Rattle.evaluation.proofs.gates.add_bare.Tie as tie
-use Rattle.evaluation.proofs.gates.add_bare.Reads as reads
-use Rattle.evaluation.proofs.gates.add_bare.Lts as lts
-use Rattle.pads.proofs.sub_pad_row.Reads as sub-pad-row-reads
-use Rattle.residue.proofs.add_multiple.Reads as add-multiple-reads
 
 -- src/gates.rt:50:5
 add-multiple-requires : tie.Need-add-multiple-requires

@@ -1,13 +1,9 @@
-use mathlib.Core.Path.{sym, ap, _∙_}
+use mathlib.Core.Path.{ap, _∙_}
 use lib.ListN.{length}
-use Rattle.evaluation.proofs.Bared.{asked, rowed, bare-row, below-part}
+use Rattle.evaluation.proofs.Bared.{asked, rowed, bare-row}
 use borrow.Author.Needs.{needs}
 use Rattle.evaluation.proofs.gates.bare.Statement.{statement}
 use Rattle.evaluation.proofs.gates.bare.Tie as tie
-use Rattle.evaluation.proofs.gates.bare.Reads as reads
-use Rattle.evaluation.proofs.gates.bare.Lts as lts
-use Rattle.lists.proofs.copy.Reads as copy-reads
-use Rattle.pads.proofs.sub_pad_row.Reads as sub-pad-row-reads
 
 -- src/gates.rt:31:5
 copy-requires : tie.Need-copy-requires

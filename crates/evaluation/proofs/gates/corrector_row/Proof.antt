@@ -1,14 +1,8 @@
 use native.Mathlib.Omega.{arith}
-use mathlib.Core.Path.{_∙_}
 use Rattle.evaluation.proofs.Correctors.{small, first-inside, second-inside, within, corrector-at}
 use borrow.Author.Needs.{needs}
 use Rattle.evaluation.proofs.gates.corrector_row.Statement.{statement}
 use Rattle.evaluation.proofs.gates.corrector_row.Tie as tie
-use Rattle.evaluation.proofs.gates.corrector_row.Reads as reads
-use Rattle.evaluation.proofs.gates.corrector_row.Lts as lts
-use Rattle.evaluation.proofs.gates.index.Reads as index-reads
-use Rattle.lists.proofs.piece.Reads as piece-reads
-use Rattle.search.proofs.chosen_corrector.Reads as chosen-corrector-reads
 
 -- src/gates.rt:133:17
 index-requires : tie.Need-index-requires

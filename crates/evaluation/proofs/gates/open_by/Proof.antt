@@ -1,22 +1,14 @@
-use mathlib.Core.Path.{sym, ap, refl, _∙_}
-use mathlib.Core.List.{List}
+use mathlib.Core.Path.{_∙_}
 use native.Mathlib.Omega.{arith}
-use lib.ListN.{length}
-use Rattle.evaluation.proofs.Bared.{row-inside, row-below, width, choice-is}
+use Rattle.contribution.proofs.Sizes.{vector-fits}
+use Rattle.evaluation.proofs.Bared.{row-inside, row-below, choice-is}
 use borrow.Author.Needs.{needs}
 use Rattle.evaluation.proofs.gates.open_by.Statement.{statement}
 use Rattle.evaluation.proofs.gates.open_by.Tie as tie
-use Rattle.evaluation.proofs.gates.open_by.Reads as reads
-use Rattle.evaluation.proofs.gates.open_by.Lts as lts
-use Rattle.evaluation.proofs.gates.add_bare.Reads as add-bare-reads
-use Rattle.evaluation.proofs.gates.corrector_row.Reads as corrector-row-reads
-use Rattle.evaluation.proofs.gates.index.Reads as index-reads
-use Rattle.evaluation.proofs.gates.open_chooser.Reads as open-chooser-reads
-use Rattle.lists.proofs.nth_piece.Reads as nth-piece-reads
 
 -- src/gates.rt:157:13
 mul-m : tie.Need-mul-m
-mul-m c = omega (arith, width (c .before .before .before .before .pre .0 .0))
+mul-m c = omega (arith, vector-fits (c .before .before .before .before .pre .0 .0))
 
 -- src/gates.rt:158:34
 index-requires : tie.Need-index-requires
@@ -32,7 +24,7 @@ open-chooser-requires c κs = ((c .before .before .before .before .before .befor
 
 -- src/gates.rt:160:9
 corrector-row-requires : tie.Need-corrector-row-requires
-corrector-row-requires c κs = (c .before .before .before .before .before .before .before .before .before .before .pre .0 .1 .0 .size, (c .before .before .before .before .before .before .before .before .before .before .pre .0 .1 .1 .0, (c .before .before .before .before .before .before .before .before .before .before .pre .0 .1 .1 .1, width (c .before .before .before .before .before .before .before .before .before .before .pre .0 .0))))
+corrector-row-requires c κs = (c .before .before .before .before .before .before .before .before .before .before .pre .0 .1 .0 .size, (c .before .before .before .before .before .before .before .before .before .before .pre .0 .1 .1 .0, (c .before .before .before .before .before .before .before .before .before .before .pre .0 .1 .1 .1, vector-fits (c .before .before .before .before .before .before .before .before .before .before .pre .0 .0))))
 
 -- src/gates.rt:161:17
 add-add-bare : tie.Need-add-add-bare

@@ -1,21 +1,16 @@
-use mathlib.Core.Path.{sym, ap, refl, _∙_}
+use mathlib.Core.Path.{sym}
 use native.Mathlib.Omega.{arith}
-use lib.ListN.{length}
 use lib.Seq.{length-take-le}
 use Rattle.residue.proofs.Vectors.{sub-below}
-use Rattle.evaluation.proofs.Bared.{width, below-as, choice-as}
+use Rattle.contribution.proofs.Sizes.{vector-fits}
+use Rattle.evaluation.proofs.Bared.{below-as, choice-as}
 use borrow.Author.Needs.{needs}
 use Rattle.evaluation.proofs.gates.open_choice.Statement.{statement}
 use Rattle.evaluation.proofs.gates.open_choice.Tie as tie
-use Rattle.evaluation.proofs.gates.open_choice.Reads as reads
-use Rattle.evaluation.proofs.gates.open_choice.Lts as lts
-use Rattle.evaluation.proofs.gates.open_with.Reads as open-with-reads
-use Rattle.evaluation.proofs.gates.scratch.Reads as scratch-reads
-use Rattle.residue.proofs.sub.Reads as sub-reads
 
 -- src/gates.rt:214:13
 mul-m : tie.Need-mul-m
-mul-m c = omega (arith, width (c .before .before .before .before .before .pre .0 .0))
+mul-m c = omega (arith, vector-fits (c .before .before .before .before .before .pre .0 .0))
 
 -- src/gates.rt:215:9
 sub-requires : tie.Need-sub-requires
@@ -27,15 +22,15 @@ scratch-requires c κs = search needs
 
 -- src/gates.rt:228:9
 array-borrow-prefix-d : tie.Need-array-borrow-prefix-d
-array-borrow-prefix-d c = omega (arith, width (c .before .before .before .before .before .before .before .pre .0 .0))
+array-borrow-prefix-d c = omega (arith, vector-fits (c .before .before .before .before .before .before .before .pre .0 .0))
 
 -- src/gates.rt:228:9
 slice-aggregate-open-with : tie.Need-slice-aggregate-open-with
-slice-aggregate-open-with c = sym (length-take-le _ _ (omega (arith, width (c .before .before .before .before .before .before .before .before .pre .0 .0), c .before .scratch .ensures)))
+slice-aggregate-open-with c = sym (length-take-le _ _ (omega (arith, vector-fits (c .before .before .before .before .before .before .before .before .pre .0 .0), c .before .scratch .ensures)))
 
 -- src/gates.rt:217:5
 open-with-requires : tie.Need-open-with-requires
-open-with-requires c κs = ((c .before .before .before .before .before .before .before .before .before .pre .0 .0, (c .before .before .before .before .before .before .before .before .before .pre .0 .1 .0, (c .before .before .before .before .before .before .before .before .before .pre .0 .1 .1 .0, below-as (c .before .before .before .sub .ensures) (sub-below (omega (arith, c .before .before .before .before .before .before .before .before .before .pre .0 .1 .0 .modulus)) _ _)))), (c .before .before .before .before .before .before .before .before .before .pre .1, record { size = length-take-le _ _ (omega (arith, width (c .before .before .before .before .before .before .before .before .before .pre .0 .0), c .before .before .scratch .ensures)) }))
+open-with-requires c κs = ((c .before .before .before .before .before .before .before .before .before .pre .0 .0, (c .before .before .before .before .before .before .before .before .before .pre .0 .1 .0, (c .before .before .before .before .before .before .before .before .before .pre .0 .1 .1 .0, below-as (c .before .before .before .sub .ensures) (sub-below (omega (arith, c .before .before .before .before .before .before .before .before .before .pre .0 .1 .0 .modulus)) _ _)))), (c .before .before .before .before .before .before .before .before .before .pre .1, record { size = length-take-le _ _ (omega (arith, vector-fits (c .before .before .before .before .before .before .before .before .before .pre .0 .0), c .before .before .scratch .ensures)) }))
 
 -- src/gates.rt:196:1
 same-length : tie.Need-same-length

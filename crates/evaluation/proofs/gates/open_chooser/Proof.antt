@@ -1,18 +1,10 @@
-use mathlib.Core.Path.{sym, ap, refl, _∙_}
-use mathlib.Core.List.{List}
-use mathlib.Core.Bool.{Bool}
+use mathlib.Core.Path.{sym, ap, _∙_}
 use lib.ListN.{length}
-use Prim.Native.Nat.{ℕ}
 use native.Mathlib.Omega.{arith}
-use Rattle.residue.specs.Vector.{addV}
 use Rattle.evaluation.proofs.Bared.{chooser-zero, chooser-one, bared-length}
 use borrow.Author.Needs.{needs}
 use Rattle.evaluation.proofs.gates.open_chooser.Statement.{statement}
 use Rattle.evaluation.proofs.gates.open_chooser.Tie as tie
-use Rattle.evaluation.proofs.gates.open_chooser.Reads as reads
-use Rattle.evaluation.proofs.gates.open_chooser.Lts as lts
-use Rattle.evaluation.proofs.gates.bare.Reads as bare-reads
-use Rattle.residue.proofs.add_multiple.Reads as add-multiple-reads
 
 -- src/gates.rt:121:5
 bare-requires : tie.Need-bare-requires

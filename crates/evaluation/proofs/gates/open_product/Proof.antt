@@ -1,23 +1,16 @@
-use mathlib.Core.Path.{sym, ap, refl, _∙_}
-use mathlib.Core.List.{List}
+use mathlib.Core.Path.{sym, ap, _∙_}
 use Prim.Native.Nat.{_+_}
 use native.Mathlib.Omega.{arith}
 use lib.ListN.{length}
-use Rattle.evaluation.proofs.Bared.{row-inside, row-below, row-at, width, bared-length, product-is}
+use Rattle.contribution.proofs.Sizes.{vector-fits}
+use Rattle.evaluation.proofs.Bared.{row-inside, row-below, bared-length, product-is}
 use borrow.Author.Needs.{needs}
 use Rattle.evaluation.proofs.gates.open_product.Statement.{statement}
 use Rattle.evaluation.proofs.gates.open_product.Tie as tie
-use Rattle.evaluation.proofs.gates.open_product.Reads as reads
-use Rattle.evaluation.proofs.gates.open_product.Lts as lts
-use Rattle.evaluation.proofs.gates.add_bare.Reads as add-bare-reads
-use Rattle.evaluation.proofs.gates.bare.Reads as bare-reads
-use Rattle.evaluation.proofs.gates.index.Reads as index-reads
-use Rattle.lists.proofs.nth_piece.Reads as nth-piece-reads
-use Rattle.residue.proofs.add_multiple.Reads as add-multiple-reads
 
 -- src/gates.rt:97:13
 mul-m : tie.Need-mul-m
-mul-m c = omega (arith, width (c .before .before .before .before .pre .0 .0))
+mul-m c = omega (arith, vector-fits (c .before .before .before .before .pre .0 .0))
 
 -- src/gates.rt:98:34
 index-requires : tie.Need-index-requires

@@ -1,21 +1,17 @@
-use mathlib.Core.Path.{sym, ap, refl, _∙_}
+use mathlib.Core.Path.{ap, _∙_}
 use mathlib.Core.List.{List}
 use Prim.Native.Nat.{ℕ}
 use native.Mathlib.Omega.{arith}
 use Rattle.evaluation.specs.Gate.{bared, tableKeys}
-use Rattle.evaluation.proofs.Bared.{row-inside, row-below, row-at, width}
+use Rattle.contribution.proofs.Sizes.{vector-fits}
+use Rattle.evaluation.proofs.Bared.{row-inside, row-below, row-at}
 use borrow.Author.Needs.{needs}
 use Rattle.evaluation.proofs.gates.open_table.Statement.{statement}
 use Rattle.evaluation.proofs.gates.open_table.Tie as tie
-use Rattle.evaluation.proofs.gates.open_table.Reads as reads
-use Rattle.evaluation.proofs.gates.open_table.Lts as lts
-use Rattle.evaluation.proofs.gates.bare.Reads as bare-reads
-use Rattle.evaluation.proofs.gates.index.Reads as index-reads
-use Rattle.lists.proofs.nth_piece.Reads as nth-piece-reads
 
 -- src/gates.rt:76:31
 mul-nth-piece : tie.Need-mul-nth-piece
-mul-nth-piece c = omega (arith, width (c .before .before .before .pre .0 .0))
+mul-nth-piece c = omega (arith, vector-fits (c .before .before .before .pre .0 .0))
 
 -- src/gates.rt:76:38
 index-requires : tie.Need-index-requires

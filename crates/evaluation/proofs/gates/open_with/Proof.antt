@@ -1,13 +1,9 @@
-use mathlib.Core.Path.{sym, ap, refl, _∙_}
+use mathlib.Core.Path.{sym, _∙_}
 use native.Mathlib.Omega.{arith}
 use Rattle.evaluation.proofs.Bared.{choice-with}
 use borrow.Author.Needs.{needs}
 use Rattle.evaluation.proofs.gates.open_with.Statement.{statement}
 use Rattle.evaluation.proofs.gates.open_with.Tie as tie
-use Rattle.evaluation.proofs.gates.open_with.Reads as reads
-use Rattle.evaluation.proofs.gates.open_with.Lts as lts
-use Rattle.evaluation.proofs.gates.open_by.Reads as open-by-reads
-use Rattle.residue.proofs.difference.Reads as difference-reads
 
 -- src/gates.rt:190:5
 difference-requires : tie.Need-difference-requires

@@ -2,8 +2,8 @@
 use Prim.Native.Nat.{_-_}
 use native.Mathlib.Omega.{arith}
 use lib.ListN.{take}
-use Rattle.evaluation.specs.Reached.{Reached}
-use Rattle.evaluation.proofs.Loop.{loop-start, table-long, same-keys, same-externals, places-size, keys-room, externals-room, small, cursor-room, rows-room, turn-seated, turn-ready, loop-next, loop-short, loop-all}
+use Rattle.evaluation.proofs.Reached.{Reached}
+use Rattle.evaluation.proofs.Loop.{loop-start, table-long, same-keys, same-externals, places-size, places-room, keys-room, externals-room, small, cursor-room, rows-room, turn-seated, turn-ready, loop-next, loop-short, loop-all}
 use Rattle.evaluation.proofs.pass.pass.Statement.{statement}
 use Rattle.evaluation.proofs.pass.pass.Tie as tie
 
@@ -19,11 +19,11 @@ moduli-requires c κs = c .before .before .before .before .before .before .befor
 ranks-requires : tie.Need-ranks-requires Inv-loop μ-loop
 ranks-requires c κs = c .before .before .before .before .before .before .before .before .pre .0 .held .room
 
-offset-bytes-requires : tie.Need-offset-bytes-requires Inv-loop μ-loop
-offset-bytes-requires c κs = (c .before .before .before .before .before .before .before .before .before .pre .0 .held .room, c .before .before .before .before .before .before .before .before .before .pre .0 .sizes .short)
+first-record-requires : tie.Need-first-record-requires Inv-loop μ-loop
+first-record-requires c κs = (c .before .before .before .before .before .before .before .before .before .pre .0 .held .room, c .before .before .before .before .before .before .before .before .before .pre .0 .sizes .short)
 
 loop-holds : tie.Need-loop-holds Inv-loop μ-loop
-loop-holds c = loop-start (c .before .before .before .before .before .before .before .before .before .before .pre .0) (c .offset-bytes .ensures) (c .before .before .before .before .before .before .before .before .before .before .pre .1 .0) (c .before .before .before .before .before .before .before .before .before .before .pre .1 .1)
+loop-holds c = loop-start (c .before .before .before .before .before .before .before .before .before .before .pre .0) (c .first-record .ensures) (c .before .before .before .before .before .before .before .before .before .before .pre .1 .0) (c .before .before .before .before .before .before .before .before .before .before .pre .1 .1)
 
 mul-wire : tie.Need-mul-wire Inv-loop μ-loop
 mul-wire c = omega (arith, c .before .before .before .before .before .before .before .before .before .before .before .before .pre .0 .held .room .made, c .before .before .before .before .before .before .before .before .before .before .before .before .pre .0 .held .room .wires, c .loop-test .taken)
@@ -47,7 +47,7 @@ slice-aggregate-offset-place : tie.Need-slice-aggregate-offset-place Inv-loop μ
 slice-aggregate-offset-place c = omega (arith, places-size (c .before .before .before .before .before .before .before .before .before .before .before .before .before .before .before .before .before .before .pre .0) (c .before .before .before .before .before .before .before .before .before .ranks .ensures))
 
 offset-place-requires : tie.Need-offset-place-requires Inv-loop μ-loop
-offset-place-requires c κs = (places-size (c .before .before .before .before .before .before .before .before .before .before .before .before .before .before .before .before .before .before .pre .0) (c .before .before .before .before .before .before .before .before .before .ranks .ensures), c .before .before .before .before .before .before .before .before .before .before .before .before .before .before .before .before .before .before .pre .0 .sizes .short)
+offset-place-requires c κs = (places-room (c .before .before .before .before .before .before .before .before .before .before .before .before .before .before .before .before .before .before .pre .0) (c .before .before .before .before .before .before .loop-test .taken) (c .before .before .before .before .before .before .before .loop .inv) (c .before .before .before .before .before .before .before .before .before .ranks .ensures), c .before .before .before .before .before .before .before .before .before .before .before .before .before .before .before .before .before .before .pre .0 .sizes .short)
 
 slice-aggregate-put-wire : tie.Need-slice-aggregate-put-wire Inv-loop μ-loop
 slice-aggregate-put-wire c = omega (arith, table-long (c .before .before .before .before .before .before .before .before .before .before .before .before .before .before .before .before .before .before .before .before .pre .0) (c .before .before .before .before .before .before .before .before .before .before .before .before .moduli .ensures))
@@ -64,11 +64,11 @@ same-length-2 c = same-externals (c .before .before .before .before .before .bef
 returns : tie.Need-returns Inv-loop μ-loop
 returns c = loop-short (c .before .before .before .before .before .before .before .before .before .before .before .before .before .before .before .before .before .before .before .before .before .before .before .before .before .before .before .before .pre .0) (c .before .before .before .before .before .before .before .before .before .before .before .before .before .before .before .before .loop-test .taken) (c .before .before .before .before .before .before .before .before .before .before .before .before .before .before .before .before .before .loop .inv) (c .before .before .before .before .before .before .before .before .before .before .before .before .before .before .before .before .before .before .before .before .moduli .ensures) (c .before .before .before .before .before .before .before .before .before .before .before .before .before .row-bytes .ensures) (c .before .before .before .before .before .before .before .before .before .before .before .before .before .before .before .before .before .before .before .ranks .ensures) (c .before .before .before .before .before .before .before .before .before .before .before .before .piece .ensures .0) (c .before .before .before .before .before .before .before .before .before .before .before .number .ensures) (c .before .before .before .before .before .before .before .before .before .offset-place .ensures) (c .before .before .before .before .before .put-wire .ensures) (c .if1 .taken)
 
-record-bytes-requires : tie.Need-record-bytes-requires Inv-loop μ-loop
-record-bytes-requires c κs = c .before .before .before .before .before .before .before .before .before .before .before .before .before .before .before .before .before .before .before .before .before .before .before .before .before .before .before .before .pre .0 .sizes .short
+record-size-requires : tie.Need-record-size-requires Inv-loop μ-loop
+record-size-requires c κs = c .before .before .before .before .before .before .before .before .before .before .before .before .before .before .before .before .before .before .before .before .before .before .before .before .before .before .before .before .pre .0 .sizes .short
 
 add-zero : tie.Need-add-zero Inv-loop μ-loop
-add-zero c = omega (arith, cursor-room (c .before .before .before .before .before .before .before .before .before .before .before .before .before .before .before .before .before .before .before .before .before .before .before .before .before .before .before .before .before .pre .0) (c .before .before .before .before .before .before .before .before .before .before .before .before .before .before .before .before .before .loop-test .taken) (c .before .before .before .before .before .before .before .before .before .before .before .before .before .before .before .before .before .before .loop .inv) (c .record-bytes .ensures .0), c .before .before .before .before .before .before .before .before .before .before .before .before .before .before .before .before .before .before .before .before .before .before .before .before .before .before .before .before .before .good)
+add-zero c = omega (arith, cursor-room (c .before .before .before .before .before .before .before .before .before .before .before .before .before .before .before .before .before .before .before .before .before .before .before .before .before .before .before .before .before .pre .0) (c .before .before .before .before .before .before .before .before .before .before .before .before .before .before .before .before .before .loop-test .taken) (c .before .before .before .before .before .before .before .before .before .before .before .before .before .before .before .before .before .before .loop .inv) (c .record-size .ensures), c .before .before .before .before .before .before .before .before .before .before .before .before .before .before .before .before .before .before .before .before .before .before .before .before .before .before .before .before .before .good)
 
 add-from : tie.Need-add-from Inv-loop μ-loop
 add-from c = omega (arith, rows-room (c .before .before .before .before .before .before .before .before .before .before .before .before .before .before .before .before .before .before .before .before .before .before .before .before .before .before .before .before .before .pre .0) (c .before .before .before .before .before .before .before .before .before .before .before .before .before .before .before .before .before .loop-test .taken) (c .before .before .before .before .before .before .before .before .before .before .before .before .before .before .before .before .before .before .loop .inv) (c .before .before .before .before .before .before .before .before .before .before .before .before .before .before .before .before .before .before .before .before .before .moduli .ensures) (c .before .before .before .before .before .before .before .before .before .before .before .before .before .before .row-bytes .ensures), c .before .before .before .before .before .before .before .before .before .before .before .before .before .before .before .before .before .before .before .before .before .before .before .before .before .before .before .before .before .good)
@@ -80,7 +80,7 @@ loop-less : tie.Need-loop-less Inv-loop μ-loop
 loop-less c = omega (arith, c .before .before .before .before .before .before .before .before .before .before .before .before .before .before .before .before .before .before .before .before .before .before .before .before .before .before .before .before .before .pre .0 .held .room .made, c .before .before .before .before .before .before .before .before .before .before .before .before .before .before .before .before .before .loop-test .taken)
 
 loop-again : tie.Need-loop-again Inv-loop μ-loop
-loop-again c = loop-next (c .before .before .before .before .before .before .before .before .before .before .before .before .before .before .before .before .before .before .before .before .before .before .before .before .before .before .before .before .before .pre .0) (c .before .before .before .before .before .before .before .before .before .before .before .before .before .before .before .before .before .loop-test .taken) (c .before .before .before .before .before .before .before .before .before .before .before .before .before .before .before .before .before .before .loop .inv) (c .before .before .before .before .before .before .before .before .before .before .before .before .before .before .before .before .before .before .before .before .before .moduli .ensures) (c .before .before .before .before .before .before .before .before .before .before .before .before .before .before .row-bytes .ensures) (c .before .before .before .before .before .before .before .before .before .before .before .before .before .before .before .before .before .before .before .before .ranks .ensures) (c .before .before .before .before .before .before .before .before .before .before .before .before .before .piece .ensures .0) (c .before .before .before .before .before .before .before .before .before .before .before .before .number .ensures) (c .before .before .before .before .before .before .before .before .before .before .offset-place .ensures) (c .before .before .before .before .before .before .put-wire .ensures) (c .before .if1 .left) (c .record-bytes .ensures .0)
+loop-again c = loop-next (c .before .before .before .before .before .before .before .before .before .before .before .before .before .before .before .before .before .before .before .before .before .before .before .before .before .before .before .before .before .pre .0) (c .before .before .before .before .before .before .before .before .before .before .before .before .before .before .before .before .before .loop-test .taken) (c .before .before .before .before .before .before .before .before .before .before .before .before .before .before .before .before .before .before .loop .inv) (c .before .before .before .before .before .before .before .before .before .before .before .before .before .before .before .before .before .before .before .before .before .moduli .ensures) (c .before .before .before .before .before .before .before .before .before .before .before .before .before .before .row-bytes .ensures) (c .before .before .before .before .before .before .before .before .before .before .before .before .before .before .before .before .before .before .before .before .ranks .ensures) (c .before .before .before .before .before .before .before .before .before .before .before .before .before .piece .ensures .0) (c .before .before .before .before .before .before .before .before .before .before .before .before .number .ensures) (c .before .before .before .before .before .before .before .before .before .before .offset-place .ensures) (c .before .before .before .before .before .before .put-wire .ensures) (c .before .if1 .left) (c .record-size .ensures)
 
 same-length-3 : tie.Need-same-length-3 Inv-loop μ-loop
 same-length-3 c = same-keys (c .before .before .before .before .before .before .before .before .before .before .before .before .pre .0) (c .before .loop .inv .keysSize) (c .before .before .before .before .before .before .before .before .before .before .before .before .pre .1 .0)
@@ -99,7 +99,7 @@ pass-spec =
     μ-loop
     moduli-requires
     ranks-requires
-    offset-bytes-requires
+    first-record-requires
     loop-holds
     mul-wire
     element-copy-out-wire
@@ -114,7 +114,7 @@ pass-spec =
     same-length
     same-length-2
     returns
-    record-bytes-requires
+    record-size-requires
     add-zero
     add-from
     add-w

@@ -3,7 +3,8 @@ use mathlib.Core.Path.{_∙_}
 use Prim.Native.Nat.{_*_, _≤_}
 use native.Mathlib.Omega.{arith}
 use lib.ListN.{length}
-use Rattle.evaluation.proofs.Turns.{vector-fits, place-fits, put-room, put-is}
+use Rattle.contribution.proofs.Sizes.{vector-fits}
+use Rattle.evaluation.proofs.Turns.{place-fits, put-room, put-is}
 use borrow.Author.Needs.{needs}
 use Rattle.evaluation.proofs.pass.put_from.Statement.{statement}
 use Rattle.evaluation.proofs.pass.put_from.Tie as tie

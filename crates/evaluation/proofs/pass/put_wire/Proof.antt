@@ -1,7 +1,7 @@
 -- `evaluation::put_wire` meets its contract: the local has room for a vector. Assumes nothing.
 use mathlib.Core.Path.{sym}
 use native.Mathlib.Omega.{arith}
-use Rattle.evaluation.proofs.Turns.{vector-fits, scratch-cut}
+use Rattle.contribution.proofs.Sizes.{vector-fits, scratch-cut}
 use borrow.Author.Needs.{needs}
 use Rattle.evaluation.proofs.pass.put_wire.Statement.{statement}
 use Rattle.evaluation.proofs.pass.put_wire.Tie as tie

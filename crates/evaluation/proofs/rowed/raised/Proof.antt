@@ -1,9 +1,7 @@
 -- `evaluation::raised` meets its contract: once a vector is that vector. Assumes nothing.
 use mathlib.Core.Path.{ap, _∙_}
-use mathlib.Core.List.{List}
-use Prim.Native.Nat.{ℕ}
 use Rattle.residue.specs.Vector.{addV}
-use Rattle.evaluation.proofs.Turns.{add-once}
+use Rattle.contribution.proofs.Once.{add-once}
 use borrow.Author.Needs.{needs}
 use Rattle.evaluation.proofs.rowed.raised.Statement.{statement}
 use Rattle.evaluation.proofs.rowed.raised.Tie as tie

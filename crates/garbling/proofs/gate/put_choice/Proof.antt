@@ -1,14 +1,16 @@
 -- `garbling::put_choice` meets its contract: operands, their difference, offsets and record are looked up, and the rows are made of them. Assumes nothing.
-use mathlib.Core.Path.{sym, ap₂, subst, _∙_}
+use mathlib.Core.Path.{sym, ap₂, _∙_}
 use mathlib.Core.List.{_++_}
-use Prim.Native.Nat.{ℕ, _<_}
+use Prim.Native.Nat.{_<_}
 use native.Mathlib.Omega.{arith}
 use borrow.Author.Needs.{needs}
+use lib.ListN.{getD}
 use Rattle.residue.specs.Residue.{sub}
 use Rattle.residue.specs.Vector.{subV}
 use Rattle.residue.proofs.Vectors.{sub-below}
 use Rattle.garbling.specs.Source.{choiceHere}
-use Rattle.garbling.proofs.Fronts.{vector-fits, front-long, front-vector}
+use Rattle.contribution.proofs.Sizes.{vector-fits}
+use Rattle.garbling.proofs.Fronts.{front-long, front-vector}
 use Rattle.garbling.proofs.Alike.{chooser-same, corrector-same, operand-at, key-of, mask-of}
 use Rattle.garbling.proofs.gate.put_choice.Statement.{statement}
 use Rattle.garbling.proofs.gate.put_choice.Tie as tie
@@ -37,11 +39,11 @@ nth-piece-requires-3 c κs = operand-at (c .before .before .index3 .ensures) (c 
 differences-requires : tie.Need-differences-requires
 differences-requires c κs = ((c .before .before .before .before .before .before .before .before .before .before .before .pre .0 .sizes, omega (arith, c .before .before .before .before .before .before .before .before .before .before .before .pre .0 .modulus)), (record { size = c .nth-piece3 .ensures .1 }, record { size = c .before .nth-piece2 .ensures .1 }))
 
-shared-slice-read-sub : tie.Need-shared-slice-read-sub
-shared-slice-read-sub c = operand-at (c .before .before .before .before .before .index3 .ensures) (c .before .before .before .before .before .before .before .before .before .before .before .before .before .pre .1 .0 .b) .held
+shared-slice-read-mb : tie.Need-shared-slice-read-mb
+shared-slice-read-mb c = operand-at (c .before .before .before .before .before .index3 .ensures) (c .before .before .before .before .before .before .before .before .before .before .before .before .before .pre .1 .0 .b) .held
 
-shared-slice-read-sub-2 : tie.Need-shared-slice-read-sub-2
-shared-slice-read-sub-2 c = operand-at (c .before .before .before .before .before .before .before .index2 .ensures) (c .before .before .before .before .before .before .before .before .before .before .before .before .before .before .pre .1 .0 .a) .held
+shared-slice-read-ma : tie.Need-shared-slice-read-ma
+shared-slice-read-ma c = operand-at (c .before .before .before .before .before .before .before .index2 .ensures) (c .before .before .before .before .before .before .before .before .before .before .before .before .before .before .pre .1 .0 .a) .held
 
 sub-requires : tie.Need-sub-requires
 sub-requires c κs = (operand-at (c .before .before .before .before .before .before .index3 .ensures) (c .before .before .before .before .before .before .before .before .before .before .before .before .before .before .pre .1 .0 .b) .below, operand-at (c .before .before .before .before .before .before .before .index2 .ensures) (c .before .before .before .before .before .before .before .before .before .before .before .before .before .before .pre .1 .0 .a) .below)
@@ -116,7 +118,7 @@ choice-rows-requires c κs =
       record { sizes = s; modulus = c .before .before .before .before .before .before .before .before .before .before .before .before .before .before .before .before .before .before .before .before .before .before .before .before .before .before .before .before .before .before .before .pre .0 .modulus; size = c .before .before .before .before .before .before .before .before .before .before .before .before .before .before .before .before .before .before .before .before .before .before .before .before .before .before .before .before .before .before .before .pre .1 .1 },
       (
         (front-vector s (c .before .before .before .before .before .before .before .before .before .before .before .before .before .before .before .offsets .ensures), (front-vector s (c .before .before .before .before .before .before .before .before .before .before .before .before .before .before .offsets2 .ensures), (record { size = c .before .before .before .before .before .before .before .before .before .before .before .before .before .before .before .before .before .before .before .before .before .before .nth-piece .ensures .1 }, (front-vector s (c .before .before .before .before .before .before .before .before .before .before .before .before .before .before .before .before .before .before .before .differences .ensures), (front-vector s (c .before .before .before .before .before .before .before .before .before .before .before .before .before .record-key .ensures), (front-vector s (c .before .before .before .before .before .before .before .before .before .before .before .before .record-key2 .ensures), front-vector s (c .before .before .before .before .before .before .before .before .before .before .before .record-key3 .ensures))))))),
-        (operand-at (c .before .before .before .before .before .before .before .before .before .before .before .before .before .before .before .before .before .before .before .before .before .before .before .before .before .index .ensures) (c .before .before .before .before .before .before .before .before .before .before .before .before .before .before .before .before .before .before .before .before .before .before .before .before .before .before .before .before .before .before .before .pre .1 .0 .bit) .below, (subst (λ (x : ℕ). x < c .before .before .before .before .before .before .before .before .before .before .before .before .before .before .before .before .before .before .before .before .before .before .before .before .before .before .before .before .before .before .before .args .p) (sym (c .before .before .before .before .before .before .before .before .before .before .before .before .before .before .before .before .sub .ensures)) (sub-below positive _ _), (c .before .before .before .before .before .before .before .before .before .before .record-mask .ensures .1, (c .before .before .before .before .before .before .before .before .before .record-mask2 .ensures .1, c .before .before .before .before .before .before .before .before .record-mask3 .ensures .1)))),
+        (operand-at (c .before .before .before .before .before .before .before .before .before .before .before .before .before .before .before .before .before .before .before .before .before .before .before .before .before .index .ensures) (c .before .before .before .before .before .before .before .before .before .before .before .before .before .before .before .before .before .before .before .before .before .before .before .before .before .before .before .before .before .before .before .pre .1 .0 .bit) .below, (omega (arith, c .before .before .before .before .before .before .before .before .before .before .before .before .before .before .before .before .sub .ensures, sub-below positive (getD (c .before .before .before .before .before .before .before .before .before .before .before .before .before .before .before .before .before .before .before .before .before .before .before .before .before .before .before .before .before .before .before .args .masks .now) (c .before .before .before .before .before .before .before .before .before .before .before .before .before .before .before .before .before .before .before .before .before .before .before .index3 .result) 0) (getD (c .before .before .before .before .before .before .before .before .before .before .before .before .before .before .before .before .before .before .before .before .before .before .before .before .before .before .before .before .before .before .before .args .masks .now) (c .before .before .before .before .before .before .before .before .before .before .before .before .before .before .before .before .before .before .before .before .before .before .before .before .index2 .result) 0), operand-at (c .before .before .before .before .before .before .before .before .before .before .before .before .before .before .before .before .before .before .before .before .before .before .before .before .index2 .ensures) (c .before .before .before .before .before .before .before .before .before .before .before .before .before .before .before .before .before .before .before .before .before .before .before .before .before .before .before .before .before .before .before .pre .1 .0 .a) .below), (c .before .before .before .before .before .before .before .before .before .before .record-mask .ensures .1, (c .before .before .before .before .before .before .before .before .before .record-mask2 .ensures .1, c .before .before .before .before .before .before .before .before .record-mask3 .ensures .1)))),
       ),
     )
 
@@ -148,8 +150,8 @@ put-choice-spec =
     nth-piece-requires-2
     nth-piece-requires-3
     differences-requires
-    shared-slice-read-sub
-    shared-slice-read-sub-2
+    shared-slice-read-mb
+    shared-slice-read-ma
     sub-requires
     offsets-requires
     offsets-requires-2

@@ -6,7 +6,8 @@ use borrow.Author.Needs.{needs}
 use lib.ListN.{getD}
 use Rattle.lists.specs.Blocks.{nthPiece}
 use Rattle.garbling.specs.Source.{productHere}
-use Rattle.garbling.proofs.Fronts.{vector-fits, front-long, front-vector}
+use Rattle.contribution.proofs.Sizes.{vector-fits}
+use Rattle.garbling.proofs.Fronts.{front-long, front-vector}
 use Rattle.garbling.proofs.Alike.{product-same, operand-at}
 use Rattle.garbling.proofs.gate.put_product.Statement.{statement}
 use Rattle.garbling.proofs.gate.put_product.Tie as tie

@@ -5,7 +5,8 @@ use native.Mathlib.Omega.{arith}
 use borrow.Author.Needs.{needs}
 use Rattle.words.specs.Bits.{bits, wordAt}
 use Rattle.garbling.specs.Source.{tableHere}
-use Rattle.garbling.proofs.Fronts.{vector-fits, front-long, front-vector}
+use Rattle.contribution.proofs.Sizes.{vector-fits}
+use Rattle.garbling.proofs.Fronts.{front-long, front-vector}
 use Rattle.garbling.proofs.Alike.{table-same}
 use Rattle.garbling.proofs.gate.put_table.Statement.{statement}
 use Rattle.garbling.proofs.gate.put_table.Tie as tie

@@ -5,7 +5,8 @@ use native.Mathlib.Omega.{arith}
 use borrow.Author.Needs.{needs}
 use lib.Seq.{length-take-le}
 use Rattle.zero.specs.Turn.{keysAt}
-use Rattle.garbling.proofs.Fronts.{vector-fits, front-made}
+use Rattle.contribution.proofs.Sizes.{vector-fits}
+use Rattle.garbling.proofs.Fronts.{front-made}
 use Rattle.garbling.proofs.own.gather_front.Statement.{statement}
 use Rattle.garbling.proofs.own.gather_front.Tie as tie
 

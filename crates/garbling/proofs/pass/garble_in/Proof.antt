@@ -7,7 +7,7 @@ use borrow.Author.Needs.{needs}
 use lib.Seq.{length-take-le}
 use Rattle.lists.proofs.Wrote.{wrote-front, wrote-take}
 use Rattle.zero.specs.Ready.{ZeroKeys}
-use Rattle.garbling.proofs.Fronts.{vector-fits}
+use Rattle.contribution.proofs.Sizes.{vector-fits}
 use Rattle.garbling.proofs.Garbled.{keys-fit}
 use Rattle.garbling.proofs.pass.garble_in.Statement.{statement}
 use Rattle.garbling.proofs.pass.garble_in.Tie as tie

@@ -10,7 +10,7 @@ use Rattle.session.specs.Held.{wiresIn}
 use Rattle.scheme.specs.Contribution.{recordAt}
 use Rattle.scheme.specs.Zero.{masksTo}
 use Rattle.zero.specs.Ready.{drawnIn}
-use Rattle.zero.proofs.Cursor.{cursor-next, cursor-fits, shares-fit}
+use Rattle.contribution.proofs.Cursor.{cursor-next, cursor-fits, shares-fit}
 use Rattle.zero.proofs.Turns.{masks-start, masks-long, mask-asked, masks-step, masks-done}
 use Rattle.zero.proofs.masks.wire_masks.Statement.{statement}
 use Rattle.zero.proofs.masks.wire_masks.Tie as tie
@@ -40,7 +40,7 @@ record-keys-requires : tie.Need-record-keys-requires Inv-loop μ-loop
 record-keys-requires c κs = c .before .before .before .before .before .before .before .pre .sizes .short
 
 add-shares : tie.Need-add-shares Inv-loop μ-loop
-add-shares c = omega (arith, shares-fit (c .before .before .before .before .before .before .before .before .pre) (c .before .before .loop-test .taken) (c .before .before .before .loop .inv .0) (c .record-keys .ensures), c .before .before .before .before .before .before .before .before .fits .size .fits)
+add-shares c = omega (arith, shares-fit (c .before .before .before .before .before .before .before .before .pre .held) (c .before .before .before .before .before .before .before .before .args .k) (c .before .before .loop-test .taken) (c .before .before .before .loop .inv .0) (c .before .before .before .before .before .before .before .before .pre .each) (c .record-keys .ensures), c .before .before .before .before .before .before .before .before .fits .size .fits)
 
 slice-aggregate-wire-mask : tie.Need-slice-aggregate-wire-mask Inv-loop μ-loop
 slice-aggregate-wire-mask c = omega (arith, c .before .before .before .before .loop .inv .1)
@@ -55,7 +55,7 @@ record-size-requires : tie.Need-record-size-requires Inv-loop μ-loop
 record-size-requires c κs = c .before .before .before .before .before .before .before .before .before .before .pre .sizes .short
 
 add-at : tie.Need-add-at Inv-loop μ-loop
-add-at c = omega (arith, cursor-fits (c .before .before .before .before .before .before .before .before .before .before .before .pre) (c .before .before .before .before .before .loop-test .taken) (c .before .before .before .before .before .before .loop .inv .0) (c .record-size .ensures), c .before .before .before .before .before .before .before .before .before .before .before .fits .size .fits)
+add-at c = omega (arith, cursor-fits (c .before .before .before .before .before .before .before .before .before .before .before .pre .held) (c .before .before .before .before .before .before .before .before .before .before .before .args .k) (c .before .before .before .before .before .loop-test .taken) (c .before .before .before .before .before .before .loop .inv .0) (c .before .before .before .before .before .before .before .before .before .before .before .pre .each) (c .record-size .ensures), c .before .before .before .before .before .before .before .before .before .before .before .fits .size .fits)
 
 add-w : tie.Need-add-w Inv-loop μ-loop
 add-w c = omega (arith, c .before .before .before .before .before .before .before .before .before .before .before .pre .held .room .made, c .before .before .before .before .before .loop-test .taken)
@@ -64,7 +64,7 @@ loop-less : tie.Need-loop-less Inv-loop μ-loop
 loop-less c = omega (arith, c .before .before .before .before .before .loop-test .taken)
 
 loop-again : tie.Need-loop-again Inv-loop μ-loop
-loop-again c = (cursor-next (c .before .before .before .before .before .before .before .before .before .before .before .pre) (c .before .before .before .before .before .loop-test .taken) (c .before .before .before .before .before .before .loop .inv .0) (c .record-size .ensures), length-set (c .before .before .before .before .before .before .loop .masks) (c .before .before .before .before .before .before .loop .w) (c .before .wire-mask .result) ∙ c .before .before .before .before .before .before .loop .inv .1, c .before .before .before .before .before .before .loop .inv .2, masks-step (c .before .before .before .before .before .before .before .before .before .before .before .pre) (c .before .before .before .before .before .loop-test .taken) (c .before .before .before .before .before .before .loop .inv .0) (c .before .before .before .record-keys .ensures) (c .before .before .before .before .before .before .loop .inv .3) (c .before .wire-mask .ensures))
+loop-again c = (cursor-next (c .before .before .before .before .before .before .before .before .before .before .before .pre .held) (c .before .before .before .before .before .before .before .before .before .before .before .args .k) (c .before .before .before .before .before .loop-test .taken) (c .before .before .before .before .before .before .loop .inv .0) (c .record-size .ensures), length-set (c .before .before .before .before .before .before .loop .masks) (c .before .before .before .before .before .before .loop .w) (c .before .wire-mask .result) ∙ c .before .before .before .before .before .before .loop .inv .1, c .before .before .before .before .before .before .loop .inv .2, masks-step (c .before .before .before .before .before .before .before .before .before .before .before .pre) (c .before .before .before .before .before .loop-test .taken) (c .before .before .before .before .before .before .loop .inv .0) (c .before .before .before .record-keys .ensures) (c .before .before .before .before .before .before .loop .inv .3) (c .before .wire-mask .ensures))
 
 returns : tie.Need-returns Inv-loop μ-loop
 returns c = masks-done (c .before .before .before .before .before .before .pre) (c .before .loop .inv .2) (c .before .loop .inv .3) (c .loop-test .left)

@@ -43,7 +43,7 @@ loop-again : tie.Need-loop-again Inv-loop μ-loop
 loop-again c = summed-step (c .before .before .before .before .loop .inv) (c .before .before .before .loop-test .taken) (c .widened .ensures) (ap (λ (l : List ℕ). getD l (c .before .before .before .before .before .before .args .at) 0) (c .before .before .nth-piece .ensures .0))
 
 reduced-requires : tie.Need-reduced-requires Inv-loop μ-loop
-reduced-requires c κs = c .before .before .before .pre .1 .1
+reduced-requires c κs = omega (arith, c .before .before .before .pre .1 .1)
 
 returns : tie.Need-returns Inv-loop μ-loop
 returns c =

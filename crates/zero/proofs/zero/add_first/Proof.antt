@@ -1,9 +1,9 @@
 -- `zero::zero::add_first` meets its contract: a multiple by 1, added.
 -- Assumes nothing.
-use mathlib.Core.Path.{sym, ap, _∙_}
+use mathlib.Core.Path.{ap, _∙_}
 use borrow.Author.Needs.{needs}
 use Rattle.residue.specs.Vector.{addV}
-use Rattle.zero.proofs.Sums.{sum-once}
+use Rattle.contribution.proofs.Once.{add-once}
 use Rattle.zero.proofs.zero.add_first.Statement.{statement}
 use Rattle.zero.proofs.zero.add_first.Tie as tie
 
@@ -20,7 +20,7 @@ same-length : tie.Need-same-length
 same-length c = search needs
 
 returns : tie.Need-returns
-returns c = c .before .before .add-multiple .ensures ∙ sum-once (c .before .before .before .before .before .before .before .before .pre .0) _ _ (sym (c .before .before .before .before .nth-piece .ensures .1)) ∙ ap (addV (c .before .before .before .before .before .before .before .before .args .p) (c .before .before .before .before .before .before .before .before .args .out .now)) (c .before .before .before .before .nth-piece .ensures .0)
+returns c = c .before .before .add-multiple .ensures ∙ add-once _ _ _ ∙ ap (addV (c .before .before .before .before .before .before .before .before .args .p) (c .before .before .before .before .before .before .before .before .args .out .now)) (c .before .before .before .before .nth-piece .ensures .0)
 
 pub add-first-spec : {M : Type 1} → statement M
 add-first-spec =

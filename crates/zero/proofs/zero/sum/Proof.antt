@@ -1,9 +1,9 @@
 -- `zero::zero::sum` meets its contract: a key with multiplier 1 is a sum.
 -- Assumes nothing.
-use mathlib.Core.Path.{sym, ap₂, _∙_}
+use mathlib.Core.Path.{ap₂, _∙_}
 use borrow.Author.Needs.{needs}
 use Rattle.residue.specs.Vector.{addV}
-use Rattle.zero.proofs.Sums.{key-once}
+use Rattle.contribution.proofs.Once.{key-once}
 use Rattle.zero.proofs.zero.sum.Statement.{statement}
 use Rattle.zero.proofs.zero.sum.Tie as tie
 
@@ -26,7 +26,7 @@ same-length : tie.Need-same-length
 same-length c = search needs
 
 returns : tie.Need-returns
-returns c = c .before .before .key-of .ensures ∙ key-once (c .before .before .before .before .before .before .before .before .before .before .pre .0) _ _ (c .before .before .before .before .before .before .nth-piece .ensures .1 ∙ sym (c .before .before .before .before .nth-piece2 .ensures .1)) ∙ ap₂ (addV (c .before .before .before .before .before .before .before .before .before .before .args .p)) (c .before .before .before .before .before .before .nth-piece .ensures .0) (c .before .before .before .before .nth-piece2 .ensures .0)
+returns c = c .before .before .key-of .ensures ∙ key-once _ _ _ ∙ ap₂ (addV (c .before .before .before .before .before .before .before .before .before .before .args .p)) (c .before .before .before .before .before .before .nth-piece .ensures .0) (c .before .before .before .before .nth-piece2 .ensures .0)
 
 pub sum-spec : {M : Type 1} → statement M
 sum-spec =

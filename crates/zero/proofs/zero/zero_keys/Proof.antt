@@ -8,8 +8,8 @@ use Rattle.session.specs.Held.{wiresIn}
 use Rattle.scheme.specs.Contribution.{recordAt}
 use Rattle.scheme.specs.Zero.{zeroKey}
 use Rattle.zero.specs.Ready.{drawnIn}
-use Rattle.zero.proofs.Sums.{small-product}
-use Rattle.zero.proofs.Cursor.{cursor-next, cursor-fits}
+use Rattle.contribution.proofs.Sizes.{vector-fits}
+use Rattle.contribution.proofs.Cursor.{cursor-next, cursor-fits}
 use Rattle.zero.proofs.Turns.{keys-start, keys-asked, keys-step, keys-done}
 use Rattle.zero.proofs.zero.zero_keys.Statement.{statement}
 use Rattle.zero.proofs.zero.zero_keys.Tie as tie
@@ -21,7 +21,7 @@ abbrev μ-loop : tie.MeasureT-loop
 μ-loop file n k size contributions keys₀ circuit m made at₀ to₀ w₀ keys at to w = circuit .made - w
 
 mul-m : tie.Need-mul-m Inv-loop μ-loop
-mul-m c = omega (arith, small-product (c .before .before .before .args .n) (c .before .before .before .args .k) 8 128 (c .before .before .before .pre .0 .sizes .parties) (c .before .before .before .pre .0 .sizes .short))
+mul-m c = omega (arith, vector-fits (c .before .before .before .pre .0 .sizes))
 
 first-record-requires : tie.Need-first-record-requires Inv-loop μ-loop
 first-record-requires c κs = (c .before .before .before .pre .0 .held .room, c .before .before .before .pre .0 .sizes .short)
@@ -36,13 +36,13 @@ element-copy-out-wire : tie.Need-element-copy-out-wire Inv-loop μ-loop
 element-copy-out-wire c = omega (arith, c .before .before .before .before .before .before .pre .0 .held .room .made, c .before .before .before .before .before .before .pre .0 .held .room .wires, c .loop-test .taken)
 
 put-wire-requires : tie.Need-put-wire-requires Inv-loop μ-loop
-put-wire-requires c κs = (keys-asked (c .before .before .before .before .before .before .before .before .pre .0) (c .before .before .loop-test .taken) (c .before .before .before .loop .inv .0) (c .before .before .before .loop .inv .1), (small-product (c .before .before .before .before .before .before .before .before .args .n) (c .before .before .before .before .before .before .before .before .args .k) 8 128 (c .before .before .before .before .before .before .before .before .pre .0 .sizes .parties) (c .before .before .before .before .before .before .before .before .pre .0 .sizes .short), steps-fits (c .before .before .before .loop .inv .1) (c .before .before .loop-test .taken)))
+put-wire-requires c κs = (keys-asked (c .before .before .before .before .before .before .before .before .pre .0) (c .before .before .loop-test .taken) (c .before .before .before .loop .inv .0) (c .before .before .before .loop .inv .1), (vector-fits (c .before .before .before .before .before .before .before .before .pre .0 .sizes), steps-fits (c .before .before .before .loop .inv .1) (c .before .before .loop-test .taken)))
 
 record-size-requires : tie.Need-record-size-requires Inv-loop μ-loop
 record-size-requires c κs = c .before .before .before .before .before .before .before .before .before .before .before .pre .0 .sizes .short
 
 add-at : tie.Need-add-at Inv-loop μ-loop
-add-at c = omega (arith, cursor-fits (c .before .before .before .before .before .before .before .before .before .before .before .before .pre .0) (c .before .before .before .before .before .before .loop-test .taken) (c .before .before .before .before .before .before .before .loop .inv .0) (c .record-size .ensures), c .before .before .before .before .before .before .before .before .before .before .before .before .fits .size .fits)
+add-at c = omega (arith, cursor-fits (c .before .before .before .before .before .before .before .before .before .before .before .before .pre .0 .held) (c .before .before .before .before .before .before .before .before .before .before .before .before .args .k) (c .before .before .before .before .before .before .loop-test .taken) (c .before .before .before .before .before .before .before .loop .inv .0) (c .before .before .before .before .before .before .before .before .before .before .before .before .pre .0 .each) (c .record-size .ensures), c .before .before .before .before .before .before .before .before .before .before .before .before .fits .size .fits)
 
 add-to : tie.Need-add-to Inv-loop μ-loop
 add-to c = omega (arith, steps-fits (c .before .before .before .before .before .before .before .loop .inv .1) (c .before .before .before .before .before .before .loop-test .taken))
@@ -54,7 +54,7 @@ loop-less : tie.Need-loop-less Inv-loop μ-loop
 loop-less c = omega (arith, c .before .before .before .before .before .before .loop-test .taken)
 
 loop-again : tie.Need-loop-again Inv-loop μ-loop
-loop-again c = (cursor-next (c .before .before .before .before .before .before .before .before .before .before .before .before .pre .0) (c .before .before .before .before .before .before .loop-test .taken) (c .before .before .before .before .before .before .before .loop .inv .0) (c .record-size .ensures), keys-step (c .before .before .before .before .before .before .before .before .before .before .before .before .pre .0) (c .before .before .before .before .before .before .loop-test .taken) (c .before .before .before .before .before .before .before .loop .inv .0) (c .before .before .before .before .before .before .before .loop .inv .1) refl (c .before .before .before .put-wire .ensures))
+loop-again c = (cursor-next (c .before .before .before .before .before .before .before .before .before .before .before .before .pre .0 .held) (c .before .before .before .before .before .before .before .before .before .before .before .before .args .k) (c .before .before .before .before .before .before .loop-test .taken) (c .before .before .before .before .before .before .before .loop .inv .0) (c .record-size .ensures), keys-step (c .before .before .before .before .before .before .before .before .before .before .before .before .pre .0) (c .before .before .before .before .before .before .loop-test .taken) (c .before .before .before .before .before .before .before .loop .inv .0) (c .before .before .before .before .before .before .before .loop .inv .1) refl (c .before .before .before .put-wire .ensures))
 
 same-length : tie.Need-same-length Inv-loop μ-loop
 same-length c = c .before .loop .inv .1 .kept
