@@ -82,16 +82,16 @@ row-at m rows i j e f = e ∙ ap (λ (i : ℕ). nthPiece rows m i) f
 pub zero-is : (bit : ℕ) → bit ≡ 0 → eqb bit 0 ≡ true
 zero-is bit e = ap (λ (b : ℕ). eqb b 0) e
 
-module _ (n K w p bit : ℕ) where
+module _ (p bit : ℕ) where
   pub chooser-zero : {part : List ℕ} (d : List ℕ) {out : List ℕ} → bit ≡ 0 → out ≡ part → out ≡ chooserKeys (eqb bit 0) p part d
   unfolding chooserKeys
   chooser-zero {part} d {out} h e = rw (zero-is bit h) e
 
-  pub chooser-one : {part : List ℕ} (d : List ℕ) {out out′ : List ℕ} → Vector n K d → 0 < p → (bit ≡ 0 → ⊥) → out ≡ part → length out ≡ n * K
+  pub chooser-one : {n K : ℕ} {part : List ℕ} (d : List ℕ) {out out′ : List ℕ} → Vector n K d → 0 < p → (bit ≡ 0 → ⊥) → out ≡ part → length out ≡ n * K
       → out′ ≡ addV p out (mulV p 1 d)
       → out′ ≡ chooserKeys (eqb bit 0) p part d
   unfolding chooserKeys
-  chooser-one {part} d {out} {out′} v h b e l f =
+  chooser-one {n} {K} {part} d {out} {out′} v h b e l f =
       rw (ne-eqb bit 0 b)
       (f ∙ vring h (n * K) (vec out ⊞ var 1 ⊡ vec d) (vec out ⊞ vec d) (l, v .size) (l, v .size) tt tt (λ i. omega arith)
       ∙ ap (λ (xs : List ℕ). addV p xs d) e)

@@ -22,6 +22,7 @@ use Rattle.counts.specs.declared.recipe.Recipe.the-variants.{Drawn, Free, Table
 use Rattle.search.specs.Search.{multiplier}
 use Rattle.scheme.specs.Zero.{freely, freelyV}
 use Rattle.scheme.specs.Opening.{Opened}
+use Rattle.contribution.proofs.Once.{key-once}
 use Rattle.evaluation.specs.declared.turn.Turn.{Turn}
 use Rattle.evaluation.specs.Gate.{tableKeys, productKeys, choiceKeys}
 use Rattle.evaluation.specs.Step.{Made, lower, shown, sought, given, summed, multiplied, openedFree, row, byTable, byProduct, heldBack, raised, byChoice, wireBy}

@@ -1,3 +1,4 @@
+-- `evaluation::add_bare` meets its contract: a row put on what stands there, and its pads taken off. Assumes nothing.
 use mathlib.Core.Path.{_∙_}
 use native.Mathlib.Omega.{arith}
 use Rattle.residue.proofs.Vectors.{addV-below}

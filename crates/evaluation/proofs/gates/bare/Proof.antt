@@ -1,3 +1,4 @@
+-- `evaluation::bare` meets its contract: a copy, and its pads taken off. Assumes nothing.
 use mathlib.Core.Path.{ap, _∙_}
 use lib.ListN.{length}
 use Rattle.evaluation.proofs.Bared.{asked, rowed, bare-row}

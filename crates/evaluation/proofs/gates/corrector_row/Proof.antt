@@ -1,3 +1,4 @@
+-- `evaluation::corrector_row` meets its contract: the rows of both correctors are cut out, and the named one gives its row. Assumes nothing.
 use native.Mathlib.Omega.{arith}
 use Rattle.evaluation.proofs.Correctors.{small, first-inside, second-inside, within, corrector-at}
 use borrow.Author.Needs.{needs}

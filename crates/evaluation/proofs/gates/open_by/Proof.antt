@@ -1,3 +1,4 @@
+-- `evaluation::open_by` meets its contract: the chooser's row, and the row of the corrector that is named. Assumes nothing.
 use mathlib.Core.Path.{_∙_}
 use native.Mathlib.Omega.{arith}
 use Rattle.contribution.proofs.Sizes.{vector-fits}

@@ -1,3 +1,4 @@
+-- `evaluation::open_choice` meets its contract: a local has room for the difference. Assumes nothing.
 use mathlib.Core.Path.{sym}
 use native.Mathlib.Omega.{arith}
 use lib.Seq.{length-take-le}

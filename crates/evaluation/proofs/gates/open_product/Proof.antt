@@ -1,3 +1,4 @@
+-- `evaluation::open_product` meets its contract: a row of each component without its pads, and a multiple of the keys of a. Assumes nothing.
 use mathlib.Core.Path.{sym, ap, _∙_}
 use Prim.Native.Nat.{_+_}
 use native.Mathlib.Omega.{arith}

@@ -1,3 +1,4 @@
+-- `evaluation::open_table` meets its contract: the row of the external value, without its pads. Assumes nothing.
 use mathlib.Core.Path.{ap, _∙_}
 use mathlib.Core.List.{List}
 use Prim.Native.Nat.{ℕ}

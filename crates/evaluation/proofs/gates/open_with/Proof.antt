@@ -1,3 +1,4 @@
+-- `evaluation::open_with` meets its contract: the difference is made in work memory. Assumes nothing.
 use mathlib.Core.Path.{sym, _∙_}
 use native.Mathlib.Omega.{arith}
 use Rattle.evaluation.proofs.Bared.{choice-with}

@@ -1,6 +1,7 @@
 -- `garbling::garble_from` meets its contract: rows and masks, each from what its call ensures. Assumes nothing.
 use mathlib.Core.Path.{sym, _∙_}
 use borrow.Author.Needs.{needs}
+use Rattle.zero.proofs.Made.{masks-kept}
 use Rattle.garbling.proofs.Garbled.{inputs-fit, inputs-are, gives-masks, outputs-are}
 use Rattle.garbling.proofs.pass.garble_from.Statement.{statement}
 use Rattle.garbling.proofs.pass.garble_from.Tie as tie
@@ -9,19 +10,19 @@ wire-masks-requires : tie.Need-wire-masks-requires
 wire-masks-requires c κs = c .before .before .before .before .before .before .pre .0
 
 slice-aggregate-put-rows : tie.Need-slice-aggregate-put-rows
-slice-aggregate-put-rows c = sym (c .before .wire-masks .ensures .kept)
+slice-aggregate-put-rows c = sym (masks-kept (c .before .before .before .before .before .before .before .before .pre .0) (c .before .wire-masks .ensures))
 
 put-rows-requires : tie.Need-put-rows-requires
 put-rows-requires c κs = (c .before .before .before .before .before .before .before .before .before .pre .0, ((c .before .before .before .before .before .before .before .before .before .pre .1 .0, c .before .before .wire-masks .ensures), c .before .before .before .before .before .before .before .before .before .pre .1 .1 .0))
 
 slice-aggregate-put-input-masks : tie.Need-slice-aggregate-put-input-masks
-slice-aggregate-put-input-masks c = sym (c .before .before .before .before .before .before .wire-masks .ensures .kept)
+slice-aggregate-put-input-masks c = sym (masks-kept (c .before .before .before .before .before .before .before .before .before .before .before .before .before .pre .0) (c .before .before .before .before .before .before .wire-masks .ensures))
 
 put-input-masks-requires : tie.Need-put-input-masks-requires
 put-input-masks-requires c κs = inputs-fit (c .before .before .before .before .before .before .before .before .before .before .before .before .before .before .pre .0) (c .before .before .before .before .before .before .before .wire-masks .ensures) (c .before .before .before .before .before .before .before .before .before .before .before .before .before .before .pre .1 .1 .1 .0)
 
 slice-aggregate-put-output-masks : tie.Need-slice-aggregate-put-output-masks
-slice-aggregate-put-output-masks c = sym (c .before .before .before .before .before .before .before .before .before .before .before .wire-masks .ensures .kept)
+slice-aggregate-put-output-masks c = sym (masks-kept (c .before .before .before .before .before .before .before .before .before .before .before .before .before .before .before .before .before .before .pre .0) (c .before .before .before .before .before .before .before .before .before .before .before .wire-masks .ensures))
 
 put-output-masks-requires : tie.Need-put-output-masks-requires
 put-output-masks-requires c κs = gives-masks (c .before .before .before .before .before .before .before .before .before .before .before .before .before .before .before .before .before .before .before .pre .0) (c .before .before .before .before .before .before .before .before .before .before .before .before .wire-masks .ensures) (c .before .before .before .before .before .before .before .before .before .before .before .before .before .before .before .before .before .before .before .pre .1 .1 .1 .1)
