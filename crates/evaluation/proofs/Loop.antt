@@ -30,7 +30,7 @@ use Rattle.evaluation.specs.Swept.{Put, Swept}
 use Rattle.evaluation.proofs.Reached.{openedAt, Reached}
 use Rattle.evaluation.proofs.Opens.{turnAt, ownRows, wire-is}
 use Rattle.evaluation.proofs.Prepared.{seated, rows-inside, ready}
-use Rattle.evaluation.proofs.Sweep.{reached-start, reached-step, swept-short, swept-all}
+use Rattle.evaluation.proofs.Sweep.{reached-start, reached-step, swept-short, swept-all, kept-keys, kept-externals}
 
 module _ {file : List ℕ} {circuit : Circuit} {n K party : ℕ} {contribution externals keys rows : List ℕ}
     (given : Given file circuit n K party contribution externals keys rows) where
@@ -169,6 +169,13 @@ module _ {file : List ℕ} {circuit : Circuit} {n K party : ℕ} {contribution e
             loop-next {step} l s =
                 reached-step n K party wires contribution externals keys rows r within put-same (subst (λ (q : ℕ). e < q) modulus-same l)
                 (ap (λ (x : ℕ). zero + x) (s ∙ ap (λ (x : ℕ). (K + 1) * x) (records-here (given .held) h))) (ap (λ (x : ℕ). from + x) size-here)
+
+            -- the buffers keep their sizes, whether a multiplier fits or not
+            pub loop-keys : length wkeys′ ≡ length wires * m
+            loop-keys = kept-keys n K party wires contribution externals keys rows r within put-same
+
+            pub loop-externals : length wexternals′ ≡ length wires
+            loop-externals = kept-externals n K party wires contribution externals keys rows r within put-same
 
             pub loop-short : wire .modulus ≤ e → Swept n K party wires contribution externals keys rows w wkeys′ wexternals′
             loop-short l =

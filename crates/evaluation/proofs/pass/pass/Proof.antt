@@ -3,7 +3,7 @@ use Prim.Native.Nat.{_-_}
 use native.Mathlib.Omega.{arith}
 use lib.ListN.{take}
 use Rattle.evaluation.proofs.Reached.{Reached}
-use Rattle.evaluation.proofs.Loop.{loop-start, table-long, same-keys, same-externals, places-size, places-room, keys-room, externals-room, small, cursor-room, rows-room, turn-seated, turn-ready, loop-next, loop-short, loop-all}
+use Rattle.evaluation.proofs.Loop.{loop-start, table-long, same-keys, same-externals, places-size, places-room, keys-room, externals-room, small, cursor-room, rows-room, turn-seated, turn-ready, loop-keys, loop-externals, loop-next, loop-short, loop-all}
 use Rattle.evaluation.proofs.pass.pass.Statement.{statement}
 use Rattle.evaluation.proofs.pass.pass.Tie as tie
 
@@ -48,11 +48,11 @@ pass-spec =
     (λ c.
     let start = c .before .before .before .before .before .before .before .before .before .before .before .before .before .before .before .before .before .before .before .before .before .before .before .before .before .before .before .before in
     let turn = c .before .before .before .before .before .before .before .before .before .before .before .before .before .before .before .before in
-    same-keys (start .pre .0) (loop-short (start .pre .0) (turn .loop-test .taken) (turn .before .loop .inv) (c .before .before .before .before .before .before .before .before .before .before .before .before .before .before .before .before .before .before .before .before .moduli .ensures) (c .before .before .before .before .before .before .before .before .before .before .before .before .before .row-bytes .ensures) (c .before .before .before .before .before .before .before .before .before .before .before .before .before .before .before .before .before .before .before .ranks .ensures) (c .before .before .before .before .before .before .before .before .before .before .before .before .piece .ensures .0) (c .before .before .before .before .before .before .before .before .before .before .before .number .ensures) (c .before .before .before .before .before .before .before .before .before .offset-place .ensures) (c .before .before .before .before .before .put-wire .ensures) (c .if1 .taken) .keysSize) (start .pre .1 .0))
+    same-keys (start .pre .0) (loop-keys (start .pre .0) (turn .loop-test .taken) (turn .before .loop .inv) (c .before .before .before .before .before .before .before .before .before .before .before .before .before .before .before .before .before .before .before .before .moduli .ensures) (c .before .before .before .before .before .before .before .before .before .before .before .before .before .row-bytes .ensures) (c .before .before .before .before .before .before .before .before .before .before .before .before .before .before .before .before .before .before .before .ranks .ensures) (c .before .before .before .before .before .before .before .before .before .before .before .before .piece .ensures .0) (c .before .before .before .before .before .before .before .before .before .before .before .number .ensures) (c .before .before .before .before .before .before .before .before .before .offset-place .ensures) (c .before .before .before .before .before .put-wire .ensures)) (start .pre .1 .0))
     (λ c.
     let start = c .before .before .before .before .before .before .before .before .before .before .before .before .before .before .before .before .before .before .before .before .before .before .before .before .before .before .before .before in
     let turn = c .before .before .before .before .before .before .before .before .before .before .before .before .before .before .before .before in
-    same-externals (start .pre .0) (loop-short (start .pre .0) (turn .loop-test .taken) (turn .before .loop .inv) (c .before .before .before .before .before .before .before .before .before .before .before .before .before .before .before .before .before .before .before .before .moduli .ensures) (c .before .before .before .before .before .before .before .before .before .before .before .before .before .row-bytes .ensures) (c .before .before .before .before .before .before .before .before .before .before .before .before .before .before .before .before .before .before .before .ranks .ensures) (c .before .before .before .before .before .before .before .before .before .before .before .before .piece .ensures .0) (c .before .before .before .before .before .before .before .before .before .before .before .number .ensures) (c .before .before .before .before .before .before .before .before .before .offset-place .ensures) (c .before .before .before .before .before .put-wire .ensures) (c .if1 .taken) .externalsSize) (start .pre .1 .1))
+    same-externals (start .pre .0) (loop-externals (start .pre .0) (turn .loop-test .taken) (turn .before .loop .inv) (c .before .before .before .before .before .before .before .before .before .before .before .before .before .before .before .before .before .before .before .before .moduli .ensures) (c .before .before .before .before .before .before .before .before .before .before .before .before .before .row-bytes .ensures) (c .before .before .before .before .before .before .before .before .before .before .before .before .before .before .before .before .before .before .before .ranks .ensures) (c .before .before .before .before .before .before .before .before .before .before .before .before .piece .ensures .0) (c .before .before .before .before .before .before .before .before .before .before .before .number .ensures) (c .before .before .before .before .before .before .before .before .before .offset-place .ensures) (c .before .before .before .before .before .put-wire .ensures)) (start .pre .1 .1))
     (λ c.
     let turn = c .before .before .before .before .before .before .before .before .before .before .before .before .before .before .before .before in
     loop-short (c .before .before .before .before .before .before .before .before .before .before .before .before .before .before .before .before .before .before .before .before .before .before .before .before .before .before .before .before .pre .0) (turn .loop-test .taken) (turn .before .loop .inv) (c .before .before .before .before .before .before .before .before .before .before .before .before .before .before .before .before .before .before .before .before .moduli .ensures) (c .before .before .before .before .before .before .before .before .before .before .before .before .before .row-bytes .ensures) (c .before .before .before .before .before .before .before .before .before .before .before .before .before .before .before .before .before .before .before .ranks .ensures) (c .before .before .before .before .before .before .before .before .before .before .before .before .piece .ensures .0) (c .before .before .before .before .before .before .before .before .before .before .before .number .ensures) (c .before .before .before .before .before .before .before .before .before .offset-place .ensures) (c .before .before .before .before .before .put-wire .ensures) (c .if1 .taken))
