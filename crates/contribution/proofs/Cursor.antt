@@ -12,11 +12,11 @@ use Rattle.lists.specs.Blocks.{sumTo}
 use Rattle.words.specs.declared.gate.Wire.{Wire}
 use Rattle.circuit.specs.Wires.{wireAt}
 use Rattle.circuit.specs.declared.Circuit.{Circuit}
+use Rattle.circuit.specs.Held.{wiresIn, Held}
 use Rattle.counts.proofs.Counting.{records-at}
 use Rattle.counts.specs.Counts.{recordKeysBy, recordKeysOf}
 use Rattle.counts.specs.Moduli.{moduliUsed}
 use Rattle.counts.specs.Recipe.{recipe}
-use Rattle.session.specs.Held.{wiresIn, Held}
 use Rattle.session.proofs.Circuits.{made-is}
 use Rattle.scheme.proofs.Places.{record-fits, key-fits, share-fits}
 use Rattle.scheme.specs.Contribution.{recordAt, keyAt, shareAt, contributionSize}

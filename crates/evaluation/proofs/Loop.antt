@@ -11,13 +11,13 @@ use Rattle.lists.proofs.Sums.{times-fits}
 use Rattle.words.specs.declared.gate.Wire.{Wire}
 use Rattle.circuit.specs.declared.Circuit.{Circuit}
 use Rattle.circuit.specs.Wires.{wireAt, modulusAt, moduliOf}
+use Rattle.circuit.specs.Held.{wiresIn}
 use Rattle.circuit.proofs.More.{made}
 use Rattle.counts.specs.Recipe.{recipe}
 use Rattle.counts.specs.Counts.{rowsBy, rowsOf, recordKeysBy}
 use Rattle.counts.specs.Moduli.{usedBelow}
 use Rattle.counts.proofs.Wires.{wire-at, padded-modulus}
 use Rattle.counts.proofs.Counting.{rows-at}
-use Rattle.session.specs.Held.{wiresIn}
 use Rattle.session.proofs.Circuits.{made-is}
 use Rattle.scheme.specs.Contribution.{recordAt, offsetAt}
 use Rattle.contribution.proofs.Cursor.{records-here, cursor-fits}

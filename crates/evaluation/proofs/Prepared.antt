@@ -21,9 +21,9 @@ use Rattle.circuit.specs.declared.Circuit.{Circuit}
 use Rattle.circuit.specs.Wires.{wireAt, modulusAt, inputsIn}
 use Rattle.circuit.specs.Accepted.{GateFits, Alike}
 use Rattle.circuit.specs.Accepted.GateFits.{input, scale, multiply, project, select}
+use Rattle.circuit.specs.Held.{wiresIn}
 use Rattle.counts.specs.Recipe.{gateRecipe, recipe}
 use Rattle.counts.specs.Counts.{rowsBy, rowsOf, rowsIn, recordKeysBy}
-use Rattle.session.specs.Held.{wiresIn}
 use Rattle.session.specs.Session.{tooLarge, valuesChecked}
 use Rattle.scheme.specs.Contribution.{keyAt}
 use Rattle.scheme.proofs.Places.{key-fits, offset-fits}

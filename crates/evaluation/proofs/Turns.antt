@@ -18,7 +18,7 @@ use Rattle.words.specs.declared.gate.Choice.{Choice}
 use Rattle.words.specs.declared.gate.Gate.{Gate}
 use Rattle.words.specs.declared.gate.Gate.the-variants.{Input, Add, Scale, Multiply, Project, Select}
 use Rattle.counts.specs.declared.recipe.Recipe.{Recipe}
-use Rattle.counts.specs.declared.recipe.Recipe.the-variants.{Drawn, Free, Table, Product, Choice as Chosen}
+use Rattle.counts.specs.declared.recipe.Recipe.the-variants.{Entered, Free, Table, Product, Choice as Chosen}
 use Rattle.search.specs.Search.{multiplier}
 use Rattle.scheme.specs.Zero.{freely, freelyV}
 use Rattle.scheme.specs.Opening.{Opened}
@@ -181,7 +181,7 @@ module _ {turn : Turn} {moduli contribution externals keys rows wkeys wexternals
       → Ready turn moduli contribution externals keys rows wkeys wexternals gate how′
   known e r = subst (λ (h : Recipe). Ready turn moduli contribution externals keys rows wkeys wexternals gate h) e r
 
-  drawn-of : Ready turn moduli contribution externals keys rows wkeys wexternals gate Drawn → InputReady turn externals keys
+  drawn-of : Ready turn moduli contribution externals keys rows wkeys wexternals gate Entered → InputReady turn externals keys
   drawn-of (Ready.drawn r) = r
 
   free-of : Ready turn moduli contribution externals keys rows wkeys wexternals gate Free → FreeReady turn wkeys wexternals gate
@@ -197,7 +197,7 @@ module _ {turn : Turn} {moduli contribution externals keys rows wkeys wexternals
   choice-of (Ready.choice r) = r
 
   module _ {how told : Recipe} (told-is : told ≡ how) (r : Ready turn moduli contribution externals keys rows wkeys wexternals gate how) where
-    pub at-drawn : told ≡ Drawn → InputReady turn externals keys
+    pub at-drawn : told ≡ Entered → InputReady turn externals keys
     at-drawn e = drawn-of (known (sym told-is ∙ e) r)
 
     pub at-free : told ≡ Free → FreeReady turn wkeys wexternals gate

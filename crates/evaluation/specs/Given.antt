@@ -11,9 +11,9 @@ use Rattle.checks.specs.Checked.Checked.{passed}
 use Rattle.circuit.specs.declared.Circuit.{Circuit}
 use Rattle.circuit.specs.Wires.{modulusAt, inputsIn}
 use Rattle.circuit.specs.Accepted.{AcceptedCircuit}
+use Rattle.circuit.specs.Held.{wiresIn, outputsIn, Held}
 use Rattle.counts.specs.Counts.{rowsIn}
 use Rattle.session.specs.Sizes.{Sizes}
-use Rattle.session.specs.Held.{wiresIn, outputsIn, Held}
 use Rattle.session.specs.Session.{valuesChecked}
 use Rattle.pads.specs.Pad.{shakePad}
 use Rattle.scheme.specs.Contribution.{contributionSize}

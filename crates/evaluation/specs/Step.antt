@@ -13,7 +13,7 @@ use Rattle.residue.specs.Vector.{addV, subV, mulV}
 use Rattle.search.specs.Search.{multiplier}
 use Rattle.words.specs.declared.gate.Gate.{Gate}
 use Rattle.counts.specs.declared.recipe.Recipe.{Recipe}
-use Rattle.counts.specs.declared.recipe.Recipe.the-variants.{Drawn, Free, Table, Product, Choice}
+use Rattle.counts.specs.declared.recipe.Recipe.the-variants.{Entered, Free, Table, Product, Choice}
 use Rattle.scheme.specs.Zero.{freely, freelyV}
 use Rattle.scheme.specs.Opening.{Opened}
 use Rattle.evaluation.specs.declared.turn.Turn.{Turn}
@@ -87,7 +87,7 @@ module _ (turn : Turn) (contribution rows : List ℕ) where
 
 -- any wire, by its recipe
 unfoldable pub wireBy : Turn → (ℕ → ℕ) → List ℕ → List ℕ → List ℕ → List ℕ → (ℕ → Opened) → Gate → Recipe → Opened
-wireBy turn modulusOf contribution externals keys rows look gate Drawn = given turn externals keys
+wireBy turn modulusOf contribution externals keys rows look gate Entered = given turn externals keys
 wireBy turn modulusOf contribution externals keys rows look gate Free = openedFree (turn .modulus) gate look
 wireBy turn modulusOf contribution externals keys rows look gate (Table a) = byTable turn contribution rows (modulusOf a) (look a)
 wireBy turn modulusOf contribution externals keys rows look gate (Product g) =

@@ -4,7 +4,7 @@ ghost use Prim.Native.Nat.{_+_, _*_, _≤_, _<_};
 ghost use lib.ListN.{length, getD};
 ghost use Rattle.counts.specs.Recipe.{recipe};
 ghost use Rattle.counts.specs.Counts.{rowsBy};
-ghost use Rattle.session.specs.Held.{wiresIn};
+ghost use Rattle.circuit.specs.Held.{wiresIn};
 ghost use Rattle.session.specs.Sizes.{Sizes, Vector};
 ghost use Rattle.evaluation.specs.Given.{Given, Evaluated};
 ghost use Rattle.evaluation.specs.Step.{lower, wireBy};

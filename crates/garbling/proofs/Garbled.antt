@@ -12,10 +12,10 @@ use Rattle.lists.proofs.Steps.{Steps, steps-start, steps-whole}
 use Rattle.words.specs.declared.gate.Wire.{Wire}
 use Rattle.circuit.specs.declared.Circuit.{Circuit}
 use Rattle.circuit.specs.Wires.{wireAt, moduliOf, inputsIn}
+use Rattle.circuit.specs.Held.{wiresIn, outputsIn}
 use Rattle.counts.specs.Recipe.{recipe}
 use Rattle.counts.specs.Counts.{rowsBy, rowsOf, rowsIn, Counts}
 use Rattle.counts.specs.Moduli.{usedBelow}
-use Rattle.session.specs.Held.{wiresIn, outputsIn}
 use Rattle.session.proofs.Circuits.{made-is, given-is, inputs-made}
 use Rattle.plain.specs.Ready.{Gives}
 use Rattle.pads.specs.Pad.{shakePad}

@@ -24,13 +24,13 @@ use Rattle.circuit.specs.Wires.{wireAt, modulusAt, moduliOf}
 use Rattle.circuit.specs.Accepted.{GateFits, ProjectionFits}
 use Rattle.circuit.proofs.More.{made}
 use Rattle.circuit.specs.Accepted.GateFits.{input, add, scale, multiply, project, select}
+use Rattle.circuit.specs.Held.{wiresIn}
 use Rattle.counts.specs.declared.recipe.Recipe.{Recipe}
-use Rattle.counts.specs.declared.recipe.Recipe.the-variants.{Drawn, Free, Table, Product, Choice}
+use Rattle.counts.specs.declared.recipe.Recipe.the-variants.{Entered, Free, Table, Product, Choice}
 use Rattle.counts.specs.Recipe.{gateRecipe, recipe}
 use Rattle.counts.specs.Counts.{recordKeysBy, recordKeysOf, rowsBy, rowsOf}
 use Rattle.counts.specs.Moduli.{used, usedBelow}
 use Rattle.counts.proofs.Wires.{wire-at, padded-modulus}
-use Rattle.session.specs.Held.{wiresIn}
 use Rattle.session.proofs.Circuits.{made-is}
 use Rattle.pads.specs.Pad.{shakePad}
 use Rattle.scheme.specs.Contribution.{offsetAt, recordAt, keyAt, shareAt, contributionSize}
@@ -87,7 +87,7 @@ module _ (n K : ℕ) (file : List ℕ) (wires : List Wire) (draw : Draw) (w : �
 -- ---- what the code looks up
 
 rowsBy-same : (how : Recipe) (p : ℕ) {f g : ℕ → ℕ} → ((a : ℕ) → f a ≡ g a) → rowsBy how f p ≡ rowsBy how g p
-rowsBy-same Drawn p e = refl
+rowsBy-same Entered p e = refl
 rowsBy-same Free p e = refl
 rowsBy-same (Table a) p e = e a
 rowsBy-same (Product g) p e = refl

@@ -16,7 +16,7 @@ use Rattle.words.specs.declared.gate.Gate.{Gate}
 use Rattle.words.specs.declared.gate.Gate.the-variants.{Input, Add, Scale, Multiply, Project, Select}
 use Rattle.words.specs.declared.gate.Wire.{Wire}
 use Rattle.counts.specs.declared.recipe.Recipe.{Recipe}
-use Rattle.counts.specs.declared.recipe.Recipe.the-variants.{Drawn, Free, Table, Product, Choice}
+use Rattle.counts.specs.declared.recipe.Recipe.the-variants.{Entered, Free, Table, Product, Choice}
 use Rattle.counts.specs.Recipe.{recipe}
 use Rattle.counts.specs.Counts.{recordKeysBy, rowsBy}
 use Rattle.rows.specs.Gate.{tableRows, productRows, chooserRows, correctorRows}
@@ -76,7 +76,7 @@ module _ (n K size w at p : ℕ) (contributions ranks keys masks : List ℕ) whe
       ++ correctorRows n K w p (offset p) (mask (g .bit)) d m (key 0) (key 1) (key 2) (share 3 0) (share 3 1) (share 3 2)
 
   unfoldable pub rowsHere : List ℕ → List ℕ → Gate → Recipe → List ℕ
-  rowsHere file moduli gate Drawn = []
+  rowsHere file moduli gate Entered = []
   rowsHere file moduli gate Free = []
   rowsHere file moduli gate (Table a) = tableHere file (tableOf gate) a (getD moduli a 0)
   rowsHere file moduli gate (Product g) = productHere g
@@ -122,7 +122,7 @@ pub record OfChoice (n K size : ℕ) (ranks keys masks : List ℕ) (p : ℕ) (g 
 
 -- what a wire's operands are by its recipe
 pub data OfRecipe (n K size : ℕ) (ranks keys masks file moduli : List ℕ) (p : ℕ) (gate : Gate) : Recipe → Type 0 where
-  drawn : OfRecipe n K size ranks keys masks file moduli p gate Drawn
+  drawn : OfRecipe n K size ranks keys masks file moduli p gate Entered
   free : OfRecipe n K size ranks keys masks file moduli p gate Free
   table : {a : ℕ} → a < length moduli → OverTable n K size ranks keys masks file (tableOf gate) a (getD moduli a 0) p
       → OfRecipe n K size ranks keys masks file moduli p gate (Table a)

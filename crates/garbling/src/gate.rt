@@ -240,7 +240,7 @@ pub fn gate_rows(
     let gate = wire.gate;
     let p = wire.modulus;
     match how {
-        Recipe::Drawn => {}
+        Recipe::Entered => {}
         Recipe::Free => {}
         Recipe::Table(over) => {
             let a = index(over);

@@ -16,9 +16,9 @@ use Rattle.circuit.specs.Accepted.{GateFits}
 use Rattle.circuit.specs.Accepted.GateFits.{input, scale, multiply, project, select}
 use Rattle.circuit.specs.Wires.{wireAt, modulusAt}
 use Rattle.circuit.specs.declared.Circuit.{Circuit}
+use Rattle.circuit.specs.Held.{wiresIn}
 use Rattle.counts.specs.Counts.{recordKeysBy}
 use Rattle.counts.specs.Recipe.{gateRecipe, recipe}
-use Rattle.session.specs.Held.{wiresIn}
 use Rattle.session.proofs.Circuits.{made-is}
 use Rattle.scheme.proofs.Bounds.{positive}
 use Rattle.scheme.proofs.Steps.{by-lower, zeroKey-step, mask-step}

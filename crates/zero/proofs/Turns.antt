@@ -23,10 +23,10 @@ use Rattle.circuit.specs.Accepted.{GateFits, Alike}
 use Rattle.circuit.specs.Accepted.GateFits.{input, scale, multiply, project, select}
 use Rattle.circuit.specs.Wires.{wireAt, modulusAt}
 use Rattle.circuit.specs.declared.Circuit.{Circuit}
+use Rattle.circuit.specs.Held.{wiresIn}
 use Rattle.counts.proofs.Wires.{wire-at}
 use Rattle.counts.specs.Counts.{recordKeysBy, recordKeysOf}
 use Rattle.counts.specs.Recipe.{gateRecipe, recipe}
-use Rattle.session.specs.Held.{wiresIn}
 use Rattle.plain.specs.Ready.{Below}
 use Rattle.scheme.proofs.Steps.{zeroKey-step, mask-step}
 use Rattle.scheme.specs.Contribution.{recordAt, keyAt, shareAt}

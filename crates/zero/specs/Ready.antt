@@ -7,8 +7,8 @@ use lib.ListN.{length, replicate}
 use Rattle.lists.specs.Blocks.{blocks}
 use Rattle.circuit.specs.declared.Circuit.{Circuit}
 use Rattle.circuit.specs.Accepted.{AcceptedCircuit}
+use Rattle.circuit.specs.Held.{wiresIn, outputsIn, Held}
 use Rattle.session.specs.Sizes.{Sizes}
-use Rattle.session.specs.Held.{wiresIn, outputsIn, Held}
 use Rattle.scheme.specs.Contribution.{contributionSize}
 use Rattle.scheme.specs.Draw.{Draw, drawn}
 use Rattle.scheme.specs.Zero.{zeroKey, masksTo}

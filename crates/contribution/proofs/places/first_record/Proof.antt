@@ -2,7 +2,7 @@
 use mathlib.Core.Path.{sym, ap, _∙_}
 use Prim.Native.Nat.{ℕ, _*_}
 use native.Mathlib.Omega.{arith}
-use Rattle.session.specs.Held.{wiresIn}
+use Rattle.circuit.specs.Held.{wiresIn}
 use Rattle.contribution.proofs.Sizes.{times-most}
 use Rattle.contribution.proofs.Cursor.{record-first}
 use Rattle.contribution.proofs.places.first_record.Statement.{statement}

@@ -6,7 +6,7 @@ use native.Mathlib.Omega.{arith}
 use borrow.Author.Needs.{needs}
 use lib.ListN.{length, replicate, length-set}
 use Rattle.lists.proofs.Filled.{Filled}
-use Rattle.session.specs.Held.{wiresIn}
+use Rattle.circuit.specs.Held.{wiresIn}
 use Rattle.scheme.specs.Contribution.{recordAt}
 use Rattle.scheme.specs.Zero.{masksTo}
 use Rattle.zero.specs.Ready.{drawnIn}

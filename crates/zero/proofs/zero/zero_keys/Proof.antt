@@ -4,7 +4,7 @@ use mathlib.Core.Path.{_≡_, refl}
 use Prim.Native.Nat.{_-_, _*_}
 use native.Mathlib.Omega.{arith}
 use Rattle.lists.proofs.Steps.{Level, steps-fits}
-use Rattle.session.specs.Held.{wiresIn}
+use Rattle.circuit.specs.Held.{wiresIn}
 use Rattle.scheme.specs.Contribution.{recordAt}
 use Rattle.scheme.specs.Zero.{zeroKey}
 use Rattle.zero.specs.Ready.{drawnIn}
