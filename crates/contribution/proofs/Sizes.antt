@@ -14,13 +14,21 @@ use Rattle.lists.proofs.Blocks.{length-tab, getD-tab, take-tab, tab-ext}
 use Rattle.lists.proofs.Filled.{Filled, filled-step, filled-whole}
 use Rattle.words.specs.declared.gate.Wire.{Wire}
 use Rattle.counts.specs.Counts.{Counts, mark, recordKeysIn}
-use Rattle.counts.specs.Moduli.{used, usedBelow, moduliUsed}
+use Rattle.counts.specs.Moduli.{moduliUsed}
+use Rattle.session.specs.Sizes.{Sizes}
 use Rattle.scheme.specs.Contribution.{contributionSize}
 
 -- ---- products that are bounded
 
 pub times-most : (a b m n : ℕ) → a ≤ m → b ≤ n → a * b ≤ m * n
 times-most a b m n h k = le-trans (mul-le-mul-right b h) (mul-le-mul-left m k)
+
+-- the keys of all parties on one wire, and the room for them
+pub vector-fits : {n K : ℕ} → Sizes n K → n * K ≤ 1024
+vector-fits {n} {K} s = times-most n K 8 128 (s .parties) (s .short)
+
+pub scratch-cut : (room : List ℕ) {n K : ℕ} → Sizes n K → length room ≡ 1024 → length (take (n * K) room) ≡ n * K
+scratch-cut room {n} {K} s e = length-take-le (n * K) room (omega (arith, vector-fits s))
 
 -- ---- the size
 
@@ -48,9 +56,6 @@ mark-le false = omega arith
 counted-le : (test : ℕ → Bool) (p : ℕ) → sumTo p (λ q. mark (test q)) ≤ p
 counted-le test p =
     omega (arith, sumTo-le p (λ q. mark (test q)) (λ _. 1) (λ q _. mark-le (test q)), sumTo-const p 1, mul-one p)
-
-pub usedBelow-le : (wires : List Wire) (p : ℕ) → usedBelow wires p ≤ p
-usedBelow-le wires p = counted-le (used wires) p
 
 -- an element that is filled is the target's
 filled-read : {out₀ : List ℕ} {i n : ℕ} {target out : List ℕ} → Filled out₀ i n target out → (j : ℕ) → j < i → getD out j 0 ≡ getD target j 0

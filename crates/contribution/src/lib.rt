@@ -1,4 +1,4 @@
-// A party's contribution on lent bytes: its size, the places of its offsets, and the checks of contributions, keys and rows, 16 to 18.
+// A party's contribution on lent bytes: its size, the places of its offsets and records, and the checks of contributions, keys and rows, 16 to 18.
 // Rests on `scheme` and `round` for what is laid out and checked, on `counts` for what a circuit counts, on `checks` for answers.
 mod contributed;
 mod keyed;
@@ -11,4 +11,9 @@ pub use keyed::keys_checked;
 pub use keyed::rows_checked;
 pub use offset::offsets_checked;
 pub use places::contribution_size;
+pub use places::first_record;
+pub use places::offset_place;
 pub use places::ranks;
+pub use places::record_keys;
+pub use places::record_size;
+pub use places::scratch;

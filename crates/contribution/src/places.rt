@@ -1,16 +1,19 @@
-// The size of a contribution, and the place of a modulus among those in use.
+// Where things lie in a contribution: its size, the place of each offset among the moduli in use, and a cursor that goes from one wire's record to the next.
 ghost use mathlib.Core.Path.{_≡_};
-ghost use Prim.Native.Nat.{_≤_};
-ghost use lib.ListN.{replicate};
+ghost use Prim.Native.Nat.{_+_, _*_, _≤_, _<_};
+ghost use lib.ListN.{length, getD, replicate};
 ghost use Rattle.lists.specs.Blocks.{tab};
+ghost use Rattle.counts.specs.Recipe.{recipe};
 ghost use Rattle.circuit.specs.Held.{wiresIn, Room};
-ghost use Rattle.counts.specs.Counts.{Counts};
+ghost use Rattle.counts.specs.Counts.{Counts, recordKeysBy};
 ghost use Rattle.counts.specs.Moduli.{usedBelow};
-ghost use Rattle.scheme.specs.Contribution.{contributionSize};
+ghost use Rattle.scheme.specs.Contribution.{contributionSize, recordAt};
 use circuit::Circuit;
 use counts::marks;
 use counts::moduli_used;
+use counts::record_count;
 use counts::records;
+use words::Wire;
 
 fn no_ranks() -> [u8; 256]
     ensures { λ r. ⌜ r ≡ replicate 256 0 ⌝ }
@@ -46,6 +49,15 @@ pub fn wide(x: u32) -> usize
     x as usize
 }
 
+// Where the offset of modulus `p` starts, by its rank.
+pub fn offset_place(ranks: &[u8], p: u8, k: usize) -> usize
+    requires { ⌜ (p < length (now ranks)) × (k ≤ 128) ⌝ }
+    ensures { λ r. ⌜ r ≡ k * getD (now (ranks .entry)) p 0 ⌝ }
+{
+    let at = p as usize;
+    k * wide_byte(ranks[at])
+}
+
 // K bytes for each modulus in use, and K + 1 for each key of the records.
 pub fn contribution_size(circuit: Circuit, k: usize) -> usize
     requires { ⌜ Room circuit × (k ≤ 128) ⌝ }
@@ -54,4 +66,35 @@ pub fn contribution_size(circuit: Circuit, k: usize) -> usize
     let moduli = wide(moduli_used(circuit));
     let keys = wide(records(circuit));
     k * moduli + (k + 1) * keys
+}
+
+// The first wire's record stands behind all offsets.
+pub fn first_record(circuit: Circuit, k: usize) -> usize
+    requires { ⌜ Room circuit × (k ≤ 128) ⌝ }
+    ensures { λ r. ⌜ r ≡ recordAt k (wiresIn circuit) 0 ⌝ }
+{
+    k * wide(moduli_used(circuit))
+}
+
+// The bytes of a record's keys: its mask shares stand behind them.
+pub fn record_keys(wire: Wire, k: usize) -> usize
+    requires { ⌜ k ≤ 128 ⌝ }
+    ensures { λ r. ⌜ r ≡ k * recordKeysBy (recipe wire) ⌝ }
+{
+    k * wide(record_count(wire))
+}
+
+// The bytes of a record: keys, and as many shares. The next wire's record stands behind them.
+pub fn record_size(wire: Wire, k: usize) -> usize
+    requires { ⌜ k ≤ 128 ⌝ }
+    ensures { λ r. ⌜ r ≡ (k + 1) * recordKeysBy (recipe wire) ⌝ }
+{
+    (k + 1) * wide(record_count(wire))
+}
+
+// Room for the keys of all parties on one wire, which are at most 8 times 128 bytes.
+pub fn scratch() -> [u8; 1024]
+    ensures { λ r. ⌜ length r ≡ 1024 ⌝ }
+{
+    [0u8; 1024]
 }

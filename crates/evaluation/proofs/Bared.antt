@@ -1,6 +1,6 @@
 -- Rows without their pads, made in place.
 -- Assumes nothing.
-use mathlib.Core.Path.{_≡_, refl, sym, ap, subst, _∙_}
+use mathlib.Core.Path.{_≡_, sym, ap, subst, _∙_}
 use mathlib.Core.Bool.{true}
 use mathlib.Core.List.{List}
 use Prim.Native.Nat.{ℕ, _+_, _*_, _≤_, _<_}
@@ -9,7 +9,6 @@ use lib.Dec.{eqb}
 use borrow.Author.Tests.{ne-eqb}
 use lib.ListN.{length}
 use Rattle.lists.specs.Blocks.{part, nthPiece}
-use native.Mathlib.Nat.{mul-le-mul}
 use Rattle.lists.proofs.Sums.{times-fits}
 use Rattle.residue.specs.Vector.{addV, subV, mulV, AllBelow}
 use Rattle.residue.proofs.Vectors.{subV-length}
@@ -77,24 +76,21 @@ module _ {n K p count : ℕ} {rows : List ℕ} (r : Rows n K p rows count) where
 pub row-at : (m : ℕ) (rows : List ℕ) {row : List ℕ} (i j : ℕ) → row ≡ nthPiece rows m j → j ≡ i → row ≡ nthPiece rows m i
 row-at m rows i j e f = e ∙ ap (λ (i : ℕ). nthPiece rows m i) f
 
-pub width : {n K : ℕ} → Sizes n K → n * K ≤ 1024
-width s = mul-le-mul (s .parties) (s .short)
-
 -- ---- the chooser
 
 pub zero-is : (bit : ℕ) → bit ≡ 0 → eqb bit 0 ≡ true
 zero-is bit e = ap (λ (b : ℕ). eqb b 0) e
 
-module _ (n K w p bit : ℕ) where
-  pub chooser-zero : {part : List ℕ} (d : List ℕ) {out : List ℕ} → bit ≡ 0 → out ≡ part → out ≡ chooserKeys n K w (eqb bit 0) p part d
+module _ (p bit : ℕ) where
+  pub chooser-zero : {part : List ℕ} (d : List ℕ) {out : List ℕ} → bit ≡ 0 → out ≡ part → out ≡ chooserKeys (eqb bit 0) p part d
   unfolding chooserKeys
   chooser-zero {part} d {out} h e = rw (zero-is bit h) e
 
-  pub chooser-one : {part : List ℕ} (d : List ℕ) {out out′ : List ℕ} → Vector n K d → 0 < p → (bit ≡ 0 → ⊥) → out ≡ part → length out ≡ n * K
+  pub chooser-one : {n K : ℕ} {part : List ℕ} (d : List ℕ) {out out′ : List ℕ} → Vector n K d → 0 < p → (bit ≡ 0 → ⊥) → out ≡ part → length out ≡ n * K
       → out′ ≡ addV p out (mulV p 1 d)
-      → out′ ≡ chooserKeys n K w (eqb bit 0) p part d
+      → out′ ≡ chooserKeys (eqb bit 0) p part d
   unfolding chooserKeys
-  chooser-one {part} d {out} {out′} v h b e l f =
+  chooser-one {n} {K} {part} d {out} {out′} v h b e l f =
       rw (ne-eqb bit 0 b)
       (f ∙ vring h (n * K) (vec out ⊞ var 1 ⊡ vec d) (vec out ⊞ vec d) (l, v .size) (l, v .size) tt tt (λ i. omega arith)
       ∙ ap (λ (xs : List ℕ). addV p xs d) e)
@@ -118,7 +114,7 @@ module _ (n K w p bit : ℕ) (v d : List ℕ) (rows : List ℕ) where
   pub choice-is : (i₁ : ℕ) {row₀ row₁ out₀ out : List ℕ} {i : ℕ}
       → row₀ ≡ nthPiece rows (n * K) i → i ≡ bit
       → row₁ ≡ nthPiece rows (n * K) i₁
-      → out₀ ≡ chooserKeys n K w (eqb bit 0) p (bared n K w p 2 0 v row₀) d
+      → out₀ ≡ chooserKeys (eqb bit 0) p (bared n K w p 2 0 v row₀) d
       → out ≡ addV p out₀ (bared n K w p p (1 + bit) d row₁)
       → out ≡ choiceKeys n K w p bit v d (nthPiece rows (n * K) bit) (nthPiece rows (n * K) i₁)
   unfolding choiceKeys

@@ -2,6 +2,7 @@
 pub mod Bared
 pub mod Correctors
 pub mod Maps
+pub mod Reached
 pub mod Turns
 pub mod Opens
 pub mod Prepared

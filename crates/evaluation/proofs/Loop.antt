@@ -1,33 +1,33 @@
 -- The pass as the code makes it: what stands in its locals at one wire is what the definitions cut out for that wire.
 -- Assumes nothing.
-use mathlib.Core.Path.{_≡_, refl, sym, ap, ap₂, subst, _∙_}
+use mathlib.Core.Path.{_≡_, sym, ap, ap₂, subst, _∙_}
 use mathlib.Core.List.{List, _++_}
 use Prim.Native.Nat.{ℕ, _+_, _-_, _*_, _≤_, _<_}
 use native.Mathlib.Omega.{arith}
 use lib.ListN.{length, getD, replicate, length-append, length-replicate}
-use Rattle.lists.specs.Blocks.{tab, part, sumTo}
+use Rattle.lists.specs.Blocks.{tab, part}
 use Rattle.lists.proofs.Blocks.{length-tab, getD-tab}
 use Rattle.lists.proofs.Sums.{times-fits}
-use Rattle.words.specs.declared.gate.Gate.{Gate}
 use Rattle.words.specs.declared.gate.Wire.{Wire}
 use Rattle.circuit.specs.declared.Circuit.{Circuit}
 use Rattle.circuit.specs.Wires.{wireAt, modulusAt, moduliOf}
 use Rattle.circuit.specs.Held.{wiresIn}
 use Rattle.circuit.proofs.More.{made}
 use Rattle.counts.specs.Recipe.{recipe}
-use Rattle.counts.specs.Counts.{rowsBy, rowsOf, recordKeysBy, recordKeysOf}
-use Rattle.counts.specs.Moduli.{usedBelow, moduliUsed}
-use Rattle.counts.proofs.Wires.{wire-at, modulus-at, padded-modulus}
-use Rattle.counts.proofs.Counting.{rows-at, records-at}
+use Rattle.counts.specs.Counts.{rowsBy, rowsOf, recordKeysBy}
+use Rattle.counts.specs.Moduli.{usedBelow}
+use Rattle.counts.proofs.Wires.{wire-at, padded-modulus}
+use Rattle.counts.proofs.Counting.{rows-at}
 use Rattle.session.proofs.Circuits.{made-is}
-use Rattle.scheme.specs.Contribution.{recordAt, offsetAt, contributionSize}
-use Rattle.scheme.proofs.Places.{record-fits}
+use Rattle.scheme.specs.Contribution.{recordAt, offsetAt}
+use Rattle.contribution.proofs.Cursor.{records-here, cursor-fits}
 use Rattle.scheme.specs.Opening.{Opened}
 use Rattle.evaluation.specs.declared.turn.Turn.{Turn}
 use Rattle.evaluation.specs.Given.{Given, Evaluated}
 use Rattle.evaluation.specs.Step.{lower, wireBy}
 use Rattle.evaluation.specs.Ready.{Seated, Ready}
-use Rattle.evaluation.specs.Reached.{Put, openedAt, Reached, Swept}
+use Rattle.evaluation.specs.Swept.{Put, Swept}
+use Rattle.evaluation.proofs.Reached.{openedAt, Reached}
 use Rattle.evaluation.proofs.Opens.{turnAt, ownRows, wire-is}
 use Rattle.evaluation.proofs.Prepared.{seated, rows-inside, ready}
 use Rattle.evaluation.proofs.Sweep.{reached-start, reached-step, swept-short, swept-all, kept-keys, kept-externals}
@@ -46,7 +46,7 @@ module _ {file : List ℕ} {circuit : Circuit} {n K party : ℕ} {contribution e
   size-is : {long : ℕ} → long ≡ circuit .made * m → long ≡ length wires * m
   size-is e = e ∙ ap (λ (x : ℕ). x * m) (sym (made-is (given .held)))
 
-  pub loop-start : {zero : ℕ} {wkeys wexternals : List ℕ} → zero ≡ K * moduliUsed wires → length wkeys ≡ circuit .made * m → length wexternals ≡ circuit .made
+  pub loop-start : {zero : ℕ} {wkeys wexternals : List ℕ} → zero ≡ recordAt K wires 0 → length wkeys ≡ circuit .made * m → length wexternals ≡ circuit .made
       → Stands 0 zero 0 wkeys wexternals
   loop-start e f g = reached-start n K party wires contribution externals keys rows e (size-is f) (g ∙ sym (made-is (given .held)))
 
@@ -86,9 +86,10 @@ module _ {file : List ℕ} {circuit : Circuit} {n K party : ℕ} {contribution e
     small = omega (arith, within, given .accepted .wiresLimit)
 
     pub cursor-room : {step : ℕ} → step ≡ (K + 1) * recordKeysBy (recipe wire) → zero + step ≤ length contribution
-    cursor-room {step} e =
-        let f : step ≡ (K + 1) * recordKeysOf wires w = e ∙ ap (λ (x : ℕ). (K + 1) * x) (records-at (circuit .wires) (circuit .made) w h) in
-        omega (arith, f, record-fits K wires w within, r .zeroIs, given .ownSize)
+    cursor-room e = cursor-fits (given .held) K h (r .zeroIs) (given .ownSize) e
+
+    pub places-room : {places : List ℕ} → places ≡ tab 256 (usedBelow wires) → wire .modulus < length places
+    places-room e = omega (arith, places-size e, given .accepted .fits w within .byte, ap (λ (x : Wire). x .modulus) wire-same)
 
     module _ {table : List ℕ} (table-is : table ≡ moduliOf wires ++ replicate (1024 - circuit .made) 0) where
       moduli-are : (a : ℕ) → getD table a 0 ≡ modulusAt wires a
@@ -167,7 +168,14 @@ module _ {file : List ℕ} {circuit : Circuit} {n K party : ℕ} {contribution e
             pub loop-next : {step : ℕ} → e < wire .modulus → step ≡ (K + 1) * recordKeysBy (recipe wire) → Stands (w + 1) (zero + step) (from + size) wkeys′ wexternals′
             loop-next {step} l s =
                 reached-step n K party wires contribution externals keys rows r within put-same (subst (λ (q : ℕ). e < q) modulus-same l)
-                (ap (λ (x : ℕ). zero + x) (s ∙ ap (λ (x : ℕ). (K + 1) * x) (records-at (circuit .wires) (circuit .made) w h))) (ap (λ (x : ℕ). from + x) size-here)
+                (ap (λ (x : ℕ). zero + x) (s ∙ ap (λ (x : ℕ). (K + 1) * x) (records-here (given .held) h))) (ap (λ (x : ℕ). from + x) size-here)
+
+            -- the buffers keep their sizes, whether a multiplier fits or not
+            pub loop-keys : length wkeys′ ≡ length wires * m
+            loop-keys = kept-keys n K party wires contribution externals keys rows r within put-same
+
+            pub loop-externals : length wexternals′ ≡ length wires
+            loop-externals = kept-externals n K party wires contribution externals keys rows r within put-same
 
             pub loop-short : wire .modulus ≤ e → Swept n K party wires contribution externals keys rows w wkeys′ wexternals′
             loop-short l =

@@ -6,7 +6,7 @@ use Prim.Native.Nat.{ℕ, zero, suc, _+_, _*_, _≤_, _<_}
 use native.Mathlib.Nat.{mul-comm, mul-zero, mul-le-mul-left}
 use native.Mathlib.Omega.{arith}
 use lib.Dec.{ltb, eqb}
-use lib.ListN.{length, getD}
+use lib.ListN.{length}
 use Rattle.lists.specs.Blocks.{sumTo, blocks, part, nthPiece}
 use Rattle.lists.proofs.Parts.{part-of-part}
 use Rattle.lists.proofs.Sums.{sumTo-ext, sumTo-times, times-fits}
@@ -25,15 +25,15 @@ use Rattle.pads.specs.Pad.{shakePad, padRow}
 use Rattle.scheme.specs.Contribution.{recordAt, keyAt, offsetAt, contributionSize}
 use Rattle.scheme.specs.Draw.{Draw, drawn}
 use Rattle.scheme.specs.Zero.{freely, freelyV}
-use Rattle.pads.specs.Moved.{placed}
-use Rattle.scheme.specs.Opening.{Opened, nothing, opened, unpadded, rowAt, ownKey, found, searched, openInput, openFree, openTable, openProduct, chosen, corrector, openChoice, openBy}
+use Rattle.scheme.specs.Rows.{under}
+use Rattle.scheme.specs.Opening.{Opened, unpadded, rowAt, ownKey, found, searched, openInput, openFree, openTable, openProduct, chosen, corrector, openChoice, openBy}
 use Rattle.scheme.proofs.Contributed.{nth-whole}
 use Rattle.scheme.proofs.Bounds.{positive}
 use Rattle.scheme.proofs.Steps.{open-step}
 use Rattle.evaluation.specs.declared.turn.Turn.{Turn}
 use Rattle.evaluation.specs.Gate.{bared, tableKeys, productKeys, chooserKeys, choiceKeys}
 use Rattle.evaluation.specs.Step.{lower, shown, sought, given, openedFree, row, byTable, byProduct, heldBack, raised, byChoice, wireBy}
-use Rattle.evaluation.specs.Reached.{openedAt}
+use Rattle.evaluation.proofs.Reached.{openedAt}
 
 -- where the rows of wire w start, in bytes
 pub rows-place : (wires : List Wire) (m w : ℕ) → sumTo w (λ v. rowsOf wires v * m) ≡ sumTo w (rowsOf wires) * m
@@ -114,7 +114,7 @@ module _ (n K party : ℕ) (wires : List Wire) (contribution externals keys rows
       ∙ ap (unpadded shakePad n K rows p (placed p w 1) (b .keys)) (omega arith)))
       ∙ searched-is _
 
-  chosen-is : (bit : ℕ) (xs ys : List ℕ) → bit < 2 → chooserKeys n K w (eqb bit 0) p xs ys ≡ chosen bit p xs ys
+  chosen-is : (t : Bool) (xs ys : List ℕ) → chooserKeys t p xs ys ≡ chosen shakePad n K party wires own externals keys rows t p xs ys
   unfolding chooserKeys chosen
   chosen-is zero xs ys h = refl
   chosen-is (suc zero) xs ys h = refl

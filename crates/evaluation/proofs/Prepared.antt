@@ -1,13 +1,13 @@
 -- What a turn rests on is there, at each wire of an accepted circuit once the checks have passed.
 -- Assumes nothing.
-use mathlib.Core.Path.{_≡_, refl, sym, ap, subst, _∙_}
+use mathlib.Core.Path.{_≡_, refl, sym, ap, subst}
 use mathlib.Core.List.{List}
 use Prim.Native.Nat.{ℕ, _+_, _*_, _≤_, _<_}
-use native.Mathlib.Nat.{mul-zero, le-trans}
+use native.Mathlib.Nat.{mul-zero}
 use native.Mathlib.Omega.{arith}
 use borrow.Author.Tests.{leb-false}
 use lib.ListN.{length, getD}
-use Rattle.lists.specs.Blocks.{sumTo, runs, part}
+use Rattle.lists.specs.Blocks.{sumTo, runs}
 use Rattle.lists.proofs.Parts.{length-part}
 use Rattle.lists.proofs.Sums.{sumTo-fits, times-fits}
 use Rattle.lists.proofs.Blocks.{getD-runs}
@@ -19,23 +19,22 @@ use Rattle.words.specs.declared.gate.Gate.{Gate}
 use Rattle.words.specs.declared.gate.Wire.{Wire}
 use Rattle.circuit.specs.declared.Circuit.{Circuit}
 use Rattle.circuit.specs.Wires.{wireAt, modulusAt, inputsIn}
-use Rattle.circuit.specs.Accepted.{GateFits, AcceptedCircuit, Alike}
+use Rattle.circuit.specs.Accepted.{GateFits, Alike}
 use Rattle.circuit.specs.Accepted.GateFits.{input, scale, multiply, project, select}
-use Rattle.circuit.specs.Held.{wiresIn, outputsIn}
+use Rattle.circuit.specs.Held.{wiresIn}
 use Rattle.counts.specs.Recipe.{gateRecipe, recipe}
-use Rattle.counts.specs.Counts.{rowsBy, rowsOf, rowsIn, recordKeysBy, recordKeysOf}
+use Rattle.counts.specs.Counts.{rowsBy, rowsOf, rowsIn, recordKeysBy}
 use Rattle.session.specs.Session.{tooLarge, valuesChecked}
-use Rattle.scheme.specs.Contribution.{recordAt, keyAt, offsetAt, contributionSize}
+use Rattle.scheme.specs.Contribution.{keyAt}
 use Rattle.scheme.proofs.Places.{key-fits, offset-fits}
 use Rattle.scheme.proofs.Used.{used-modulus}
 use Rattle.scheme.proofs.EachBelow.{below-part}
 use Rattle.scheme.proofs.Bounds.{prime, input-first}
 use Rattle.round.specs.Bytes.{bytesChecked, rowsChecked}
 use Rattle.evaluation.specs.declared.turn.Turn.{Turn}
-use Rattle.session.specs.Sizes.{Sizes}
 use Rattle.evaluation.specs.Given.{Rows, Given}
-use Rattle.evaluation.specs.Ready.{Seated, Own, Lower, PairReady, InputReady, FreeReady, TableReady, ProductReady, ChoiceReady, Listed, Ready}
-use Rattle.evaluation.specs.Reached.{Reached}
+use Rattle.evaluation.specs.Ready.{Seated, Own, Lower, FreeReady, TableReady, Ready}
+use Rattle.evaluation.proofs.Reached.{Reached}
 use Rattle.evaluation.proofs.Opens.{turnAt, ownRows, rows-place}
 
 -- the checked bytes of the rows of wire w

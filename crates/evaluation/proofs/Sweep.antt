@@ -1,54 +1,34 @@
 -- The pass over all wires: where it starts, what a turn adds, and what stands in the buffers at its end.
 -- Assumes nothing.
-use mathlib.Core.Path.{_≡_, refl, sym, ap, ap₂, subst, _∙_}
+use mathlib.Core.Path.{_≡_, sym, ap, ap₂, _∙_}
 use mathlib.Core.Bool.{Bool, true, false, not}
 use mathlib.Core.List.{List, map}
 use Prim.Native.Nat.{ℕ, _+_, _*_, _≤_, _<_}
-use native.Mathlib.Nat.{le-refl, mul-zero, add-zero, mul-add, not-suc-le-zero}
+use native.Mathlib.Nat.{not-suc-le-zero}
 use native.Mathlib.Decide.{decLt}
 use native.Mathlib.Omega.{arith}
 use borrow.Author.Tests.{lt-ltb, le-ltb}
-use lib.Dec.{ltb}
-use lib.ListN.{length, getD, set, length-set, length-map}
+use lib.ListN.{length, getD, length-set, length-map}
 use lib.Seq.{getD-set-same, getD-set-other, ext-getD}
-use Rattle.lists.specs.Blocks.{sumTo, blocks, part, nthPiece, written}
-use Rattle.lists.specs.First.{first}
-use Rattle.lists.specs.Grown.{grown}
-use Rattle.lists.proofs.Sums.{sumTo-next, times-fits, times-next}
+use Rattle.lists.specs.Blocks.{part, nthPiece, written}
+use Rattle.lists.proofs.Sums.{sumTo-next, times-fits}
 use Rattle.lists.proofs.Blocks.{blocks-nth, blocks-ext}
 use Rattle.lists.proofs.Written.{length-written, part-written, part-before}
 use Rattle.lists.proofs.First.{first-at, first-none}
 use Rattle.lists.proofs.Grown.{length-grown}
 use Rattle.words.specs.declared.gate.Wire.{Wire}
-use Rattle.circuit.specs.declared.Circuit.{Circuit}
-use Rattle.circuit.specs.Wires.{wireAt, modulusAt}
-use Rattle.circuit.specs.Held.{wiresIn}
-use Rattle.counts.specs.Recipe.{recipe}
+use Rattle.circuit.specs.Wires.{modulusAt}
 use Rattle.counts.specs.Counts.{rowsOf, recordKeysOf}
-use Rattle.counts.specs.Moduli.{moduliUsed}
 use Rattle.pads.specs.Pad.{shakePad}
 use Rattle.scheme.specs.Contribution.{recordAt}
 use Rattle.scheme.specs.Draw.{drawn}
+use Rattle.contribution.proofs.Cursor.{sumTo-none, record-next}
 use Rattle.scheme.specs.Opening.{Opened, nothing, opened, openedTo, wireKeys, wireExternals}
-use Rattle.evaluation.specs.declared.turn.Turn.{Turn}
-use Rattle.evaluation.specs.Given.{Given}
-use Rattle.evaluation.specs.Step.{Made, lower}
-use Rattle.evaluation.specs.Reached.{Put, openedAt, Reached, Swept}
-use Rattle.evaluation.proofs.Maps.{getD-map, sumTo-none}
+use Rattle.evaluation.specs.Step.{lower}
+use Rattle.evaluation.specs.Swept.{Put, Swept}
+use Rattle.evaluation.proofs.Reached.{openedAt, Reached}
+use Rattle.evaluation.proofs.Maps.{getD-map}
 use Rattle.evaluation.proofs.Opens.{turnAt}
-
--- ---- the place of a wire's record, as a cursor that goes from wire to wire
-
-module _ (K : ℕ) (wires : List Wire) where
-  pub record-first : recordAt K wires 0 ≡ K * moduliUsed wires
-  unfolding recordAt
-  record-first =
-      ap (λ (s : ℕ). K * moduliUsed wires + (K + 1) * s) (sumTo-none (recordKeysOf wires))
-      ∙ ap (λ (x : ℕ). K * moduliUsed wires + x) (mul-zero (K + 1)) ∙ add-zero (K * moduliUsed wires)
-
-  pub record-next : (w : ℕ) → recordAt K wires (w + 1) ≡ recordAt K wires w + (K + 1) * recordKeysOf wires w
-  unfolding recordAt
-  record-next w = rw (sumTo-next w (recordKeysOf wires)) (omega (arith, mul-add (K + 1) (sumTo w (recordKeysOf wires)) (recordKeysOf wires w)))
 
 -- a wire is its keys, its external value and that it fits
 whole : (o : Opened) {keys : List ℕ} {external : ℕ} → keys ≡ o .keys → external ≡ o .external → o .fits ≡ true
@@ -65,12 +45,12 @@ module _ (n K party : ℕ) (wires : List Wire) (contribution externals keys rows
   abbrev Stands : ℕ → ℕ → ℕ → List ℕ → List ℕ → Type 0
   Stands w zero from wkeys wexternals = Reached n K party wires contribution externals keys rows w zero from wkeys wexternals
 
-  pub reached-start : {zero : ℕ} {wkeys wexternals : List ℕ} → zero ≡ K * moduliUsed wires → length wkeys ≡ length wires * m → length wexternals ≡ length wires
+  pub reached-start : {zero : ℕ} {wkeys wexternals : List ℕ} → zero ≡ recordAt K wires 0 → length wkeys ≡ length wires * m → length wexternals ≡ length wires
       → Stands 0 zero 0 wkeys wexternals
   reached-start e f g =
       record {
         turns = omega arith;
-        zeroIs = e ∙ sym (record-first K wires);
+        zeroIs = e;
         fromIs = sym (sumTo-none (λ v. rowsOf wires v * m));
         keysSize = f;
         externalsSize = g;

@@ -2,22 +2,18 @@
 -- Assumes nothing.
 use mathlib.Core.Path.{_≡_, refl, sym, ap, ap₂, subst, _∙_}
 use mathlib.Core.Bool.{Bool, true, false}
-use mathlib.Core.List.{List, [], _∷_}
+use mathlib.Core.List.{List}
 use Prim.Native.Nat.{ℕ, _+_, _*_, _≤_, _<_}
-use native.Mathlib.Nat.{one-mul, add-mod-mod, le-trans, mul-le-mul-left, mul-le-mul-right}
 use native.Mathlib.Omega.{arith}
 use borrow.Author.Tests.{lt-ltb, le-ltb}
 use lib.Dec.{ltb}
-use lib.ListN.{length, getD, set, take}
-use lib.Seq.{length-take-le}
+use lib.ListN.{length, getD, set}
 use Rattle.lists.specs.Blocks.{part, nthPiece, written}
 use Rattle.residue.specs.Residue.{add, sub, mul}
-use Rattle.residue.specs.Vector.{zipWith, addV, subV, mulV, keyV}
+use Rattle.residue.specs.Vector.{addV, subV, mulV, keyV}
 use Rattle.residue.proofs.Vectors.{add-below, mul-below}
-use Rattle.words.specs.declared.gate.Owned.{Owned}
 use Rattle.words.specs.declared.gate.Pair.{Pair}
 use Rattle.words.specs.declared.gate.Scaling.{Scaling}
-use Rattle.words.specs.declared.gate.Projection.{Projection}
 use Rattle.words.specs.declared.gate.Choice.{Choice}
 use Rattle.words.specs.declared.gate.Gate.{Gate}
 use Rattle.words.specs.declared.gate.Gate.the-variants.{Input, Add, Scale, Multiply, Project, Select}
@@ -26,39 +22,12 @@ use Rattle.counts.specs.declared.recipe.Recipe.the-variants.{Entered, Free, Tab
 use Rattle.search.specs.Search.{multiplier}
 use Rattle.scheme.specs.Zero.{freely, freelyV}
 use Rattle.scheme.specs.Opening.{Opened}
+use Rattle.contribution.proofs.Once.{key-once}
 use Rattle.evaluation.specs.declared.turn.Turn.{Turn}
-use Rattle.session.specs.Sizes.{Sizes}
 use Rattle.evaluation.specs.Gate.{tableKeys, productKeys, choiceKeys}
 use Rattle.evaluation.specs.Step.{Made, lower, shown, sought, given, summed, multiplied, openedFree, row, byTable, byProduct, heldBack, raised, byChoice, wireBy}
-use Rattle.evaluation.specs.Reached.{Put}
-use Rattle.evaluation.specs.Ready.{Seated, Own, Lower, PairReady, InputReady, FreeReady, TableReady, ProductReady, ChoiceReady, Listed, Ready}
-
--- ---- sizes
-
-pub times-most : {a b : ℕ} (m n : ℕ) → a ≤ m → b ≤ n → a * b ≤ m * n
-times-most {a} {b} m n h k = le-trans (mul-le-mul-right b h) (mul-le-mul-left m k)
-
-pub vector-fits : {n K : ℕ} → Sizes n K → n * K ≤ 1024
-vector-fits s = times-most 8 128 (s .parties) (s .short)
-
-pub scratch-cut : (made : List ℕ) {n K : ℕ} → Sizes n K → length made ≡ 1024 → length (take (n * K) made) ≡ n * K
-scratch-cut made {n} {K} s e = length-take-le (n * K) made (omega (arith, vector-fits s))
-
--- ---- once a vector is the vector
-
-once : (p x y : ℕ) → add p x (mul p 1 y) ≡ add p x y
-unfolding add mul
-once p x y = rw (one-mul y, add-mod-mod x y p)
-
-pub add-once : (p : ℕ) (xs ys : List ℕ) → addV p xs (mulV p 1 ys) ≡ addV p xs ys
-unfolding addV mulV zipWith
-add-once p [] ys = refl
-add-once p (x ∷ xs) [] = refl
-add-once p (x ∷ xs) (y ∷ ys) = ap₂ (λ (z : ℕ) (zs : List ℕ). z ∷ zs) (once p x y) (add-once p xs ys)
-
-pub key-once : (p : ℕ) (xs ys : List ℕ) → keyV p xs 1 ys ≡ addV p xs ys
-unfolding keyV
-key-once p xs ys = add-once p xs ys
+use Rattle.evaluation.specs.Swept.{Put}
+use Rattle.evaluation.specs.Ready.{Lower, PairReady, InputReady, FreeReady, TableReady, ProductReady, ChoiceReady, Listed, Ready}
 
 -- ---- a wire that needs no search: its external value is a residue
 

@@ -9,6 +9,11 @@ use Rattle.residue.specs.Vector.{addV, subV, mulV}
 use Rattle.pads.specs.Pad.{shakePad, padRow}
 use Rattle.pads.specs.Moved.{placed}
 
+-- select: for 0 the chooser's row alone, for 1 the opener adds the difference's key
+unfoldable pub chooserKeys : Bool → ℕ → List ℕ → List ℕ → List ℕ
+chooserKeys true p part kᵈ = part
+chooserKeys false p part kᵈ = addV p part kᵈ
+
 module _ (n K w : ℕ) where
   -- a row of modulus q without the pads of the keys, of modulus p, that it is opened under
   unfoldable pub bared : ℕ → ℕ → ℕ → List ℕ → List ℕ → List ℕ
@@ -22,12 +27,7 @@ module _ (n K w : ℕ) where
   unfoldable pub productKeys : ℕ → List ℕ → List ℕ → ℕ → List ℕ → List ℕ → List ℕ
   productKeys p kₐ kᵦ β row₀ row₁ = addV p (addV p (bared p p 0 kₐ row₀) (bared p p 1 kᵦ row₁)) (mulV p β kₐ)
 
-  -- select: for 1 the opener adds the difference's key
-  unfoldable pub chooserKeys : Bool → ℕ → List ℕ → List ℕ → List ℕ
-  chooserKeys true p part kᵈ = part
-  chooserKeys false p part kᵈ = addV p part kᵈ
-
-  -- the chooser's row under the bit's keys, and the row of the corrector that the bit's external value names, under the difference's
+  -- select: the chooser's row under the bit's keys, and the row of the corrector that the bit's external value names, under the difference's
   unfoldable pub choiceKeys : ℕ → ℕ → List ℕ → List ℕ → List ℕ → List ℕ → List ℕ
   choiceKeys p bit kᵥ kᵈ row₀ row₁ =
       addV p (chooserKeys (eqb bit 0) p (bared p 2 0 kᵥ row₀) kᵈ) (bared p p (1 + bit) kᵈ row₁)

@@ -1,14 +1,13 @@
 -- What evaluation asks, which the checks of the call give, and what it comes to.
 -- Assumes nothing.
 use mathlib.Core.Path.{_≡_}
-use mathlib.Core.Bool.{Bool, not}
+use mathlib.Core.Bool.{not}
 use mathlib.Core.List.{List}
-use Prim.Native.Nat.{ℕ, _+_, _*_, _≤_, _<_}
+use Prim.Native.Nat.{ℕ, _*_, _≤_, _<_}
 use lib.ListN.{length, getD, replicate}
 use Rattle.lists.specs.First.{first}
 use Rattle.residue.specs.Vector.{AllBelow}
 use Rattle.checks.specs.Checked.Checked.{passed}
-use Rattle.words.specs.declared.gate.Wire.{Wire}
 use Rattle.circuit.specs.declared.Circuit.{Circuit}
 use Rattle.circuit.specs.Wires.{modulusAt, inputsIn}
 use Rattle.circuit.specs.Accepted.{AcceptedCircuit}
@@ -18,8 +17,8 @@ use Rattle.session.specs.Sizes.{Sizes}
 use Rattle.session.specs.Session.{valuesChecked}
 use Rattle.pads.specs.Pad.{shakePad}
 use Rattle.scheme.specs.Contribution.{contributionSize}
-use Rattle.scheme.specs.Draw.{Draw, drawn}
-use Rattle.scheme.specs.Opening.{Opened, opened, wireKeys, wireExternals, nothing}
+use Rattle.scheme.specs.Draw.{drawn}
+use Rattle.scheme.specs.Opening.{opened, wireKeys, wireExternals, nothing}
 use Rattle.round.specs.Bytes.{contributionsChecked, keysChecked, rowsChecked}
 
 -- rows of modulus p, which is above 1

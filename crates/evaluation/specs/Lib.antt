@@ -3,4 +3,4 @@ pub mod Gate
 pub mod Given
 pub mod Step
 pub mod Ready
-pub mod Reached
+pub mod Swept

@@ -1,5 +1,5 @@
 -- One turn of the pass: the wire at hand, from what is cut out for it (its record, its modulus' offset, its own rows) and from the wires opened below it. The scheme's `openBy`
--- gives these.
+-- gives these. Only inner contracts cite this; that of the call cites the scheme's `Opening`.
 -- Assumes nothing.
 use mathlib.Core.Path.{_≡_}
 use mathlib.Core.Bool.{true}

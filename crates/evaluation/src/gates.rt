@@ -9,6 +9,7 @@ ghost use Rattle.evaluation.specs.Gate.{bared, tableKeys, productKeys, c
 ghost use Rattle.session.specs.Sizes.{Sizes, Vector};
 ghost use Rattle.evaluation.specs.Given.{Rows};
 ghost use lib.Dec.{eqb};
+use contribution::scratch;
 use lists::copy;
 use lists::nth_piece;
 use residue::add_multiple;
@@ -117,7 +118,7 @@ fn open_chooser(
 )
     requires { ⌜ Sizes n k × ((1 < p) × AllBelow p (now row)) ⌝ }
     requires { ⌜ Vector n k (now v) × (Vector n k (now d) × (Vector n k (now row) × Vector n k (now out))) ⌝ }
-    ensures { λ _. ⌜ now (out .exit) ≡ chooserKeys n k w (eqb bit 0) p (bared n k w p 2 0 (now (v .entry)) (now (row .entry))) (now (d .entry)) ⌝ }
+    ensures { λ _. ⌜ now (out .exit) ≡ chooserKeys (eqb bit 0) p (bared n k w p 2 0 (now (v .entry)) (now (row .entry))) (now (d .entry)) ⌝ }
 {
     bare(w, 0, n, k, p, 2, v, row, &mut *out);
     if bit == 0 {
@@ -160,12 +161,6 @@ fn open_by(
     open_chooser(w, n, k, p, v, bit, d, row, &mut *out);
     let corrector = corrector_row(rows, m, p, bit, alpha);
     add_bare(w, 1 + bit, n, k, p, d, corrector, out);
-}
-
-fn scratch() -> [u8; 1024]
-    ensures { λ r. ⌜ length r ≡ 1024 ⌝ }
-{
-    [0u8; 1024]
 }
 
 // A choice, with work memory for the keys of the difference b − a.

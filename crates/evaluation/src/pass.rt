@@ -3,32 +3,27 @@ ghost use mathlib.Core.Path.{_≡_};
 ghost use Prim.Native.Nat.{_+_, _*_, _≤_, _<_};
 ghost use lib.ListN.{length, getD};
 ghost use Rattle.counts.specs.Recipe.{recipe};
-ghost use Rattle.circuit.specs.Held.{wiresIn, Room};
-ghost use Rattle.counts.specs.Counts.{rowsBy, recordKeysBy};
-ghost use Rattle.counts.specs.Moduli.{moduliUsed};
+ghost use Rattle.counts.specs.Counts.{rowsBy};
+ghost use Rattle.circuit.specs.Held.{wiresIn};
 ghost use Rattle.session.specs.Sizes.{Sizes, Vector};
 ghost use Rattle.evaluation.specs.Given.{Given, Evaluated};
 ghost use Rattle.evaluation.specs.Step.{lower, wireBy};
 ghost use Rattle.evaluation.specs.Ready.{Seated, Ready};
-ghost use Rattle.evaluation.specs.Reached.{Put, Swept};
+ghost use Rattle.evaluation.specs.Swept.{Put, Swept};
 use super::turn::Turn;
 use super::wire::open_wire;
 use circuit::Circuit;
+use contribution::first_record;
+use contribution::offset_place;
 use contribution::ranks;
+use contribution::record_size;
+use contribution::scratch;
 use counts::moduli;
-use counts::moduli_used;
-use counts::record_count;
 use counts::row_count;
 use lists::fill;
 use lists::piece;
 use lists::put_at;
 use words::Wire;
-
-fn scratch() -> [u8; 1024]
-    ensures { λ r. ⌜ length r ≡ 1024 ⌝ }
-{
-    [0u8; 1024]
-}
 
 fn wide(x: u32) -> usize
     ensures { λ r. ⌜ r ≡ x ⌝ }
@@ -43,15 +38,6 @@ fn number(w: usize) -> u32
     w as u32
 }
 
-// Where the offset of modulus `p` starts, from the places of the moduli in use.
-fn offset_place(places: &[u8], p: u8, k: usize) -> usize
-    requires { ⌜ (length (now places) ≡ 256) × (k ≤ 128) ⌝ }
-    ensures { λ r. ⌜ r ≡ k * getD (now (places .entry)) p 0 ⌝ }
-{
-    let at = p as usize;
-    k * (places[at] as usize)
-}
-
 // The bytes of a wire's rows, given the moduli of all wires.
 fn row_bytes(wire: Wire, moduli: &[u8], n: usize, k: usize) -> usize
     requires { ⌜ Sizes n k ⌝ }
@@ -59,24 +45,6 @@ fn row_bytes(wire: Wire, moduli: &[u8], n: usize, k: usize) -> usize
 {
     let count = wide(row_count(wire, moduli));
     count * (n * k)
-}
-
-// The bytes of a wire's record.
-fn record_bytes(wire: Wire, k: usize) -> usize
-    requires { ⌜ k ≤ 128 ⌝ }
-    ensures { λ r. ⌜ (r ≡ (k + 1) * recordKeysBy (recipe wire)) × (r ≤ 387) ⌝ }
-{
-    let count = wide(record_count(wire));
-    (k + 1) * count
-}
-
-// The bytes of a party's offsets: its first record starts behind them.
-fn offset_bytes(circuit: Circuit, k: usize) -> usize
-    requires { ⌜ Room circuit × (k ≤ 128) ⌝ }
-    ensures { λ r. ⌜ r ≡ k * moduliUsed (wiresIn circuit) ⌝ }
-{
-    let count = wide(moduli_used(circuit));
-    k * count
 }
 
 // The wire at hand is opened in `out`, since lower wires are read in the buffers, and then put in.
@@ -167,7 +135,7 @@ fn pass(
     let table = moduli(circuit);
     let places = ranks(circuit);
     let made = circuit.made;
-    let mut zero = offset_bytes(circuit, k);
+    let mut zero = first_record(circuit, k);
     let mut from = 0;
     let mut w = 0;
     while w < made {
@@ -198,7 +166,7 @@ fn pass(
         if p <= e {
             return w;
         }
-        zero += record_bytes(wire, k);
+        zero += record_size(wire, k);
         from += size;
         w += 1;
     }

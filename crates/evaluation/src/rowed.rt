@@ -6,7 +6,7 @@ ghost use Rattle.residue.specs.Residue.{add};
 ghost use Rattle.residue.specs.Vector.{addV};
 ghost use Rattle.lists.specs.Blocks.{nthPiece};
 ghost use Rattle.session.specs.Sizes.{Vector};
-ghost use Rattle.evaluation.specs.Step.{Made, lower, byTable, byProduct, heldBack, byChoice, shown};
+ghost use Rattle.evaluation.specs.Step.{Made, lower, byTable, byProduct, heldBack, byChoice};
 ghost use Rattle.evaluation.specs.Ready.{Seated, Lower, TableReady, ProductReady, ChoiceReady};
 use super::gates::open_choice;
 use super::gates::open_product;

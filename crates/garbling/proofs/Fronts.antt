@@ -1,21 +1,15 @@
--- A vector of n·K bytes at the front of an array of 1,024: that it fits, how it comes about when the front is lent, and its length.
+-- A vector of n·K bytes at the front of an array of 1,024: how it comes about when the front is lent, and its length.
 -- Assumes nothing.
 use mathlib.Core.Path.{_≡_, _∙_}
 use mathlib.Core.List.{List, _++_}
 use Prim.Native.Nat.{ℕ, _+_, _*_, _≤_, _<_}
-use native.Mathlib.Nat.{mul-le-mul-left, mul-le-mul-right, mul-add, add-mul}
+use native.Mathlib.Nat.{mul-le-mul-left, mul-add, add-mul}
 use native.Mathlib.Omega.{arith}
 use lib.ListN.{length, take, drop}
-use lib.Seq.{length-take-le}
 use Rattle.lists.proofs.Wrote.{Wrote, wrote-front, wrote-take}
 use Rattle.session.specs.Sizes.{Sizes, Vector}
+use Rattle.contribution.proofs.Sizes.{vector-fits, scratch-cut}
 use Rattle.garbling.specs.Source.{Front}
-
-pub vector-fits : {n K : ℕ} → Sizes n K → n * K ≤ 1024
-vector-fits {n} {K} s = omega (arith, mul-le-mul-right K (s .parties), s .short)
-
-pub rank-fits : {n K m : ℕ} → Sizes n K → m < 256 → K * m ≤ 32768
-rank-fits {n} {K} {m} s h = omega (arith, mul-le-mul-right m (s .short))
 
 module _ {n K : ℕ} (s : Sizes n K) where
   -- the front of an array, lent and filled
@@ -25,7 +19,7 @@ module _ {n K : ℕ} (s : Sizes n K) where
       record { kept = q .kept ∙ l; front = wrote-take q }
 
   pub front-long : {xs r : List ℕ} → Front n K xs r → length (take (n * K) r) ≡ n * K
-  front-long {xs} {r} f = length-take-le (n * K) r (omega (arith, vector-fits s, f .kept))
+  front-long {xs} {r} f = scratch-cut r s (f .kept)
 
   pub front-vector : {xs r : List ℕ} → Front n K xs r → Vector n K (take (n * K) r)
   front-vector f = record { size = front-long f }

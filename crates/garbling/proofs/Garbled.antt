@@ -2,8 +2,7 @@
 -- Assumes nothing.
 use mathlib.Core.Path.{_≡_, sym, ap, _∙_}
 use mathlib.Core.List.{List, _++_}
-use Prim.Native.Nat.{ℕ, zero, suc, _-_, _*_, _≤_, _<_}
-use native.Mathlib.Nat.{zero-mul, add-mul, mul-le-mul-left, mul-le-mul-right, le-trans}
+use Prim.Native.Nat.{ℕ, _-_, _*_, _≤_, _<_}
 use native.Mathlib.Omega.{arith}
 use lib.ListN.{length, getD, take, replicate}
 use lib.Seq.{getD-take, length-take-le}
@@ -17,7 +16,7 @@ use Rattle.circuit.specs.Held.{wiresIn, outputsIn}
 use Rattle.counts.specs.Recipe.{recipe}
 use Rattle.counts.specs.Counts.{rowsBy, rowsOf, rowsIn, Counts}
 use Rattle.counts.specs.Moduli.{usedBelow}
-use Rattle.session.proofs.Circuits.{given-is, inputs-made}
+use Rattle.session.proofs.Circuits.{made-is, given-is, inputs-made}
 use Rattle.plain.specs.Ready.{Gives}
 use Rattle.pads.specs.Pad.{shakePad}
 use Rattle.scheme.specs.Contribution.{recordAt}
@@ -27,18 +26,13 @@ use Rattle.scheme.specs.Rows.{gateRows, garbledRows, inputMasks, outputMasks}
 use Rattle.session.specs.Sizes.{Sizes}
 use Rattle.zero.specs.Ready.{Contributed, ZeroKeys, Masks, drawnIn}
 use Rattle.garbling.specs.Source.{rowsHere, Sourced}
-use Rattle.zero.proofs.Cursor.{made-is}
-use Rattle.garbling.proofs.Fronts.{vector-fits}
-use Rattle.zero.proofs.Made.{masks-at}
+use Rattle.contribution.proofs.Sizes.{times-most, vector-fits}
+use Rattle.contribution.proofs.Wired.{sumTo-times-right}
+use Rattle.zero.proofs.Made.{masks-at, masks-kept}
 use Rattle.garbling.proofs.Looked.{rows-counted, sourced, rows-are}
 
-sumTo-by : (m s : ℕ) (f : ℕ → ℕ) → sumTo m (λ i. f i * s) ≡ sumTo m f * s
-unfolding sumTo
-sumTo-by zero s f = sym (zero-mul s)
-sumTo-by (suc m) s f = omega (arith, sumTo-by m s f, add-mul (sumTo m f) (f m) s)
-
 pub count-fits : {n K x : ℕ} → Sizes n K → x ≤ 512 → x * (n * K) ≤ 524288
-count-fits {n} {K} {x} s h = le-trans (mul-le-mul-right (n * K) h) (omega (arith, mul-le-mul-left 512 (vector-fits s)))
+count-fits {n} {K} {x} s h = times-most x (n * K) 512 1024 h (vector-fits s)
 
 module _ {file : List ℕ} {circuit : Circuit} {n K size : ℕ} {contributions : List ℕ} (r : Contributed file circuit n K size contributions) where
   abbrev wires : List Wire
@@ -49,7 +43,7 @@ module _ {file : List ℕ} {circuit : Circuit} {n K size : ℕ} {contributions :
 
   -- the zero keys of all wires fit the memory
   pub keys-fit : circuit .made * (n * K) ≤ 1048576
-  keys-fit = le-trans (mul-le-mul-right (n * K) (r .held .room .made)) (omega (arith, mul-le-mul-left 1024 (vector-fits (r .sizes))))
+  keys-fit = times-most (circuit .made) (n * K) 1024 1024 (r .held .room .made) (vector-fits (r .sizes))
 
   -- ---- the pass: rows of so many wires stand, and the cursor is at the next record
 
@@ -60,7 +54,7 @@ module _ {file : List ℕ} {circuit : Circuit} {n K size : ℕ} {contributions :
   sizeAt w = rowsOf wires w * (n * K)
 
   total : sumTo (circuit .made) sizeAt ≡ rowsIn wires * (n * K)
-  total = sumTo-by (circuit .made) (n * K) (rowsOf wires) ∙ ap (λ (m : ℕ). sumTo m (rowsOf wires) * (n * K)) (sym (made-is r))
+  total = sumTo-times-right (circuit .made) (n * K) (rowsOf wires) ∙ ap (λ (m : ℕ). sumTo m (rowsOf wires) * (n * K)) (sym (made-is (r .held)))
 
   pub pass-start : {rows : List ℕ} → length rows ≡ rowsIn wires * (n * K) → Steps rows 0 0 (circuit .made) sizeAt rowsAt 0 rows
   pass-start e = steps-start (omega (arith, total))
@@ -68,7 +62,7 @@ module _ {file : List ℕ} {circuit : Circuit} {n K size : ℕ} {contributions :
   pub pass-done : {rows₀ rows : List ℕ} {from w : ℕ} → Steps rows₀ 0 w (circuit .made) sizeAt rowsAt from rows → circuit .made ≤ w → length rows₀ ≡ rowsIn wires * (n * K)
       → rows ≡ garbledRows shakePad n K file wires drew
   unfolding garbledRows
-  pass-done s h e = steps-whole s h (e ∙ sym total) ∙ ap (λ (m : ℕ). blocks m rowsAt) (sym (made-is r))
+  pass-done s h e = steps-whole s h (e ∙ sym total) ∙ ap (λ (m : ℕ). blocks m rowsAt) (sym (made-is (r .held)))
 
   module _ {keys masks : List ℕ} (z : ZeroKeys circuit n K contributions keys) (m : Masks circuit n K contributions masks) where
     module _ {ranks moduli : List ℕ} (er : ranks ≡ tab 256 (usedBelow wires)) (em : moduli ≡ moduliOf wires ++ replicate (1024 - circuit .made) 0)
@@ -93,7 +87,7 @@ module _ {file : List ℕ} {circuit : Circuit} {n K size : ℕ} {contributions :
     -- ---- the masks that are handed out
 
     pub inputs-fit : {bytes : ℕ} → bytes ≡ inputsIn wires → bytes ≤ length masks
-    inputs-fit e = omega (arith, inputs-made (r .held), r .held .inputs, r .held .room .made, m .kept)
+    inputs-fit e = omega (arith, inputs-made (r .held), r .held .inputs, r .held .room .made, masks-kept r m)
 
     pub inputs-are : {bytes : ℕ} → bytes ≡ inputsIn wires → take bytes masks ≡ inputMasks wires drew
     unfolding inputMasks
@@ -110,11 +104,11 @@ module _ {file : List ℕ} {circuit : Circuit} {n K size : ℕ} {contributions :
           made =
               λ i l.
               omega
-              (arith, r .held .room .made, m .kept, made-is r, getD-take (circuit .given) (circuit .outputs) i 0 l, r .accepted .outputsMade i (omega (arith, given-is (r .held))));
+              (arith, r .held .room .made, masks-kept r m, made-is (r .held), getD-take (circuit .given) (circuit .outputs) i 0 l, r .accepted .outputsMade i (omega (arith, given-is (r .held))));
         }
 
     pub outputs-are : tab (length (outputsIn circuit)) (λ i. getD masks (getD (outputsIn circuit) i 0) 0) ≡ outputMasks wires (outputsIn circuit) drew
     unfolding outputMasks
     outputs-are =
         tab-ext (length (outputsIn circuit)) (λ i. getD masks (getD (outputsIn circuit) i 0) 0) (λ i. mask wires drew (getD (outputsIn circuit) i 0))
-        (λ i l. masks-at r m (getD (outputsIn circuit) i 0) (omega (arith, made-is r, r .accepted .outputsMade i l)))
+        (λ i l. masks-at r m (getD (outputsIn circuit) i 0) (omega (arith, made-is (r .held), r .accepted .outputsMade i l)))

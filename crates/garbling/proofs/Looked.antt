@@ -31,6 +31,7 @@ use Rattle.counts.specs.Recipe.{gateRecipe, recipe}
 use Rattle.counts.specs.Counts.{recordKeysBy, recordKeysOf, rowsBy, rowsOf}
 use Rattle.counts.specs.Moduli.{used, usedBelow}
 use Rattle.counts.proofs.Wires.{wire-at, padded-modulus}
+use Rattle.session.proofs.Circuits.{made-is}
 use Rattle.pads.specs.Pad.{shakePad}
 use Rattle.scheme.specs.Contribution.{offsetAt, recordAt, keyAt, shareAt, contributionSize}
 use Rattle.scheme.specs.Draw.{Draw, drawn}
@@ -44,8 +45,8 @@ use Rattle.rows.specs.Gate.{padded, tableRows, productRows, chooserRows, correc
 use Rattle.zero.specs.Ready.{Contributed, ZeroKeys, Masks, drawnIn}
 use Rattle.zero.specs.Turn.{keysAt, maskAt}
 use Rattle.garbling.specs.Source.{tableHere, productHere, choiceHere, rowsHere, Operand, Offsets, OverTable, OfRecipe, Sourced}
-use Rattle.zero.proofs.Cursor.{made-is, within, cursor-fits}
-use Rattle.zero.proofs.Made.{zero-key-size, mask-below, zero-keys-at, masks-at}
+use Rattle.contribution.proofs.Cursor.{within, cursor-fits}
+use Rattle.zero.proofs.Made.{zero-key-size, mask-below, zero-keys-at, masks-at, masks-kept}
 use Rattle.garbling.proofs.Alike.{table-same, product-same, chooser-same, corrector-same}
 
 -- ---- the scheme's rows are those of a gate with what stands on its wires
@@ -136,25 +137,25 @@ module _ {file : List ℕ} {circuit : Circuit} {n K size : ℕ} {contributions :
 
   module _ {keys masks : List ℕ} (z : ZeroKeys circuit n K contributions keys) (m : Masks circuit n K contributions masks) where
     zero-is : (a : ℕ) → a < length wires → nthPiece keys (n * K) a ≡ zeroKey wires drew a
-    zero-is a h = zero-keys-at r z a (omega (arith, made-is r))
+    zero-is a h = zero-keys-at r z a (omega (arith, made-is (r .held)))
 
     zero-there : (a : ℕ) → a < length wires → a * (n * K) + n * K ≤ length keys
     zero-there a h =
         omega (
           arith,
-          times-fits a (circuit .made) (n * K) (omega (arith, made-is r)),
+          times-fits a (circuit .made) (n * K) (omega (arith, made-is (r .held))),
           ap length (z .stand) ∙ length-blocks-same (circuit .made) (n * K) (zeroKey wires drew) (zero-key-size r),
         )
 
     mask-is : (a : ℕ) → a < length wires → getD masks a 0 ≡ mask wires drew a
-    mask-is a h = masks-at r m a (omega (arith, made-is r))
+    mask-is a h = masks-at r m a (omega (arith, made-is (r .held)))
 
     operand : {p : ℕ} (a : ℕ) → a < length wires → modulusAt wires a ≡ p → Operand n K keys masks p a
     operand {p} a h e =
         record {
           key = zero-there a h;
-          held = omega (arith, made-is r, m .kept, r .held .room .made);
-          below = rw (mask-is a h, ← e) (mask-below r a (omega (arith, made-is r)));
+          held = omega (arith, made-is (r .held), masks-kept r m, r .held .room .made);
+          below = rw (mask-is a h, ← e) (mask-below r a (omega (arith, made-is (r .held))));
         }
 
     module _ {ranks moduli : List ℕ} (er : ranks ≡ tab 256 (usedBelow wires)) (em : moduli ≡ moduliOf wires ++ replicate (1024 - circuit .made) 0) where
@@ -162,7 +163,7 @@ module _ {file : List ℕ} {circuit : Circuit} {n K size : ℕ} {contributions :
       modulus-is a = ap (λ (l : List ℕ). getD l a 0) em ∙ padded-modulus wires (1024 - circuit .made) a
 
       pub moduli-long : length moduli ≡ 1024
-      moduli-long = ap length em ∙ simp length-append (omega (arith, length-replicate {A = ℕ} (1024 - circuit .made) 0, made wires, made-is r, r .held .room .made))
+      moduli-long = ap length em ∙ simp length-append (omega (arith, length-replicate {A = ℕ} (1024 - circuit .made) 0, made wires, made-is (r .held), r .held .room .made))
 
       module _ {w at : ℕ} (h : w < length wires) (here : at ≡ recordAt K wires w) where
         lower : {a : ℕ} → a < w → a < length wires
@@ -243,7 +244,7 @@ module _ {file : List ℕ} {circuit : Circuit} {n K size : ℕ} {contributions :
         same = wire-at (circuit .wires) (circuit .made) w h
 
         above : 1 < wire .modulus
-        above = rw (← ap (λ (v : Wire). v .modulus) same) (prime (r .accepted) w (within r h) .two)
+        above = rw (← ap (λ (v : Wire). v .modulus) same) (prime (r .accepted) w (within (r .held) h) .two)
 
         pub rows-counted : rowsBy (recipe wire) (λ a. getD moduli a 0) (wire .modulus) ≡ rowsOf wires w
         rows-counted = rowsBy-same (recipe wire) (wire .modulus) modulus-is ∙ ap (λ (v : Wire). rowsBy (recipe v) (modulusAt wires) (v .modulus)) (sym same)
@@ -256,14 +257,14 @@ module _ {file : List ℕ} {circuit : Circuit} {n K size : ℕ} {contributions :
                 sizes = r .sizes;
                 all = r .all;
                 modulus = above;
-                offsets = offsets-there er w (within r h) (ap (λ (v : Wire). v .modulus) same);
-                fits = cursor-fits r h here refl;
+                offsets = offsets-there er w (within (r .held) h) (ap (λ (v : Wire). v .modulus) same);
+                fits = cursor-fits (r .held) K h here (r .each) refl;
               };
-              operands = subst (λ (v : Wire). OfRecipe n K size ranks keys masks file moduli (v .modulus) (v .gate) (recipe v)) same (by-gate (within r h) here (r .accepted .fits w (within r h) .gate));
+              operands = subst (λ (v : Wire). OfRecipe n K size ranks keys masks file moduli (v .modulus) (v .gate) (recipe v)) same (by-gate (within (r .held) h) here (r .accepted .fits w (within (r .held) h) .gate));
               room = e;
             }
 
         pub rows-are : rowsHere n K size w at (wire .modulus) contributions ranks keys masks file moduli (wire .gate) (recipe wire) ≡ gateRows shakePad n K file wires drew w (recipe (wireAt wires w))
         rows-are =
             ap (λ (v : Wire). rowsHere n K size w at (v .modulus) contributions ranks keys masks file moduli (v .gate) (recipe v)) (sym same)
-            ∙ rows-by (within r h) here (r .accepted .fits w (within r h) .gate) refl
+            ∙ rows-by (within (r .held) h) here (r .accepted .fits w (within (r .held) h) .gate) refl

@@ -1,5 +1,6 @@
 -- What the rows of one wire are made of, as the code holds it: all contributions, with the place of the wire's record and the places of the offsets in
 -- them; the moduli, zero keys and masks of the wires, each looked up by the wire's number. And the rows that are made of it, by the wire's recipe.
+-- Only inner contracts cite this; that of the call cites the scheme's `Rows`.
 -- Assumes nothing.
 use mathlib.Core.Path.{_≡_}
 use mathlib.Core.List.{List, [], _++_}

@@ -9,7 +9,7 @@ ghost use Rattle.garbling.specs.Source.{Front, tableOf, tableHere, produ
 use super::own::offsets;
 use super::own::record_key;
 use super::own::record_mask;
-use super::own::room;
+use contribution::scratch;
 use counts::Recipe;
 use counts::recipe_of;
 use residue::difference;
@@ -138,7 +138,7 @@ fn differences(p: u8, n: usize, k: usize, a: &[u8], b: &[u8]) -> [u8; 1024]
     requires { ⌜ Vector n k (now a) × Vector n k (now b) ⌝ }
     ensures { λ r. ⌜ Front n k (subV p (now (a .entry)) (now (b .entry))) r ⌝ }
 {
-    let mut out = room();
+    let mut out = scratch();
     difference_front(p, a, b, &mut out);
     out
 }
@@ -171,7 +171,9 @@ fn put_choice(
     let left = lists::nth_piece(keys, bytes, a);
     let right = lists::nth_piece(keys, bytes, b);
     let d = differences(p, n, k, right, left);
-    let md = residue::sub(p, masks[b], masks[a]);
+    let mb = masks[b];
+    let ma = masks[a];
+    let md = residue::sub(p, mb, ma);
     let offset = offsets(contributions, n, k, size, ranks, p);
     let pair = offsets(contributions, n, k, size, ranks, 2);
     let whole = record_key(contributions, n, k, size, at, 3, 0);

@@ -5,15 +5,10 @@ ghost use lib.ListN.{length, getD};
 ghost use Rattle.session.specs.Sizes.{Sizes};
 ghost use Rattle.zero.specs.Turn.{keysAt, maskAt};
 ghost use Rattle.garbling.specs.Source.{Front, Offsets};
+use contribution::offset_place;
+use contribution::scratch;
 use zero::gather;
 use zero::share_sum;
-
-// Room for a vector of n·K bytes.
-pub fn room() -> [u8; 1024]
-    ensures { λ r. ⌜ length r ≡ 1024 ⌝ }
-{
-    [0u8; 1024]
-}
 
 fn gather_front(contributions: &[u8], n: usize, k: usize, size: usize, at: usize, out: &mut [u8])
     requires { ⌜ Sizes n k × ((length (now contributions) ≡ n * size) × (at + k ≤ size)) ⌝ }
@@ -29,17 +24,9 @@ pub fn keys_at(contributions: &[u8], n: usize, k: usize, size: usize, at: usize)
     requires { ⌜ Sizes n k × ((length (now contributions) ≡ n * size) × (at + k ≤ size)) ⌝ }
     ensures { λ r. ⌜ Front n k (keysAt n k size (now (contributions .entry)) at) r ⌝ }
 {
-    let mut keys = room();
+    let mut keys = scratch();
     gather_front(contributions, n, k, size, at, &mut keys);
     keys
-}
-
-fn rank_of(ranks: &[u8], p: u8) -> usize
-    requires { ⌜ p < length (now ranks) ⌝ }
-    ensures { λ r. ⌜ (r ≡ getD (now (ranks .entry)) p 0) × (r < 256) ⌝ }
-{
-    let at = p as usize;
-    ranks[at] as usize
 }
 
 // The offsets of modulus `p`.
@@ -54,8 +41,7 @@ pub fn offsets(
     requires { ⌜ Sizes n k × ((length (now contributions) ≡ n * size) × Offsets k size (now ranks) p) ⌝ }
     ensures { λ r. ⌜ Front n k (keysAt n k size (now (contributions .entry)) (k * getD (now (ranks .entry)) p 0)) r ⌝ }
 {
-    let rank = rank_of(ranks, p);
-    keys_at(contributions, n, k, size, k * rank)
+    keys_at(contributions, n, k, size, offset_place(ranks, p, k))
 }
 
 // Key `j` of the `m` in a record at place `at`.

@@ -12,9 +12,9 @@ use super::gate::gate_rows;
 use super::handed::put_input_masks;
 use super::handed::put_output_masks;
 use circuit::Circuit;
+use contribution::first_record;
+use contribution::record_size;
 use counts::row_count;
-use zero::first_record;
-use zero::record_size;
 use zero::wire_masks;
 use zero::zero_keys;
 

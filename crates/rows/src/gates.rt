@@ -3,7 +3,6 @@
 ghost use mathlib.Core.Path.{_≡_};
 ghost use mathlib.Core.List.{_++_};
 ghost use Prim.Native.Nat.{_+_, _*_, _<_};
-ghost use lib.ListN.{length};
 ghost use Rattle.words.specs.Bits.{bits, wordAt};
 ghost use Rattle.rows.specs.Gate.{tableRows, productRows, chooserRows, correctorRows};
 ghost use Rattle.session.specs.Sizes.{Vector};

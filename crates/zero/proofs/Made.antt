@@ -3,10 +3,10 @@
 -- Assumes nothing.
 use mathlib.Core.List.{List}
 use mathlib.Core.Path.{_≡_, refl, sym, ap, _∙_}
-use Prim.Native.Nat.{ℕ, _*_, _<_}
+use Prim.Native.Nat.{ℕ, _-_, _*_, _<_}
 use native.Mathlib.Omega.{arith}
-use lib.ListN.{length, getD}
-use lib.Seq.{getD-take}
+use lib.ListN.{length, getD, replicate, length-append, length-replicate, List·getD-append}
+use Rattle.lists.proofs.Grown.{length-grown}
 use Rattle.lists.proofs.Blocks.{part-blocks-same}
 use Rattle.lists.specs.Blocks.{nthPiece}
 use Rattle.residue.proofs.Vectors.{add-below, mul-below, addV-length, mulV-length}
@@ -18,14 +18,15 @@ use Rattle.circuit.specs.Wires.{wireAt, modulusAt}
 use Rattle.circuit.specs.declared.Circuit.{Circuit}
 use Rattle.circuit.specs.Held.{wiresIn}
 use Rattle.counts.specs.Counts.{recordKeysBy}
-use Rattle.counts.specs.Recipe.{gateRecipe}
+use Rattle.counts.specs.Recipe.{gateRecipe, recipe}
+use Rattle.session.proofs.Circuits.{made-is}
 use Rattle.scheme.proofs.Bounds.{positive}
 use Rattle.scheme.proofs.Steps.{by-lower, zeroKey-step, mask-step}
 use Rattle.scheme.specs.Contribution.{contributionSize}
 use Rattle.scheme.specs.Draw.{Draw}
 use Rattle.scheme.specs.Zero.{freely, freelyV, zeroKeyBy, maskBy, masksTo, zeroKey, mask}
 use Rattle.zero.specs.Ready.{Contributed, drawnIn, ZeroKeys, Masks}
-use Rattle.zero.proofs.Cursor.{made-is, within}
+use Rattle.contribution.proofs.Cursor.{within}
 use Rattle.scheme.proofs.Drawn as drawnLaws
 
 module _ {file : List ℕ} {circuit : Circuit} {n K size : ℕ} {contributions : List ℕ} (r : Contributed file circuit n K size contributions) where
@@ -42,7 +43,7 @@ module _ {file : List ℕ} {circuit : Circuit} {n K size : ℕ} {contributions :
   drawn-key-size w j h is l = drawnLaws.key-length n K wires contributions all-long w j h (rw is l)
 
   pub above-0 : (w : ℕ) → w < circuit .made → 0 < modulusAt wires w
-  above-0 w h = positive (r .accepted) w (within r h)
+  above-0 w h = positive (r .accepted) w (within (r .held) h)
 
   module _ (w : ℕ) (made : w < length wires) where
     sized : {gate : Gate} → GateFits file wires w gate → wireAt wires w .gate ≡ gate
@@ -74,10 +75,10 @@ module _ {file : List ℕ} {circuit : Circuit} {n K size : ℕ} {contributions :
 
   -- a wire's zero keys are n·K bytes, and its mask is a residue
   pub zero-key-size : (w : ℕ) → w < circuit .made → length (zeroKey wires draw w) ≡ n * K
-  zero-key-size w h = every-size w (within r h)
+  zero-key-size w h = every-size w (within (r .held) h)
 
   pub mask-below : (w : ℕ) → w < circuit .made → mask wires draw w < modulusAt wires w
-  mask-below w h = rw (mask-step (r .accepted) w (within r h) draw) (reduced w (within r h) (above-0 w h) (r .accepted .fits w (within r h) .gate))
+  mask-below w h = rw (mask-step (r .accepted) w (within (r .held) h) draw) (reduced w (within (r .held) h) (above-0 w h) (r .accepted .fits w (within (r .held) h) .gate))
 
   -- read out of what holds them
   pub zero-keys-at : {keys : List ℕ} → ZeroKeys circuit n K contributions keys → (w : ℕ) → w < circuit .made → nthPiece keys (n * K) w ≡ zeroKey wires draw w
@@ -88,8 +89,19 @@ module _ {file : List ℕ} {circuit : Circuit} {n K size : ℕ} {contributions :
   -- the masks of all wires, as the list that the definition grows
   pub mask-of : (w : ℕ) → getD (masksTo wires draw (circuit .made)) w 0 ≡ mask wires draw w
   unfolding mask
-  mask-of w = ap (λ (m : ℕ). getD (masksTo wires draw m) w 0) (sym (made-is r))
+  mask-of w = ap (λ (m : ℕ). getD (masksTo wires draw m) w 0) (sym (made-is (r .held)))
+
+  pub masks-made : length (masksTo wires draw (circuit .made)) ≡ circuit .made
+  unfolding masksTo
+  masks-made = length-grown (λ v below. maskBy draw v (modulusAt wires v) (wireAt wires v .gate) (recipe (wireAt wires v)) (λ a. getD below a 0)) (circuit .made)
+
+  pub masks-kept : {masks : List ℕ} → Masks circuit n K contributions masks → length masks ≡ 1024
+  masks-kept z =
+      ap length (z .stand) ∙ length-append (masksTo wires draw (circuit .made)) (replicate (1024 - circuit .made) 0)
+      ∙ omega (arith, masks-made, length-replicate {A = ℕ} (1024 - circuit .made) 0, r .held .room .made)
 
   pub masks-at : {masks : List ℕ} → Masks circuit n K contributions masks → (w : ℕ) → w < circuit .made → getD masks w 0 ≡ mask wires draw w
-  masks-at {masks} z w h =
-      sym (getD-take (circuit .made) masks w 0 h) ∙ ap (λ (l : List ℕ). getD l w 0) (z .front) ∙ mask-of w
+  masks-at z w h =
+      ap (λ (l : List ℕ). getD l w 0) (z .stand)
+      ∙ List·getD-append (masksTo wires draw (circuit .made)) (replicate (1024 - circuit .made) 0) 0 w (omega (arith, masks-made))
+      ∙ mask-of w

@@ -1,14 +1,13 @@
 -- The loops that make the zero keys and the masks of all wires: what a turn may read, and what it makes.
 -- Assumes nothing.
-use mathlib.Core.List.{List, []}
+use mathlib.Core.List.{List, [], _++_}
 use mathlib.Core.Path.{_≡_, refl, sym, ap, ap₂, subst, _∙_}
-use Prim.Native.Nat.{ℕ, _+_, _*_, _%_, _≤_, _<_}
+use Prim.Native.Nat.{ℕ, _+_, _-_, _*_, _%_, _≤_, _<_}
 use native.Mathlib.Nat.{add-zero, le-trans, mod-lt}
 use native.Mathlib.Omega.{arith}
-use lib.ListN.{length, getD, take, drop, set, replicate, length-replicate, List·getD-append}
-use lib.Seq.{getD-take, length-take-le}
-use Rattle.lists.proofs.Filled.{Filled, filled-start, filled-step, filled-front}
-use Rattle.lists.proofs.Grown.{length-grown}
+use lib.ListN.{length, getD, take, drop, set, replicate, length-replicate, replicate-append-replicate, List·getD-append}
+use lib.Seq.{getD-take, length-take-le, drop-at}
+use Rattle.lists.proofs.Filled.{Filled, filled-start, filled-step, filled-done}
 use Rattle.lists.proofs.Steps.{Level, level-start, level-read, level-whole, level-place, steps-put, steps-fits}
 use Rattle.lists.proofs.Sums.{times-fits}
 use Rattle.lists.specs.Blocks.{blocks, part, nthPiece, written}
@@ -35,8 +34,8 @@ use Rattle.scheme.specs.Draw.{Draw, drawn}
 use Rattle.scheme.specs.Zero.{freely, freelyV, zeroKeyBy, maskBy, masksTo, zeroKey, mask}
 use Rattle.zero.specs.Ready.{Contributed, drawnIn, ZeroKeys, Masks}
 use Rattle.zero.specs.Turn.{ofWire, keysAt, maskAt, Stands, KeysReady, KeysAsked, MaskReady, MaskAsked, Put}
-use Rattle.zero.proofs.Cursor.{within, records-here, key-here, share-here}
-use Rattle.zero.proofs.Made.{above-0, zero-key-size, mask-below, mask-of}
+use Rattle.contribution.proofs.Cursor.{within, records-here, key-here, share-here}
+use Rattle.zero.proofs.Made.{above-0, zero-key-size, mask-below, mask-of, masks-made}
 
 -- where the gate is known, so is what it reads
 pub keys-known : {n K size at p : ℕ} {gate gate′ : Gate} {contributions keys : List ℕ} → gate ≡ gate′
@@ -53,6 +52,13 @@ stands-as {m} {m′} {a} {keys} e s = subst (λ (l : ℕ). Stands l keys a) (sym
 
 pub residue-below : {share : ℕ} (x : ℕ) {p : ℕ} → share ≡ x % p → 0 < p → share < p
 residue-below {share} x {p} e h = rw e (mod-lt x h)
+
+zeros-left : (made total : ℕ) → made ≤ total → drop {A = ℕ} made (replicate total 0) ≡ replicate (total - made) 0
+zeros-left made total h =
+    let all : made + (total - made) ≡ total = omega arith in
+    ap (λ (m : ℕ). drop {A = ℕ} made (replicate m 0)) (sym all)
+    ∙ ap (drop {A = ℕ} made) (sym (replicate-append-replicate {A = ℕ} made (total - made) 0))
+    ∙ drop-at {A = ℕ} (replicate made 0) (replicate (total - made) 0) made (length-replicate {A = ℕ} made 0)
 
 pub masks-long : {masks : List ℕ} → masks ≡ replicate 1024 0 → length masks ≡ 1024
 masks-long e = ap length e ∙ length-replicate {A = ℕ} 1024 0
@@ -140,7 +146,7 @@ module _ {file : List ℕ} {circuit : Circuit} {n K size : ℕ} {contributions :
     stands {a} l = record { inside = le-trans (times-fits a w (n * K) l) (omega (arith, level-place done, steps-fits done h)) }
 
     first-key : {gate : Gate} → wireAt (circuit .wires) w .gate ≡ gate → 0 < recordKeysBy (gateRecipe gate) → at + K ≤ size
-    first-key is l = omega (arith, key-here r h here 0 (rw is l))
+    first-key is l = omega (arith, key-here (r .held) K h here (r .each) 0 (rw is l))
 
     keys-by-kind : {gate : Gate} → GateFits file wires w gate → wireAt (circuit .wires) w .gate ≡ gate → KeysReady (n * K) K size at keys gate
     keys-by-kind (input fits) is = first-key is (omega arith)
@@ -156,7 +162,7 @@ module _ {file : List ℕ} {circuit : Circuit} {n K size : ℕ} {contributions :
         record {
           all = r .all;
           positive = subst (λ (wire : Wire). 0 < wire .modulus) same (above-0 r w h);
-          ready = keys-by-kind (subst (λ (wire : Wire). GateFits file wires w (wire .gate)) same (r .accepted .fits w (within r h) .gate)) refl;
+          ready = keys-by-kind (subst (λ (wire : Wire). GateFits file wires w (wire .gate)) same (r .accepted .fits w (within (r .held) h) .gate)) refl;
         }
 
     pub keys-step : {m : ℕ} {keys′ : List ℕ} → m ≡ n * K
@@ -165,8 +171,8 @@ module _ {file : List ℕ} {circuit : Circuit} {n K size : ℕ} {contributions :
     keys-step {m} {keys′} e put =
         steps-put done h (omega arith) (put .long) (put .eq)
         (ap (λ (wire : Wire). zeroKeyBy (ofWire (keysAt n K size contributions at) 0) 0 (wire .modulus) (wire .gate) (recipe wire) (λ a. nthPiece keys (n * K) a)) (sym (wire-at (circuit .wires) (circuit .made) w h))
-        ∙ same-key draw (modulusAt wires w) _ 0 _ (zeroKey wires draw) (drawn-key w here) (r .accepted .fits w (within r h) .gate) lower-key
-        ∙ sym (zeroKey-step (r .accepted) w (within r h) draw))
+        ∙ same-key draw (modulusAt wires w) _ 0 _ (zeroKey wires draw) (drawn-key w here) (r .accepted .fits w (within (r .held) h) .gate) lower-key
+        ∙ sym (zeroKey-step (r .accepted) w (within (r .held) h) draw))
 
   pub keys-done : {keys₀ keys : List ℕ} {w to : ℕ} → Level keys₀ 0 w (circuit .made) (n * K) (zeroKey wires draw) to keys → circuit .made ≤ w → length keys₀ ≡ circuit .made * (n * K) → ZeroKeys circuit n K contributions keys
   keys-done done h e = record { stand = level-whole done h e }
@@ -176,18 +182,14 @@ module _ {file : List ℕ} {circuit : Circuit} {n K size : ℕ} {contributions :
   abbrev target : List ℕ
   target = masksTo wires draw (circuit .made)
 
-  target-long : length target ≡ circuit .made
-  unfolding masksTo
-  target-long = length-grown (λ v below. maskBy draw v (modulusAt wires v) (wireAt wires v .gate) (recipe (wireAt wires v)) (λ a. getD below a 0)) (circuit .made)
-
   pub masks-start : {masks : List ℕ} → masks ≡ replicate 1024 0 → Filled masks 0 (circuit .made) target masks
-  masks-start e = filled-start target-long (omega (arith, r .held .room .made, masks-long e))
+  masks-start e = filled-start (masks-made r) (omega (arith, r .held .room .made, masks-long e))
 
   module _ {masks₀ masks : List ℕ} {w at shares : ℕ} (h : w < circuit .made) (here : at ≡ recordAt K wires w) (behind : shares ≡ K * recordKeysBy (recipe (wireAt (circuit .wires) w)))
       (done : Filled masks₀ w (circuit .made) target masks) where
     lower-mask : (a : ℕ) → a < w → getD masks a 0 ≡ mask wires draw a
     lower-mask a l =
-        let long : length (take w target) ≡ w = length-take-le w target (omega (arith, target-long)) in
+        let long : length (take w target) ≡ w = length-take-le w target (omega (arith, masks-made r)) in
         ap (λ (ms : List ℕ). getD ms a 0) (done .eq)
         ∙ List·getD-append (take w target) (drop w masks₀) 0 a (omega arith)
         ∙ getD-take w target a 0 l
@@ -201,7 +203,7 @@ module _ {file : List ℕ} {circuit : Circuit} {n K size : ℕ} {contributions :
         }
 
     first-share : {gate : Gate} → wireAt (circuit .wires) w .gate ≡ gate → 0 < recordKeysBy (gateRecipe gate) → at + shares < size
-    first-share is l = omega (arith, share-here r h here 0 (rw is l) behind)
+    first-share is l = omega (arith, share-here (r .held) K h here (r .each) 0 (rw is l) behind)
 
     mask-by-kind : {gate : Gate} → GateFits file wires w gate → wireAt (circuit .wires) w .gate ≡ gate → MaskReady (modulusAt wires w) size (at + shares) masks gate
     mask-by-kind (input fits) is = first-share is (omega arith)
@@ -219,7 +221,7 @@ module _ {file : List ℕ} {circuit : Circuit} {n K size : ℕ} {contributions :
           all = r .all;
           parties = r .sizes .parties;
           positive = above-0 r w h;
-          ready = mask-by-kind (subst (λ (wire : Wire). GateFits file wires w (wire .gate)) same (r .accepted .fits w (within r h) .gate)) refl;
+          ready = mask-by-kind (subst (λ (wire : Wire). GateFits file wires w (wire .gate)) same (r .accepted .fits w (within (r .held) h) .gate)) refl;
         } in
         subst (λ (wire : Wire). MaskAsked n size (at + shares) (wire .modulus) (wireAt (circuit .wires) w .gate) contributions masks) same asked
 
@@ -227,13 +229,16 @@ module _ {file : List ℕ} {circuit : Circuit} {n K size : ℕ} {contributions :
         → v ≡ maskBy (ofWire [] (maskAt n size contributions (modulusAt (circuit .wires) w) (at + shares))) 0 (modulusAt (circuit .wires) w) (wireAt (circuit .wires) w .gate) (recipe (wireAt (circuit .wires) w)) (λ a. getD masks a 0)
         → Filled masks₀ (w + 1) (circuit .made) target (set masks w v)
     masks-step {v} e =
-        let place : at + shares ≡ recordAt K wires w + K * recordKeysOf wires w = ap₂ _+_ here (behind ∙ ap (λ (m : ℕ). K * m) (records-here r h here)) in
+        let place : at + shares ≡ recordAt K wires w + K * recordKeysOf wires w = ap₂ _+_ here (behind ∙ ap (λ (m : ℕ). K * m) (records-here (r .held) h)) in
         filled-step done h
         (mask-of r w
-        ∙ mask-step (r .accepted) w (within r h) draw
+        ∙ mask-step (r .accepted) w (within (r .held) h) draw
         ∙ sym (e
         ∙ ap (λ (wire : Wire). maskBy (ofWire [] (maskAt n size contributions (wire .modulus) (at + shares))) 0 (wire .modulus) (wire .gate) (recipe wire) (λ a. getD masks a 0)) (sym (wire-at (circuit .wires) (circuit .made) w h))
-        ∙ same-mask draw (modulusAt wires w) [] _ _ (mask wires draw) (drawn-mask w place) (r .accepted .fits w (within r h) .gate) lower-mask))
+        ∙ same-mask draw (modulusAt wires w) [] _ _ (mask wires draw) (drawn-mask w place) (r .accepted .fits w (within (r .held) h) .gate) lower-mask))
 
   pub masks-done : {masks₀ masks : List ℕ} {w : ℕ} → masks₀ ≡ replicate 1024 0 → Filled masks₀ w (circuit .made) target masks → circuit .made ≤ w → Masks circuit n K contributions masks
-  masks-done e done h = record { kept = done .kept ∙ masks-long e; front = filled-front done h }
+  masks-done {masks₀} e done h =
+      record {
+        stand = filled-done done h ∙ ap (λ (l : List ℕ). target ++ l) (ap (drop {A = ℕ} (circuit .made)) e ∙ zeros-left (circuit .made) 1024 (r .held .room .made));
+      }

@@ -5,13 +5,12 @@ use mathlib.Core.List.{List, []}
 use Prim.Native.Nat.{ℕ, _+_, _*_, _%_, _≤_, _<_}
 use lib.ListN.{length, getD}
 use Rattle.lists.specs.Blocks.{blocks, sumTo, part, nthPiece, written}
-use Rattle.words.specs.declared.gate.Pair.{Pair}
 use Rattle.words.specs.declared.gate.Gate.{Gate}
 use Rattle.words.specs.declared.gate.Gate.the-variants.{Input, Add, Scale, Multiply, Project, Select}
 use Rattle.plain.specs.Ready.{Below, PairReady}
 use Rattle.scheme.specs.Draw.{Draw}
 
--- the draw of one wire alone: its zero keys and its mask
+-- the draw of one wire alone: its zero keys and its mask; the wire's number plays no part in it
 unfoldable pub ofWire : List ℕ → ℕ → Draw
 ofWire key mask = record { offset = λ p. []; key = λ w j. key; mask = λ w j. mask }
 

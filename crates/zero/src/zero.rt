@@ -8,10 +8,11 @@ ghost use Rattle.counts.specs.Recipe.{recipe};
 ghost use Rattle.scheme.specs.Zero.{zeroKeyBy};
 ghost use Rattle.zero.specs.Ready.{Contributed, ZeroKeys};
 ghost use Rattle.zero.specs.Turn.{ofWire, keysAt, Stands, KeysAsked, Put};
-use super::places::first_record;
-use super::places::record_size;
 use super::shares::gather;
 use circuit::Circuit;
+use contribution::first_record;
+use contribution::record_size;
+use contribution::scratch;
 use words::Choice;
 use words::Gate;
 use words::Pair;
@@ -76,12 +77,6 @@ fn put_zero_key(
             add_first(p, choice, keys, out);
         }
     }
-}
-
-fn scratch() -> [u8; 1024]
-    ensures { λ r. ⌜ length r ≡ 1024 ⌝ }
-{
-    [0u8; 1024]
 }
 
 // The same, put into its place among the keys of all wires. `key` is what they are made in, since lower wires' keys are read from where they are put.

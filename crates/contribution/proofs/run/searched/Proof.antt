@@ -22,7 +22,7 @@ searched-spec =
     μ-loop
     (λ c. looking-start)
     (λ c. omega arith)
-    (λ c. looking-found (c .before .before .before .loop .inv) (c .before .before .loop-test .taken) (le-leb _ _ (c .if1 .taken)))
+    (λ c. looking-found (c .before .before .before .loop .inv) (c .before .before .loop-test .taken) (le-leb (c .before .before .before .before .args .p) (getD (c .before .before .before .before .args .bytes .now) (c .before .before .before .loop .i) 0) (omega (arith, c .if1 .taken))))
     (λ c. omega arith)
     (λ c. omega arith)
     (λ c. looking-on (c .before .before .before .loop .inv) (c .before .before .loop-test .taken) (lt-leb _ _ (c .if1 .left)))

@@ -1,31 +1,21 @@
-use mathlib.Core.Path.{sym, ap, refl, _∙_}
+-- `evaluation::add_bare` meets its contract: a row put on what stands there, and its pads taken off. Assumes nothing.
+use mathlib.Core.Path.{_∙_}
 use native.Mathlib.Omega.{arith}
-use lib.ListN.{length}
-use Rattle.residue.proofs.Vectors.{addV-below, addV-length, mulV-length}
+use Rattle.residue.proofs.Vectors.{addV-below}
 use Rattle.evaluation.proofs.Bared.{asked, rowed, bare-more}
 use borrow.Author.Needs.{needs}
 use Rattle.evaluation.proofs.gates.add_bare.Statement.{statement}
 use Rattle.evaluation.proofs.gates.add_bare.Tie as tie
-use Rattle.evaluation.proofs.gates.add_bare.Reads as reads
-use Rattle.evaluation.proofs.gates.add_bare.Lts as lts
-use Rattle.pads.proofs.sub_pad_row.Reads as sub-pad-row-reads
-use Rattle.residue.proofs.add_multiple.Reads as add-multiple-reads
-
--- src/gates.rt:50:5
-add-multiple-requires : tie.Need-add-multiple-requires
-add-multiple-requires c κs = search needs
-
--- src/gates.rt:51:5
-sub-pad-row-requires : tie.Need-sub-pad-row-requires
-sub-pad-row-requires c κs = (asked (c .before .before .before .before .before .before .before .before .pre .0 .0) (c .before .before .before .before .before .before .before .before .pre .0 .1) (addV-below (omega (arith, c .before .before .before .before .before .before .before .before .pre .0 .1)) _ _) (c .before .before .before .add-multiple .ensures), rowed (c .before .before .before .before .before .before .before .before .pre .0 .0) (c .before .before .before .before .before .before .before .before .pre .1 .0) (c .before .before .before .add-multiple .kept .1 .1 .1 .0 ∙ c .before .before .before .before .before .before .before .before .pre .1 .1 .1 .size))
-
--- src/gates.rt:36:1
-same-length : tie.Need-same-length
-same-length c = search needs
-
--- src/gates.rt:36:1
-returns : tie.Need-returns
-returns c = bare-more _ _ _ _ _ _ _ _ _ (c .before .before .before .before .before .before .before .before .before .before .before .pre .0 .1) (c .before .before .before .before .before .before .before .before .before .before .before .pre .1 .1 .0) (c .before .before .before .before .before .before .before .before .before .before .before .pre .1 .1 .1 .size) (c .before .before .before .before .before .before .add-multiple .ensures) (c .before .before .sub-pad-row .ensures)
 
 pub add-bare-spec : {M : Type 1} → statement M
-add-bare-spec = tie.close (tie.spec add-multiple-requires sub-pad-row-requires same-length returns)
+add-bare-spec =
+    tie.close
+    (tie.spec
+    (λ c κs. search needs)
+    (λ c κs.
+    let start = c .before .before .before .before .before .before .before .before in
+    (asked (start .pre .0 .0) (start .pre .0 .1) (addV-below (omega (arith, start .pre .0 .1)) _ _) (c .before .before .before .add-multiple .ensures), rowed (start .pre .0 .0) (start .pre .1 .0) (c .before .before .before .add-multiple .kept .1 .1 .1 .0 ∙ start .pre .1 .1 .1 .size)))
+    (λ c. search needs)
+    (λ c.
+    let start = c .before .before .before .before .before .before .before .before .before .before .before in
+    bare-more _ _ _ _ _ _ _ _ _ (start .pre .0 .1) (start .pre .1 .1 .0) (start .pre .1 .1 .1 .size) (c .before .before .before .before .before .before .add-multiple .ensures) (c .before .before .sub-pad-row .ensures)))

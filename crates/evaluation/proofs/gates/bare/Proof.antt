@@ -1,29 +1,18 @@
-use mathlib.Core.Path.{sym, ap, _∙_}
+-- `evaluation::bare` meets its contract: a copy, and its pads taken off. Assumes nothing.
+use mathlib.Core.Path.{ap, _∙_}
 use lib.ListN.{length}
-use Rattle.evaluation.proofs.Bared.{asked, rowed, bare-row, below-part}
+use Rattle.evaluation.proofs.Bared.{asked, rowed, bare-row}
 use borrow.Author.Needs.{needs}
 use Rattle.evaluation.proofs.gates.bare.Statement.{statement}
 use Rattle.evaluation.proofs.gates.bare.Tie as tie
-use Rattle.evaluation.proofs.gates.bare.Reads as reads
-use Rattle.evaluation.proofs.gates.bare.Lts as lts
-use Rattle.lists.proofs.copy.Reads as copy-reads
-use Rattle.pads.proofs.sub_pad_row.Reads as sub-pad-row-reads
-
--- src/gates.rt:31:5
-copy-requires : tie.Need-copy-requires
-copy-requires c κs = search needs
-
--- src/gates.rt:32:5
-sub-pad-row-requires : tie.Need-sub-pad-row-requires
-sub-pad-row-requires c κs = (asked (c .before .before .before .before .before .before .before .before .pre .0 .0) (c .before .before .before .before .before .before .before .before .pre .0 .1 .0) (c .before .before .before .before .before .before .before .before .pre .0 .1 .1) (c .before .before .before .copy .ensures), rowed (c .before .before .before .before .before .before .before .before .pre .0 .0) (c .before .before .before .before .before .before .before .before .pre .1 .0) (ap length (c .before .before .before .copy .ensures) ∙ c .before .before .before .before .before .before .before .before .pre .1 .1 .0 .size))
-
--- src/gates.rt:16:1
-same-length : tie.Need-same-length
-same-length c = search needs
-
--- src/gates.rt:16:1
-returns : tie.Need-returns
-returns c = bare-row _ _ _ _ _ _ _ (c .before .before .before .before .before .before .copy .ensures) (c .before .before .sub-pad-row .ensures)
 
 pub bare-spec : {M : Type 1} → statement M
-bare-spec = tie.close (tie.spec copy-requires sub-pad-row-requires same-length returns)
+bare-spec =
+    tie.close
+    (tie.spec
+    (λ c κs. search needs)
+    (λ c κs.
+    let start = c .before .before .before .before .before .before .before .before in
+    (asked (start .pre .0 .0) (start .pre .0 .1 .0) (start .pre .0 .1 .1) (c .before .before .before .copy .ensures), rowed (start .pre .0 .0) (start .pre .1 .0) (ap length (c .before .before .before .copy .ensures) ∙ start .pre .1 .1 .0 .size)))
+    (λ c. search needs)
+    (λ c. bare-row _ _ _ _ _ _ _ (c .before .before .before .before .before .before .copy .ensures) (c .before .before .sub-pad-row .ensures)))

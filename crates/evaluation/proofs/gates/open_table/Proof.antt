@@ -1,44 +1,29 @@
-use mathlib.Core.Path.{sym, ap, refl, _∙_}
+-- `evaluation::open_table` meets its contract: the row of the external value, without its pads. Assumes nothing.
+use mathlib.Core.Path.{ap, _∙_}
 use mathlib.Core.List.{List}
 use Prim.Native.Nat.{ℕ}
 use native.Mathlib.Omega.{arith}
 use Rattle.evaluation.specs.Gate.{bared, tableKeys}
-use Rattle.evaluation.proofs.Bared.{row-inside, row-below, row-at, width}
+use Rattle.contribution.proofs.Sizes.{vector-fits}
+use Rattle.evaluation.proofs.Bared.{row-inside, row-below, row-at}
 use borrow.Author.Needs.{needs}
 use Rattle.evaluation.proofs.gates.open_table.Statement.{statement}
 use Rattle.evaluation.proofs.gates.open_table.Tie as tie
-use Rattle.evaluation.proofs.gates.open_table.Reads as reads
-use Rattle.evaluation.proofs.gates.open_table.Lts as lts
-use Rattle.evaluation.proofs.gates.bare.Reads as bare-reads
-use Rattle.evaluation.proofs.gates.index.Reads as index-reads
-use Rattle.lists.proofs.nth_piece.Reads as nth-piece-reads
-
--- src/gates.rt:76:31
-mul-nth-piece : tie.Need-mul-nth-piece
-mul-nth-piece c = omega (arith, width (c .before .before .before .pre .0 .0))
-
--- src/gates.rt:76:38
-index-requires : tie.Need-index-requires
-index-requires c κs = search needs
-
--- src/gates.rt:76:9
-nth-piece-requires : tie.Need-nth-piece-requires
-nth-piece-requires c κs = row-inside (c .before .before .before .before .pre .0 .1 .0) (c .before .before .before .before .pre .0 .1 .1) (c .index .ensures)
-
--- src/gates.rt:77:5
-bare-requires : tie.Need-bare-requires
-bare-requires c κs = ((c .before .before .before .before .before .before .pre .0 .0, (c .before .before .before .before .before .before .pre .0 .1 .0 .modulus, row-below (c .before .before .before .before .before .before .pre .0 .1 .0) _ (c .before .nth-piece .ensures .0))), (c .before .before .before .before .before .before .pre .1 .0, (record { size = c .before .nth-piece .ensures .1 }, c .before .before .before .before .before .before .pre .1 .1)))
-
--- src/gates.rt:61:1
-same-length : tie.Need-same-length
-same-length c = search needs
-
--- src/gates.rt:61:1
-returns : tie.Need-returns
-unfolding tableKeys
-returns c = c .before .before .bare .ensures ∙ ap (λ (row : List ℕ). bared (c .before .before .before .before .before .before .before .before .before .args .n) (c .before .before .before .before .before .before .before .before .before .args .k) (c .before .before .before .before .before .before .before .before .before .args .w) (c .before .before .before .before .before .before .before .before .before .args .q) (c .before .before .before .before .before .before .before .before .before .args .p) 0 (c .before .before .before .before .before .before .before .before .before .args .a .now) row) (row-at _ (c .before .before .before .before .before .before .before .before .before .args .rows .now) _ _ (c .before .before .before .before .nth-piece .ensures .0) (c .before .before .before .before .before .index .ensures))
 
 pub open-table-spec : {M : Type 1} → statement M
+unfolding tableKeys
 open-table-spec =
     tie.close
-    (tie.spec mul-nth-piece index-requires nth-piece-requires bare-requires same-length returns)
+    (tie.spec
+    (λ c. omega (arith, vector-fits (c .before .before .before .pre .0 .0)))
+    (λ c κs. search needs)
+    (λ c κs.
+    let start = c .before .before .before .before in
+    row-inside (start .pre .0 .1 .0) (start .pre .0 .1 .1) (c .index .ensures))
+    (λ c κs.
+    let start = c .before .before .before .before .before .before in
+    ((start .pre .0 .0, (start .pre .0 .1 .0 .modulus, row-below (start .pre .0 .1 .0) _ (c .before .nth-piece .ensures .0))), (start .pre .1 .0, (record { size = c .before .nth-piece .ensures .1 }, start .pre .1 .1))))
+    (λ c. search needs)
+    (λ c.
+    let start = c .before .before .before .before .before .before .before .before .before in
+    c .before .before .bare .ensures ∙ ap (λ (row : List ℕ). bared (start .args .n) (start .args .k) (start .args .w) (start .args .q) (start .args .p) 0 (start .args .a .now) row) (row-at _ (start .args .rows .now) _ _ (c .before .before .before .before .nth-piece .ensures .0) (c .before .before .before .before .before .index .ensures))))

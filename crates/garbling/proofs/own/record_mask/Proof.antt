@@ -8,30 +8,21 @@ use Rattle.garbling.proofs.Fronts.{mask-inside}
 use Rattle.garbling.proofs.own.record_mask.Statement.{statement}
 use Rattle.garbling.proofs.own.record_mask.Tie as tie
 
-mul-share-sum : tie.Need-mul-share-sum
-mul-share-sum c =
-    let a = c .before .args in
-    omega (arith, mask-inside (a .k) (a .at) (a .m) (a .j) (c .before .pre .0 .1 .1) (c .before .pre .1 .0))
-
-add-share-sum : tie.Need-add-share-sum
-add-share-sum c =
-    let a = c .before .args in
-    omega (arith, mask-inside (a .k) (a .at) (a .m) (a .j) (c .before .pre .0 .1 .1) (c .before .pre .1 .0))
-
-add-share-sum-2 : tie.Need-add-share-sum-2
-add-share-sum-2 c =
-    let a = c .before .args in
-    omega (arith, mask-inside (a .k) (a .at) (a .m) (a .j) (c .before .pre .0 .1 .1) (c .before .pre .1 .0))
-
-share-sum-requires : tie.Need-share-sum-requires
-share-sum-requires c κs =
-    let a = c .before .args in
-    ((c .before .pre .0 .1 .0, mask-inside (a .k) (a .at) (a .m) (a .j) (c .before .pre .0 .1 .1) (c .before .pre .1 .0)), (c .before .pre .0 .0 .parties, c .before .pre .1 .1 .1))
-
-returns : tie.Need-returns
-unfolding maskAt
-returns c = (c .share-sum .ensures, subst (λ (x : ℕ). x < c .before .before .args .p) (sym (c .share-sum .ensures)) (mod-lt _ (c .before .before .pre .1 .1 .1)))
-
 pub record-mask-spec : {M : Type 1} → statement M
+unfolding maskAt
 record-mask-spec =
-    tie.close (tie.spec mul-share-sum add-share-sum add-share-sum-2 share-sum-requires returns)
+    tie.close
+    (tie.spec
+    (λ c.
+    let a = c .before .args in
+    omega (arith, mask-inside (a .k) (a .at) (a .m) (a .j) (c .before .pre .0 .1 .1) (c .before .pre .1 .0)))
+    (λ c.
+    let a = c .before .args in
+    omega (arith, mask-inside (a .k) (a .at) (a .m) (a .j) (c .before .pre .0 .1 .1) (c .before .pre .1 .0)))
+    (λ c.
+    let a = c .before .args in
+    omega (arith, mask-inside (a .k) (a .at) (a .m) (a .j) (c .before .pre .0 .1 .1) (c .before .pre .1 .0)))
+    (λ c κs.
+    let a = c .before .args in
+    ((c .before .pre .0 .1 .0, mask-inside (a .k) (a .at) (a .m) (a .j) (c .before .pre .0 .1 .1) (c .before .pre .1 .0)), (c .before .pre .0 .0 .parties, c .before .pre .1 .1 .1)))
+    (λ c. (c .share-sum .ensures, subst (λ (x : ℕ). x < c .before .before .args .p) (sym (c .share-sum .ensures)) (mod-lt _ (c .before .before .pre .1 .1 .1)))))

@@ -1,61 +1,36 @@
 -- `garbling::garble_from` meets its contract: rows and masks, each from what its call ensures. Assumes nothing.
 use mathlib.Core.Path.{sym, _∙_}
 use borrow.Author.Needs.{needs}
+use Rattle.zero.proofs.Made.{masks-kept}
 use Rattle.garbling.proofs.Garbled.{inputs-fit, inputs-are, gives-masks, outputs-are}
 use Rattle.garbling.proofs.pass.garble_from.Statement.{statement}
 use Rattle.garbling.proofs.pass.garble_from.Tie as tie
-
-wire-masks-requires : tie.Need-wire-masks-requires
-wire-masks-requires c κs = c .before .before .before .before .before .before .pre .0
-
-slice-aggregate-put-rows : tie.Need-slice-aggregate-put-rows
-slice-aggregate-put-rows c = sym (c .before .wire-masks .ensures .kept)
-
-put-rows-requires : tie.Need-put-rows-requires
-put-rows-requires c κs = (c .before .before .before .before .before .before .before .before .before .pre .0, ((c .before .before .before .before .before .before .before .before .before .pre .1 .0, c .before .before .wire-masks .ensures), c .before .before .before .before .before .before .before .before .before .pre .1 .1 .0))
-
-slice-aggregate-put-input-masks : tie.Need-slice-aggregate-put-input-masks
-slice-aggregate-put-input-masks c = sym (c .before .before .before .before .before .before .wire-masks .ensures .kept)
-
-put-input-masks-requires : tie.Need-put-input-masks-requires
-put-input-masks-requires c κs = inputs-fit (c .before .before .before .before .before .before .before .before .before .before .before .before .before .before .pre .0) (c .before .before .before .before .before .before .before .wire-masks .ensures) (c .before .before .before .before .before .before .before .before .before .before .before .before .before .before .pre .1 .1 .1 .0)
-
-slice-aggregate-put-output-masks : tie.Need-slice-aggregate-put-output-masks
-slice-aggregate-put-output-masks c = sym (c .before .before .before .before .before .before .before .before .before .before .before .wire-masks .ensures .kept)
-
-put-output-masks-requires : tie.Need-put-output-masks-requires
-put-output-masks-requires c κs = gives-masks (c .before .before .before .before .before .before .before .before .before .before .before .before .before .before .before .before .before .before .before .pre .0) (c .before .before .before .before .before .before .before .before .before .before .before .before .wire-masks .ensures) (c .before .before .before .before .before .before .before .before .before .before .before .before .before .before .before .before .before .before .before .pre .1 .1 .1 .1)
-
-same-length : tie.Need-same-length
-same-length c = search needs
-
-same-length-2 : tie.Need-same-length-2
-same-length-2 c = search needs
-
-same-length-3 : tie.Need-same-length-3
-same-length-3 c = search needs
-
-returns : tie.Need-returns
-returns c = (
-  c .before .before .before .before .before .before .before .before .before .before .before .before .put-rows .ensures,
-  (
-    c .before .before .before .before .before .before .before .put-input-masks .ensures ∙ inputs-are (c .before .before .before .before .before .before .before .before .before .before .before .before .before .before .before .before .before .before .before .before .before .before .pre .0) (c .before .before .before .before .before .before .before .before .before .before .before .before .before .before .before .wire-masks .ensures) (c .before .before .before .before .before .before .before .before .before .before .before .before .before .before .before .before .before .before .before .before .before .before .pre .1 .1 .1 .0),
-    c .before .before .put-output-masks .ensures ∙ outputs-are (c .before .before .before .before .before .before .before .before .before .before .before .before .before .before .before .before .before .before .before .before .before .before .pre .0) (c .before .before .before .before .before .before .before .before .before .before .before .before .before .before .before .wire-masks .ensures),
-  ),
-)
 
 pub garble-from-spec : {M : Type 1} → statement M
 garble-from-spec =
     tie.close
     (tie.spec
-    wire-masks-requires
-    slice-aggregate-put-rows
-    put-rows-requires
-    slice-aggregate-put-input-masks
-    put-input-masks-requires
-    slice-aggregate-put-output-masks
-    put-output-masks-requires
-    same-length
-    same-length-2
-    same-length-3
-    returns)
+    (λ c κs. c .before .before .before .before .before .before .pre .0)
+    (λ c. sym (masks-kept (c .before .before .before .before .before .before .before .before .pre .0) (c .before .wire-masks .ensures)))
+    (λ c κs.
+    let start = c .before .before .before .before .before .before .before .before .before in
+    (start .pre .0, ((start .pre .1 .0, c .before .before .wire-masks .ensures), start .pre .1 .1 .0)))
+    (λ c. sym (masks-kept (c .before .before .before .before .before .before .before .before .before .before .before .before .before .pre .0) (c .before .before .before .before .before .before .wire-masks .ensures)))
+    (λ c κs.
+    let start = c .before .before .before .before .before .before .before .before .before .before .before .before .before .before in
+    inputs-fit (start .pre .0) (c .before .before .before .before .before .before .before .wire-masks .ensures) (start .pre .1 .1 .1 .0))
+    (λ c. sym (masks-kept (c .before .before .before .before .before .before .before .before .before .before .before .before .before .before .before .before .before .before .pre .0) (c .before .before .before .before .before .before .before .before .before .before .before .wire-masks .ensures)))
+    (λ c κs.
+    let start = c .before .before .before .before .before .before .before .before .before .before .before .before .before .before .before .before .before .before .before in
+    gives-masks (start .pre .0) (c .before .before .before .before .before .before .before .before .before .before .before .before .wire-masks .ensures) (start .pre .1 .1 .1 .1))
+    (λ c. search needs)
+    (λ c. search needs)
+    (λ c. search needs)
+    (λ c.
+    let start = c .before .before .before .before .before .before .before .before .before .before .before .before .before .before .before .before .before .before .before .before .before .before in (
+      c .before .before .before .before .before .before .before .before .before .before .before .before .put-rows .ensures,
+      (
+        c .before .before .before .before .before .before .before .put-input-masks .ensures ∙ inputs-are (start .pre .0) (c .before .before .before .before .before .before .before .before .before .before .before .before .before .before .before .wire-masks .ensures) (start .pre .1 .1 .1 .0),
+        c .before .before .put-output-masks .ensures ∙ outputs-are (start .pre .0) (c .before .before .before .before .before .before .before .before .before .before .before .before .before .before .before .wire-masks .ensures),
+      ),
+    )))

@@ -12,8 +12,8 @@ use Rattle.scheme.specs.Draw.{drawn}
 use Rattle.scheme.specs.Rows.{gateRows}
 use Rattle.lists.proofs.Steps.{Steps, steps-fits, steps-long, steps-call}
 use Rattle.garbling.proofs.Looked.{ranks-long, moduli-long}
-use Rattle.zero.proofs.Cursor.{cursor-next, cursor-fits}
-use Rattle.garbling.proofs.Fronts.{vector-fits}
+use Rattle.contribution.proofs.Cursor.{cursor-next, cursor-fits}
+use Rattle.contribution.proofs.Sizes.{vector-fits}
 use Rattle.garbling.proofs.Garbled.{count-fits, pass-start, pass-done, turn-size, turn-ready, turn-rows}
 use Rattle.garbling.proofs.pass.put_rows.Statement.{statement}
 use Rattle.garbling.proofs.pass.put_rows.Tie as tie
@@ -27,121 +27,57 @@ Inv-loop file n k size contributions keys masks rows₀ circuit moduli ranks byt
 abbrev μ-loop : tie.MeasureT-loop
 μ-loop file n k size contributions keys masks rows₀ circuit moduli ranks bytes made at₀ from₀ w₀ rows at from w = circuit .made - w
 
-moduli-requires : tie.Need-moduli-requires Inv-loop μ-loop
-moduli-requires c κs = c .before .before .before .before .before .pre .0 .held .room
-
-ranks-requires : tie.Need-ranks-requires Inv-loop μ-loop
-ranks-requires c κs = c .before .before .before .before .before .before .pre .0 .held .room
-
-mul-bytes : tie.Need-mul-bytes Inv-loop μ-loop
-mul-bytes c = omega (arith, vector-fits (c .before .before .before .before .before .before .before .pre .0 .sizes))
-
-first-record-requires : tie.Need-first-record-requires Inv-loop μ-loop
-first-record-requires c κs = (c .before .before .before .before .before .before .before .pre .0 .held .room, c .before .before .before .before .before .before .before .pre .0 .sizes .short)
-
-loop-holds : tie.Need-loop-holds Inv-loop μ-loop
-loop-holds c = (c .first-record .ensures, pass-start (c .before .before .before .before .before .before .before .before .pre .0) (c .before .before .before .before .before .before .before .before .pre .1 .1))
-
-mul-wire : tie.Need-mul-wire Inv-loop μ-loop
-mul-wire c = omega (arith, c .loop-test .taken, c .before .before .before .before .before .before .before .before .before .before .pre .0 .held .room .made, c .before .before .before .before .before .before .before .before .before .before .pre .0 .held .room .wires)
-
-element-copy-out-wire : tie.Need-element-copy-out-wire Inv-loop μ-loop
-element-copy-out-wire c = omega (arith, c .loop-test .taken, c .before .before .before .before .before .before .before .before .before .before .pre .0 .held .room .made, c .before .before .before .before .before .before .before .before .before .before .pre .0 .held .room .wires)
-
-slice-aggregate-row-count : tie.Need-slice-aggregate-row-count Inv-loop μ-loop
-slice-aggregate-row-count c = sym (moduli-long (c .before .before .before .before .before .before .before .before .before .before .before .before .pre .0) (c .before .before .before .before .before .before .before .before .before .before .before .before .pre .1 .0 .0) (c .before .before .before .before .before .before .before .before .before .before .before .before .pre .1 .0 .1) (c .before .before .before .before .before .ranks .ensures) (c .before .before .before .before .before .before .moduli .ensures))
-
-row-count-requires : tie.Need-row-count-requires Inv-loop μ-loop
-row-count-requires c κs = tt
-
-wide-requires : tie.Need-wide-requires Inv-loop μ-loop
-wide-requires c κs = tt
-
-mul-to : tie.Need-mul-to Inv-loop μ-loop
-mul-to c = omega (arith, count-fits {x = c .wide .result} (c .before .before .before .before .before .before .before .before .before .before .before .before .before .before .pre .0 .sizes) (omega (arith, c .wide .ensures, c .before .row-count .ensures .most)))
-
-add-to : tie.Need-add-to Inv-loop μ-loop
-add-to c = omega (arith, steps-fits (c .before .before .before .before .before .loop .inv .1) (c .before .before .before .before .loop-test .taken), turn-size (c .before .before .before .before .before .before .before .before .before .before .before .before .before .before .pre .0) (c .before .before .before .before .before .before .before .before .before .before .before .before .before .before .pre .1 .0 .0) (c .before .before .before .before .before .before .before .before .before .before .before .before .before .before .pre .1 .0 .1) (c .before .before .before .before .before .before .before .ranks .ensures) (c .before .before .before .before .before .before .before .before .moduli .ensures) (c .before .before .before .before .loop-test .taken) (c .before .before .before .before .before .loop .inv .0) (c .wide .ensures) (c .before .row-count .ensures))
-
-narrow-requires : tie.Need-narrow-requires Inv-loop μ-loop
-narrow-requires c κs = omega (arith, c .before .before .before .before .loop-test .taken, c .before .before .before .before .before .before .before .before .before .before .before .before .before .before .pre .0 .held .room .made)
-
-slice-aggregate-gate-rows : tie.Need-slice-aggregate-gate-rows Inv-loop μ-loop
-slice-aggregate-gate-rows c = sym (ranks-long (c .before .before .before .before .before .before .before .before .before .before .before .before .before .before .before .before .pre .0) (c .before .before .before .before .before .before .before .before .before .ranks .ensures))
-
-slice-aggregate-gate-rows-2 : tie.Need-slice-aggregate-gate-rows-2 Inv-loop μ-loop
-slice-aggregate-gate-rows-2 c = sym (moduli-long (c .before .before .before .before .before .before .before .before .before .before .before .before .before .before .before .before .before .pre .0) (c .before .before .before .before .before .before .before .before .before .before .before .before .before .before .before .before .before .pre .1 .0 .0) (c .before .before .before .before .before .before .before .before .before .before .before .before .before .before .before .before .before .pre .1 .0 .1) (c .before .before .before .before .before .before .before .before .before .before .ranks .ensures) (c .before .before .before .before .before .before .before .before .before .before .before .moduli .ensures))
-
-sub-gate-rows : tie.Need-sub-gate-rows Inv-loop μ-loop
-sub-gate-rows c = omega arith
-
-part-gate-rows-start : tie.Need-part-gate-rows-start Inv-loop μ-loop
-part-gate-rows-start c = omega arith
-
-part-gate-rows-end : tie.Need-part-gate-rows-end Inv-loop μ-loop
-part-gate-rows-end c = omega (arith, steps-fits (c .before .before .before .before .before .before .before .before .loop .inv .1) (c .before .before .before .before .before .before .before .loop-test .taken), turn-size (c .before .before .before .before .before .before .before .before .before .before .before .before .before .before .before .before .before .pre .0) (c .before .before .before .before .before .before .before .before .before .before .before .before .before .before .before .before .before .pre .1 .0 .0) (c .before .before .before .before .before .before .before .before .before .before .before .before .before .before .before .before .before .pre .1 .0 .1) (c .before .before .before .before .before .before .before .before .before .before .ranks .ensures) (c .before .before .before .before .before .before .before .before .before .before .before .moduli .ensures) (c .before .before .before .before .before .before .before .loop-test .taken) (c .before .before .before .before .before .before .before .before .loop .inv .0) (c .before .before .before .wide .ensures) (c .before .before .before .before .row-count .ensures))
-
-gate-rows-requires : tie.Need-gate-rows-requires Inv-loop μ-loop
-gate-rows-requires c κs =
-    let t = turn-size (c .before .before .before .before .before .before .before .before .before .before .before .before .before .before .before .before .before .before .pre .0) (c .before .before .before .before .before .before .before .before .before .before .before .before .before .before .before .before .before .before .pre .1 .0 .0) (c .before .before .before .before .before .before .before .before .before .before .before .before .before .before .before .before .before .before .pre .1 .0 .1) (c .before .before .before .before .before .before .before .before .before .before .before .ranks .ensures) (c .before .before .before .before .before .before .before .before .before .before .before .before .moduli .ensures) (c .before .before .before .before .before .before .before .before .loop-test .taken) (c .before .before .before .before .before .before .before .before .before .loop .inv .0) (c .before .before .before .before .wide .ensures) (c .before .before .before .before .before .row-count .ensures) in
-    turn-ready (c .before .before .before .before .before .before .before .before .before .before .before .before .before .before .before .before .before .before .pre .0) (c .before .before .before .before .before .before .before .before .before .before .before .before .before .before .before .before .before .before .pre .1 .0 .0) (c .before .before .before .before .before .before .before .before .before .before .before .before .before .before .before .before .before .before .pre .1 .0 .1) (c .before .before .before .before .before .before .before .before .before .before .before .ranks .ensures) (c .before .before .before .before .before .before .before .before .before .before .before .before .moduli .ensures) (c .before .before .before .before .before .before .before .before .loop-test .taken) (c .before .before .before .before .before .before .before .before .before .loop .inv .0) (c .before .before .before .before .wide .ensures) (c .before .before .before .before .before .row-count .ensures)
-    (steps-long (c .before .before .before .before .before .before .before .before .before .loop .inv .1) (c .before .before .before .before .before .before .before .before .loop-test .taken) (omega (arith, t)))
-
-record-size-requires : tie.Need-record-size-requires Inv-loop μ-loop
-record-size-requires c κs = c .before .before .before .before .before .before .before .before .before .before .before .before .before .before .before .before .before .before .before .before .before .pre .0 .sizes .short
-
-add-at : tie.Need-add-at Inv-loop μ-loop
-add-at c = omega (arith, cursor-fits (c .before .before .before .before .before .before .before .before .before .before .before .before .before .before .before .before .before .before .before .before .before .before .pre .0) (c .before .before .before .before .before .before .before .before .before .before .before .before .loop-test .taken) (c .before .before .before .before .before .before .before .before .before .before .before .before .before .loop .inv .0) (c .record-size .ensures), c .before .before .before .before .before .before .before .before .before .before .before .before .before .before .before .before .before .before .before .before .before .before .fits)
-
-add-w : tie.Need-add-w Inv-loop μ-loop
-add-w c = omega (arith, c .before .before .before .before .before .before .before .before .before .before .before .before .loop-test .taken, c .before .before .before .before .before .before .before .before .before .before .before .before .before .before .before .before .before .before .before .before .before .before .pre .0 .held .room .made)
-
-loop-less : tie.Need-loop-less Inv-loop μ-loop
-loop-less c = omega (arith, c .before .before .before .before .before .before .before .before .before .before .before .before .loop-test .taken)
-
-loop-again : tie.Need-loop-again Inv-loop μ-loop
-loop-again c =
-    let t = turn-size (c .before .before .before .before .before .before .before .before .before .before .before .before .before .before .before .before .before .before .before .before .before .before .pre .0) (c .before .before .before .before .before .before .before .before .before .before .before .before .before .before .before .before .before .before .before .before .before .before .pre .1 .0 .0) (c .before .before .before .before .before .before .before .before .before .before .before .before .before .before .before .before .before .before .before .before .before .before .pre .1 .0 .1) (c .before .before .before .before .before .before .before .before .before .before .before .before .before .before .before .ranks .ensures) (c .before .before .before .before .before .before .before .before .before .before .before .before .before .before .before .before .moduli .ensures) (c .before .before .before .before .before .before .before .before .before .before .before .before .loop-test .taken) (c .before .before .before .before .before .before .before .before .before .before .before .before .before .loop .inv .0) (c .before .before .before .before .before .before .before .before .wide .ensures) (c .before .before .before .before .before .before .before .before .before .row-count .ensures) in (
-      cursor-next (c .before .before .before .before .before .before .before .before .before .before .before .before .before .before .before .before .before .before .before .before .before .before .pre .0) (c .before .before .before .before .before .before .before .before .before .before .before .before .loop-test .taken) (c .before .before .before .before .before .before .before .before .before .before .before .before .before .loop .inv .0) (c .record-size .ensures),
-      steps-call (c .before .before .before .before .before .before .before .before .before .before .before .before .before .loop .inv .1) (c .before .before .before .before .before .before .before .before .before .before .before .before .loop-test .taken) (omega (arith, t)) (c .before .before .before .gate-rows .kept .1 .1 .1 .1 .1 .1 .1 .1 .1 .1 .1 .1 .0)
-          (turn-rows (c .before .before .before .before .before .before .before .before .before .before .before .before .before .before .before .before .before .before .before .before .before .before .pre .0) (c .before .before .before .before .before .before .before .before .before .before .before .before .before .before .before .before .before .before .before .before .before .before .pre .1 .0 .0) (c .before .before .before .before .before .before .before .before .before .before .before .before .before .before .before .before .before .before .before .before .before .before .pre .1 .0 .1) (c .before .before .before .before .before .before .before .before .before .before .before .before .before .before .before .ranks .ensures) (c .before .before .before .before .before .before .before .before .before .before .before .before .before .before .before .before .moduli .ensures) (c .before .before .before .before .before .before .before .before .before .before .before .before .loop-test .taken) (c .before .before .before .before .before .before .before .before .before .before .before .before .before .loop .inv .0) (c .before .before .before .before .before .before .before .before .wide .ensures) (c .before .before .before .before .before .before .before .before .before .row-count .ensures) (c .before .before .before .before .before .before .before .narrow .ensures) (c .before .before .before .gate-rows .ensures)),
-    )
-
-same-length : tie.Need-same-length Inv-loop μ-loop
-same-length c = c .before .loop .inv .1 .kept
-
-returns : tie.Need-returns Inv-loop μ-loop
-returns c = pass-done (c .before .before .before .before .before .before .before .before .before .before .pre .0) (c .before .loop .inv .1) (c .loop-test .left) (c .before .before .before .before .before .before .before .before .before .before .pre .1 .1)
-
 pub put-rows-spec : {M : Type 1} → statement M
 put-rows-spec =
     tie.close
     (tie.spec
     Inv-loop
     μ-loop
-    moduli-requires
-    ranks-requires
-    mul-bytes
-    first-record-requires
-    loop-holds
-    mul-wire
-    element-copy-out-wire
-    slice-aggregate-row-count
-    row-count-requires
-    wide-requires
-    mul-to
-    add-to
-    narrow-requires
-    slice-aggregate-gate-rows
-    slice-aggregate-gate-rows-2
-    sub-gate-rows
-    part-gate-rows-start
-    part-gate-rows-end
-    gate-rows-requires
-    record-size-requires
-    add-at
-    add-w
-    loop-less
-    loop-again
-    same-length
-    returns)
+    (λ c κs. c .before .before .before .before .before .pre .0 .held .room)
+    (λ c κs. c .before .before .before .before .before .before .pre .0 .held .room)
+    (λ c. omega (arith, vector-fits (c .before .before .before .before .before .before .before .pre .0 .sizes)))
+    (λ c κs.
+    let start = c .before .before .before .before .before .before .before in
+    (start .pre .0 .held .room, start .pre .0 .sizes .short))
+    (λ c.
+    let start = c .before .before .before .before .before .before .before .before in
+    (c .first-record .ensures, pass-start (start .pre .0) (start .pre .1 .1)))
+    (λ c. omega (arith, c .loop-test .taken, c .before .before .before .before .before .before .before .before .before .before .pre .0 .held .room .made, c .before .before .before .before .before .before .before .before .before .before .pre .0 .held .room .wires))
+    (λ c. omega (arith, c .loop-test .taken, c .before .before .before .before .before .before .before .before .before .before .pre .0 .held .room .made, c .before .before .before .before .before .before .before .before .before .before .pre .0 .held .room .wires))
+    (λ c.
+    let start = c .before .before .before .before .before .before .before .before .before .before .before .before in
+    sym (moduli-long (start .pre .0) (start .pre .1 .0 .0) (start .pre .1 .0 .1) (c .before .before .before .before .before .ranks .ensures) (c .before .before .before .before .before .before .moduli .ensures)))
+    (λ c κs. tt)
+    (λ c κs. tt)
+    (λ c. omega (arith, count-fits {x = c .wide .result} (c .before .before .before .before .before .before .before .before .before .before .before .before .before .before .pre .0 .sizes) (omega (arith, c .wide .ensures, c .before .row-count .ensures .most))))
+    (λ c. omega (arith, steps-fits (c .before .before .before .before .before .loop .inv .1) (c .before .before .before .before .loop-test .taken), turn-size (c .before .before .before .before .before .before .before .before .before .before .before .before .before .before .pre .0) (c .before .before .before .before .before .before .before .before .before .before .before .before .before .before .pre .1 .0 .0) (c .before .before .before .before .before .before .before .before .before .before .before .before .before .before .pre .1 .0 .1) (c .before .before .before .before .before .before .before .ranks .ensures) (c .before .before .before .before .before .before .before .before .moduli .ensures) (c .before .before .before .before .loop-test .taken) (c .before .before .before .before .before .loop .inv .0) (c .wide .ensures) (c .before .row-count .ensures)))
+    (λ c κs. omega (arith, c .before .before .before .before .loop-test .taken, c .before .before .before .before .before .before .before .before .before .before .before .before .before .before .pre .0 .held .room .made))
+    (λ c. sym (ranks-long (c .before .before .before .before .before .before .before .before .before .before .before .before .before .before .before .before .pre .0) (c .before .before .before .before .before .before .before .before .before .ranks .ensures)))
+    (λ c.
+    let start = c .before .before .before .before .before .before .before .before .before .before .before .before .before .before .before .before .before in
+    sym (moduli-long (start .pre .0) (start .pre .1 .0 .0) (start .pre .1 .0 .1) (c .before .before .before .before .before .before .before .before .before .before .ranks .ensures) (c .before .before .before .before .before .before .before .before .before .before .before .moduli .ensures)))
+    (λ c. omega arith)
+    (λ c. omega arith)
+    (λ c. omega (arith, steps-fits (c .before .before .before .before .before .before .before .before .loop .inv .1) (c .before .before .before .before .before .before .before .loop-test .taken), turn-size (c .before .before .before .before .before .before .before .before .before .before .before .before .before .before .before .before .before .pre .0) (c .before .before .before .before .before .before .before .before .before .before .before .before .before .before .before .before .before .pre .1 .0 .0) (c .before .before .before .before .before .before .before .before .before .before .before .before .before .before .before .before .before .pre .1 .0 .1) (c .before .before .before .before .before .before .before .before .before .before .ranks .ensures) (c .before .before .before .before .before .before .before .before .before .before .before .moduli .ensures) (c .before .before .before .before .before .before .before .loop-test .taken) (c .before .before .before .before .before .before .before .before .loop .inv .0) (c .before .before .before .wide .ensures) (c .before .before .before .before .row-count .ensures)))
+    (λ c κs.
+    let start = c .before .before .before .before .before .before .before .before .before .before .before .before .before .before .before .before .before .before in
+    let turn = c .before .before .before .before .before .before .before .before in
+    let t = turn-size (start .pre .0) (start .pre .1 .0 .0) (start .pre .1 .0 .1) (c .before .before .before .before .before .before .before .before .before .before .before .ranks .ensures) (c .before .before .before .before .before .before .before .before .before .before .before .before .moduli .ensures) (turn .loop-test .taken) (turn .before .loop .inv .0) (c .before .before .before .before .wide .ensures) (c .before .before .before .before .before .row-count .ensures) in
+    turn-ready (start .pre .0) (start .pre .1 .0 .0) (start .pre .1 .0 .1) (c .before .before .before .before .before .before .before .before .before .before .before .ranks .ensures) (c .before .before .before .before .before .before .before .before .before .before .before .before .moduli .ensures) (turn .loop-test .taken) (turn .before .loop .inv .0) (c .before .before .before .before .wide .ensures) (c .before .before .before .before .before .row-count .ensures)
+    (steps-long (turn .before .loop .inv .1) (turn .loop-test .taken) (omega (arith, t))))
+    (λ c κs. c .before .before .before .before .before .before .before .before .before .before .before .before .before .before .before .before .before .before .before .before .before .pre .0 .sizes .short)
+    (λ c. omega (arith, cursor-fits (c .before .before .before .before .before .before .before .before .before .before .before .before .before .before .before .before .before .before .before .before .before .before .pre .0 .held) (c .before .before .before .before .before .before .before .before .before .before .before .before .before .before .before .before .before .before .before .before .before .before .args .k) (c .before .before .before .before .before .before .before .before .before .before .before .before .loop-test .taken) (c .before .before .before .before .before .before .before .before .before .before .before .before .before .loop .inv .0) (c .before .before .before .before .before .before .before .before .before .before .before .before .before .before .before .before .before .before .before .before .before .before .pre .0 .each) (c .record-size .ensures), c .before .before .before .before .before .before .before .before .before .before .before .before .before .before .before .before .before .before .before .before .before .before .fits))
+    (λ c. omega (arith, c .before .before .before .before .before .before .before .before .before .before .before .before .loop-test .taken, c .before .before .before .before .before .before .before .before .before .before .before .before .before .before .before .before .before .before .before .before .before .before .pre .0 .held .room .made))
+    (λ c. omega (arith, c .before .before .before .before .before .before .before .before .before .before .before .before .loop-test .taken))
+    (λ c.
+    let start = c .before .before .before .before .before .before .before .before .before .before .before .before .before .before .before .before .before .before .before .before .before .before in
+    let turn = c .before .before .before .before .before .before .before .before .before .before .before .before in
+    let t = turn-size (start .pre .0) (start .pre .1 .0 .0) (start .pre .1 .0 .1) (c .before .before .before .before .before .before .before .before .before .before .before .before .before .before .before .ranks .ensures) (c .before .before .before .before .before .before .before .before .before .before .before .before .before .before .before .before .moduli .ensures) (turn .loop-test .taken) (turn .before .loop .inv .0) (c .before .before .before .before .before .before .before .before .wide .ensures) (c .before .before .before .before .before .before .before .before .before .row-count .ensures) in (
+      cursor-next (start .pre .0 .held) (start .args .k) (turn .loop-test .taken) (turn .before .loop .inv .0) (c .record-size .ensures),
+      steps-call (turn .before .loop .inv .1) (turn .loop-test .taken) (omega (arith, t)) (c .before .before .before .gate-rows .kept .1 .1 .1 .1 .1 .1 .1 .1 .1 .1 .1 .1 .0)
+          (turn-rows (start .pre .0) (start .pre .1 .0 .0) (start .pre .1 .0 .1) (c .before .before .before .before .before .before .before .before .before .before .before .before .before .before .before .ranks .ensures) (c .before .before .before .before .before .before .before .before .before .before .before .before .before .before .before .before .moduli .ensures) (turn .loop-test .taken) (turn .before .loop .inv .0) (c .before .before .before .before .before .before .before .before .wide .ensures) (c .before .before .before .before .before .before .before .before .before .row-count .ensures) (c .before .before .before .before .before .before .before .narrow .ensures) (c .before .before .before .gate-rows .ensures)),
+    ))
+    (λ c. c .before .loop .inv .1 .kept)
+    (λ c.
+    let start = c .before .before .before .before .before .before .before .before .before .before in
+    pass-done (start .pre .0) (c .before .loop .inv .1) (c .loop-test .left) (start .pre .1 .1)))

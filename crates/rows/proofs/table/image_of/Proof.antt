@@ -1,6 +1,5 @@
 -- `rows::table::image_of` meets its contract: the byte that is read is the image.
 -- Assumes nothing.
-use native.Mathlib.Omega.{arith}
 use Prim.Native.Nat.{_+_, _*_}
 use Rattle.plain.proofs.Arms.{image-byte}
 use borrow.Author.Needs.{needs}

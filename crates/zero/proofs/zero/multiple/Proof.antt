@@ -6,25 +6,15 @@ use Rattle.residue.specs.Vector.{mulV}
 use Rattle.zero.proofs.zero.multiple.Statement.{statement}
 use Rattle.zero.proofs.zero.multiple.Tie as tie
 
-cast-nth-piece : tie.Need-cast-nth-piece
-cast-nth-piece c = search needs
-
-nth-piece-requires : tie.Need-nth-piece-requires
-nth-piece-requires c κs = search needs
-
-copy-requires : tie.Need-copy-requires
-copy-requires c κs = search needs
-
-scale-requires : tie.Need-scale-requires
-scale-requires c κs = search needs
-
-same-length : tie.Need-same-length
-same-length c = search needs
-
-returns : tie.Need-returns
-returns c = c .before .before .scale .ensures ∙ ap (mulV (c .before .before .before .before .before .before .before .before .before .before .before .before .args .p) (c .before .before .before .before .before .before .before .before .before .before .before .before .args .gate .constant)) (c .before .before .before .before .before .before .copy .ensures ∙ c .before .before .before .before .before .before .before .before .nth-piece .ensures .0)
-
 pub multiple-spec : {M : Type 1} → statement M
 multiple-spec =
     tie.close
-    (tie.spec cast-nth-piece nth-piece-requires copy-requires scale-requires same-length returns)
+    (tie.spec
+    (λ c. search needs)
+    (λ c κs. search needs)
+    (λ c κs. search needs)
+    (λ c κs. search needs)
+    (λ c. search needs)
+    (λ c.
+    let start = c .before .before .before .before .before .before .before .before .before .before .before .before in
+    c .before .before .scale .ensures ∙ ap (mulV (start .args .p) (start .args .gate .constant)) (c .before .before .before .before .before .before .copy .ensures ∙ c .before .before .before .before .before .before .before .before .nth-piece .ensures .0)))

@@ -8,8 +8,8 @@ use Rattle.circuit.specs.Held.{wiresIn}
 use Rattle.scheme.specs.Contribution.{recordAt}
 use Rattle.scheme.specs.Zero.{zeroKey}
 use Rattle.zero.specs.Ready.{drawnIn}
-use Rattle.zero.proofs.Sums.{small-product}
-use Rattle.zero.proofs.Cursor.{cursor-next, cursor-fits}
+use Rattle.contribution.proofs.Sizes.{vector-fits}
+use Rattle.contribution.proofs.Cursor.{cursor-next, cursor-fits}
 use Rattle.zero.proofs.Turns.{keys-start, keys-asked, keys-step, keys-done}
 use Rattle.zero.proofs.zero.zero_keys.Statement.{statement}
 use Rattle.zero.proofs.zero.zero_keys.Tie as tie
@@ -20,65 +20,32 @@ Inv-loop file n k size contributions keys₀ circuit m made at₀ to₀ w₀ key
 abbrev μ-loop : tie.MeasureT-loop
 μ-loop file n k size contributions keys₀ circuit m made at₀ to₀ w₀ keys at to w = circuit .made - w
 
-mul-m : tie.Need-mul-m Inv-loop μ-loop
-mul-m c = omega (arith, small-product (c .before .before .before .args .n) (c .before .before .before .args .k) 8 128 (c .before .before .before .pre .0 .sizes .parties) (c .before .before .before .pre .0 .sizes .short))
-
-first-record-requires : tie.Need-first-record-requires Inv-loop μ-loop
-first-record-requires c κs = (c .before .before .before .pre .0 .held .room, c .before .before .before .pre .0 .sizes .short)
-
-loop-holds : tie.Need-loop-holds Inv-loop μ-loop
-loop-holds c = (c .first-record .ensures, keys-start (c .before .before .before .before .pre .0) (c .before .before .before .before .pre .1))
-
-mul-wire : tie.Need-mul-wire Inv-loop μ-loop
-mul-wire c = omega (arith, c .before .before .before .before .before .before .pre .0 .held .room .made, c .before .before .before .before .before .before .pre .0 .held .room .wires, c .loop-test .taken)
-
-element-copy-out-wire : tie.Need-element-copy-out-wire Inv-loop μ-loop
-element-copy-out-wire c = omega (arith, c .before .before .before .before .before .before .pre .0 .held .room .made, c .before .before .before .before .before .before .pre .0 .held .room .wires, c .loop-test .taken)
-
-put-wire-requires : tie.Need-put-wire-requires Inv-loop μ-loop
-put-wire-requires c κs = (keys-asked (c .before .before .before .before .before .before .before .before .pre .0) (c .before .before .loop-test .taken) (c .before .before .before .loop .inv .0) (c .before .before .before .loop .inv .1), (small-product (c .before .before .before .before .before .before .before .before .args .n) (c .before .before .before .before .before .before .before .before .args .k) 8 128 (c .before .before .before .before .before .before .before .before .pre .0 .sizes .parties) (c .before .before .before .before .before .before .before .before .pre .0 .sizes .short), steps-fits (c .before .before .before .loop .inv .1) (c .before .before .loop-test .taken)))
-
-record-size-requires : tie.Need-record-size-requires Inv-loop μ-loop
-record-size-requires c κs = c .before .before .before .before .before .before .before .before .before .before .before .pre .0 .sizes .short
-
-add-at : tie.Need-add-at Inv-loop μ-loop
-add-at c = omega (arith, cursor-fits (c .before .before .before .before .before .before .before .before .before .before .before .before .pre .0) (c .before .before .before .before .before .before .loop-test .taken) (c .before .before .before .before .before .before .before .loop .inv .0) (c .record-size .ensures), c .before .before .before .before .before .before .before .before .before .before .before .before .fits .size .fits)
-
-add-to : tie.Need-add-to Inv-loop μ-loop
-add-to c = omega (arith, steps-fits (c .before .before .before .before .before .before .before .loop .inv .1) (c .before .before .before .before .before .before .loop-test .taken))
-
-add-w : tie.Need-add-w Inv-loop μ-loop
-add-w c = omega (arith, c .before .before .before .before .before .before .before .before .before .before .before .before .pre .0 .held .room .made, c .before .before .before .before .before .before .loop-test .taken)
-
-loop-less : tie.Need-loop-less Inv-loop μ-loop
-loop-less c = omega (arith, c .before .before .before .before .before .before .loop-test .taken)
-
-loop-again : tie.Need-loop-again Inv-loop μ-loop
-loop-again c = (cursor-next (c .before .before .before .before .before .before .before .before .before .before .before .before .pre .0) (c .before .before .before .before .before .before .loop-test .taken) (c .before .before .before .before .before .before .before .loop .inv .0) (c .record-size .ensures), keys-step (c .before .before .before .before .before .before .before .before .before .before .before .before .pre .0) (c .before .before .before .before .before .before .loop-test .taken) (c .before .before .before .before .before .before .before .loop .inv .0) (c .before .before .before .before .before .before .before .loop .inv .1) refl (c .before .before .before .put-wire .ensures))
-
-same-length : tie.Need-same-length Inv-loop μ-loop
-same-length c = c .before .loop .inv .1 .kept
-
-returns : tie.Need-returns Inv-loop μ-loop
-returns c = keys-done (c .before .before .before .before .before .before .pre .0) (c .before .loop .inv .1) (c .loop-test .left) (c .before .before .before .before .before .before .pre .1)
-
 pub zero-keys-spec : {M : Type 1} → statement M
 zero-keys-spec =
     tie.close
     (tie.spec
     Inv-loop
     μ-loop
-    mul-m
-    first-record-requires
-    loop-holds
-    mul-wire
-    element-copy-out-wire
-    put-wire-requires
-    record-size-requires
-    add-at
-    add-to
-    add-w
-    loop-less
-    loop-again
-    same-length
-    returns)
+    (λ c. omega (arith, vector-fits (c .before .before .before .pre .0 .sizes)))
+    (λ c κs. (c .before .before .before .pre .0 .held .room, c .before .before .before .pre .0 .sizes .short))
+    (λ c.
+    let start = c .before .before .before .before in
+    (c .first-record .ensures, keys-start (start .pre .0) (start .pre .1)))
+    (λ c. omega (arith, c .before .before .before .before .before .before .pre .0 .held .room .made, c .before .before .before .before .before .before .pre .0 .held .room .wires, c .loop-test .taken))
+    (λ c. omega (arith, c .before .before .before .before .before .before .pre .0 .held .room .made, c .before .before .before .before .before .before .pre .0 .held .room .wires, c .loop-test .taken))
+    (λ c κs.
+    let start = c .before .before .before .before .before .before .before .before in
+    (keys-asked (start .pre .0) (c .before .before .loop-test .taken) (c .before .before .before .loop .inv .0) (c .before .before .before .loop .inv .1), (vector-fits (start .pre .0 .sizes), steps-fits (c .before .before .before .loop .inv .1) (c .before .before .loop-test .taken))))
+    (λ c κs. c .before .before .before .before .before .before .before .before .before .before .before .pre .0 .sizes .short)
+    (λ c. omega (arith, cursor-fits (c .before .before .before .before .before .before .before .before .before .before .before .before .pre .0 .held) (c .before .before .before .before .before .before .before .before .before .before .before .before .args .k) (c .before .before .before .before .before .before .loop-test .taken) (c .before .before .before .before .before .before .before .loop .inv .0) (c .before .before .before .before .before .before .before .before .before .before .before .before .pre .0 .each) (c .record-size .ensures), c .before .before .before .before .before .before .before .before .before .before .before .before .fits .size .fits))
+    (λ c. omega (arith, steps-fits (c .before .before .before .before .before .before .before .loop .inv .1) (c .before .before .before .before .before .before .loop-test .taken)))
+    (λ c. omega (arith, c .before .before .before .before .before .before .before .before .before .before .before .before .pre .0 .held .room .made, c .before .before .before .before .before .before .loop-test .taken))
+    (λ c. omega (arith, c .before .before .before .before .before .before .loop-test .taken))
+    (λ c.
+    let start = c .before .before .before .before .before .before .before .before .before .before .before .before in
+    let turn = c .before .before .before .before .before .before in
+    (cursor-next (start .pre .0 .held) (start .args .k) (turn .loop-test .taken) (turn .before .loop .inv .0) (c .record-size .ensures), keys-step (start .pre .0) (turn .loop-test .taken) (turn .before .loop .inv .0) (turn .before .loop .inv .1) refl (c .before .before .before .put-wire .ensures)))
+    (λ c. c .before .loop .inv .1 .kept)
+    (λ c.
+    let start = c .before .before .before .before .before .before in
+    keys-done (start .pre .0) (c .before .loop .inv .1) (c .loop-test .left) (start .pre .1)))
