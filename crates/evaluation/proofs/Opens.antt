@@ -25,7 +25,7 @@ use Rattle.pads.specs.Pad.{shakePad, padRow}
 use Rattle.scheme.specs.Contribution.{recordAt, keyAt, offsetAt, contributionSize}
 use Rattle.scheme.specs.Draw.{Draw, drawn}
 use Rattle.scheme.specs.Zero.{freely, freelyV}
-use Rattle.scheme.specs.Rows.{under}
+use Rattle.pads.specs.Moved.{placed}
 use Rattle.scheme.specs.Opening.{Opened, unpadded, rowAt, ownKey, found, searched, openInput, openFree, openTable, openProduct, chosen, corrector, openChoice, openBy}
 use Rattle.scheme.proofs.Contributed.{nth-whole}
 use Rattle.scheme.proofs.Bounds.{positive}
@@ -114,7 +114,7 @@ module _ (n K party : ℕ) (wires : List Wire) (contribution externals keys rows
       ∙ ap (unpadded shakePad n K rows p (placed p w 1) (b .keys)) (omega arith)))
       ∙ searched-is _
 
-  chosen-is : (t : Bool) (xs ys : List ℕ) → chooserKeys t p xs ys ≡ chosen shakePad n K party wires own externals keys rows t p xs ys
+  chosen-is : (bit : ℕ) (xs ys : List ℕ) → bit < 2 → chooserKeys (eqb bit 0) p xs ys ≡ chosen bit p xs ys
   unfolding chooserKeys chosen
   chosen-is zero xs ys h = refl
   chosen-is (suc zero) xs ys h = refl
