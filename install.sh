@@ -5,9 +5,10 @@
 #   PREFIX/include/lupiknam.h            their header
 #   PREFIX/lib/pkgconfig/lupiknam.pc     for pkg-config
 #   PREFIX/bin/price_sheet               the price list of a circuit
+#   PREFIX/bin/demo_round                a round of a circuit on one machine
 #
-# and PREFIX/bin/demo_round where host/demo_round.c stands. Files go below DESTDIR where it is set. Where LUPIKNAM_LIB names a folder with
-# libengine.a, and LUPIKNAM_BIN one with price_sheet, these are taken and nothing is proved; else `rt` is needed.
+# Files go below DESTDIR where it is set. Where LUPIKNAM_LIB names a folder with libengine.a, and LUPIKNAM_BIN one with price_sheet, these
+# are taken and nothing is proved; else `rt` is needed.
 set -eu
 if [ $# -ne 1 ] || [ -z "$1" ]; then
     echo "usage: $0 PREFIX" >&2
@@ -28,6 +29,7 @@ programs=$(absolute "${LUPIKNAM_BIN-}")
 cd "$(dirname "${BASH_SOURCE[0]}")"
 
 if [ -z "$library" ]; then
+    rt check engine
     rt staticlib engine
     library=target/staticlib
 fi
@@ -40,9 +42,7 @@ install -d "$to/lib/pkgconfig" "$to/include" "$to/bin"
 install -m 644 "$library/libengine.a" "$to/lib/liblupiknam.a"
 install -m 644 include/lupiknam.h "$to/include/lupiknam.h"
 install -m 755 "$programs/price_sheet" "$to/bin/price_sheet"
-if [ -f host/demo_round.c ]; then
-    "${CC:-cc}" -std=c11 -O2 -Iinclude host/demo_round.c "$library/libengine.a" -o "$to/bin/demo_round"
-fi
+"${CC:-cc}" -std=c11 -O2 -Iinclude host/demo_round.c "$library/libengine.a" -o "$to/bin/demo_round"
 cat >"$to/lib/pkgconfig/lupiknam.pc" <<EOF
 prefix=$prefix
 libdir=\${prefix}/lib
