@@ -9,4 +9,5 @@ mod parties;
 mod stages;
 mod whole;
 
+pub use called::Metered;
 pub use whole::rehearse;
