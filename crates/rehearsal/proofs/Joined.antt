@@ -4,8 +4,9 @@ use mathlib.Core.Path.{_≡_, sym, ap, subst, _∙_}
 use mathlib.Core.List.{List}
 use Prim.Native.Nat.{ℕ, _*_}
 use Rattle.words.specs.declared.gate.Wire.{Wire}
-use Rattle.rehearsal.specs.Hosts.{keysByInput}
-use Rattle.rehearsal.specs.Stages.{Prepared, Keyed, Finished}
+use Rattle.rehearsal.specs.All.{Says, allOf}
+use Rattle.rehearsal.specs.Hosts.{ownChecks, gathered, keysByInput}
+use Rattle.rehearsal.specs.Stages.{Keyed, Finished}
 
 -- ---- the stage of the input keys
 
@@ -17,15 +18,15 @@ pub keys-by : (n inputs each : ℕ) (mine : List ℕ) {K long : ℕ} {keys : Lis
     → keys ≡ keysByInput n K inputs each mine
 keys-by n inputs each mine l e = e ∙ ap (λ (x : ℕ). keysByInput n x inputs each mine) l
 
--- ---- sizes by another name
+-- ---- the stage of garbling and the external values, with the wires by another name
 
-pub prepared-as : {file : List ℕ} {wires wires′ : List Wire} {n K : ℕ} {contributions values : List ℕ} {meter : ℕ} {rows₀ inputs₀ outputs₀ externals₀ : List ℕ}
-    {answer : ℕ} {raised : ℕ} {rows inputs outputs externals : List ℕ}
-    → wires ≡ wires′
-    → Prepared file wires n K contributions values meter rows₀ inputs₀ outputs₀ externals₀ answer raised rows inputs outputs externals
-    → Prepared file wires′ n K contributions values meter rows₀ inputs₀ outputs₀ externals₀ answer raised rows inputs outputs externals
-prepared-as {file} {wires} {wires′} {n} {K} {contributions} {values} {meter} {rows₀} {inputs₀} {outputs₀} {externals₀} {answer} {raised} {rows} {inputs} {outputs} {externals} e p =
-    subst (λ (ws : List Wire). Prepared file ws n K contributions values meter rows₀ inputs₀ outputs₀ externals₀ answer raised rows inputs outputs externals) e p
+pub masked-as : (file : List ℕ) {wires wires′ : List Wire} (n : ℕ) (values masks before : List ℕ) {after : List ℕ} {number : ℕ} → wires ≡ wires′
+    → Says (allOf n (ownChecks file n wires values masks)) number × (after ≡ gathered file n wires values masks before n)
+    → Says (allOf n (ownChecks file n wires′ values masks)) number × (after ≡ gathered file n wires′ values masks before n)
+masked-as file {wires} {wires′} n values masks before {after} {number} e =
+    subst (λ (ws : List Wire). Says (allOf n (ownChecks file n ws values masks)) number × (after ≡ gathered file n ws values masks before n)) e
+
+-- ---- sizes by another name
 
 pub keyed-as : {file : List ℕ} {n K : ℕ} {contributions : List ℕ} {size size′ : ℕ} {externals : List ℕ} {inputs inputs′ each each′ : ℕ} {mine₀ : List ℕ}
     {answer : ℕ} {mine keys : List ℕ}

@@ -51,7 +51,7 @@ module _ {file : List ℕ} {n K : ℕ} {contributions values : List ℕ} {meter 
     {began handed ended : ℕ} {raised : ℕ} {rows inputs outputs externals mine keys wkeys wexternals results : List ℕ}
     (conditions : Conditions file n K contributions values meter (lentOf file n K rows₀ inputs₀ outputs₀ mine₀ wkeys₀ wexternals₀ results₀ figures₀))
     (whole : Whole file n K externals₀ mine₀ keys₀ wkeys₀ wexternals₀ results₀)
-    (prepared : Prepared file (readFile file .wires) n K contributions values meter rows₀ inputs₀ outputs₀ externals₀ began raised rows inputs outputs externals)
+    (prepared : Prepared file n K contributions values meter rows₀ inputs₀ outputs₀ externals₀ began raised rows inputs outputs externals)
     (keyed : Keyed file n K contributions (contributionSize K (readFile file .wires)) externals (inputsIn (readFile file .wires))
     (inputsIn (readFile file .wires) * K) mine₀ handed mine keys)
     (finished : Finished file n K contributions (contributionSize K (readFile file .wires)) externals keys rows outputs (length (readFile file .wires) * (n * K))

@@ -6,21 +6,12 @@ use Prim.Native.Nat.{ℕ, _*_, _≤_}
 use native.Mathlib.Omega.{arith}
 use lib.ListN.{length}
 use Rattle.circuit.specs.declared.Reading.{Reading}
-use Rattle.circuit.specs.Wires.{inputsIn}
 use Rattle.circuit.specs.File.{readFile}
 use Rattle.circuit.specs.Held.{wiresIn, Holds}
 use Rattle.session.proofs.Circuits.{held-of, inputs-made}
 use Rattle.scheme.specs.Contribution.{contributionSize}
 use Rattle.contribution.proofs.Sizes.{times-most}
-use Rattle.rehearsal.specs.Rehearsed.{Whole}
-
-pub record Sized (file : List ℕ) (n K own made given size each wide : ℕ) : Type 0 where
-  pub ownIs : own ≡ inputsIn (readFile file .wires)
-  pub madeIs : made ≡ length (readFile file .wires)
-  pub givenIs : given ≡ length (readFile file .outputs)
-  pub sizeIs : size ≡ contributionSize K (readFile file .wires)
-  pub eachIs : each ≡ inputsIn (readFile file .wires) * K
-  pub wideIs : wide ≡ length (readFile file .wires) * (n * K)
+use Rattle.rehearsal.specs.Rehearsed.{Whole, Sized}
 
 module _ {reading : Reading} (file : List ℕ) {n K parties long : ℕ} (h : Holds reading (readFile file)) (p : parties ≡ n) (l : long ≡ K) where
   pub sized : {size : ℕ} → size ≡ contributionSize long (wiresIn (reading .circuit))

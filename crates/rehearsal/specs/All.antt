@@ -16,6 +16,7 @@ unfoldable pub numberAt : Checked → ℕ
 numberAt passed = 0
 numberAt (refused reason place) = numberOf reason
 
+-- a number answered after such checks
 pub record Says (checks : Checked) (number : ℕ) : Type 0 where
   pub is : number ≡ numberAt checks
 
@@ -23,7 +24,7 @@ pub record Says (checks : Checked) (number : ℕ) : Type 0 where
 abbrev pub followed : ℕ → ℕ → ℕ
 followed first next = cond (eqb first 0) next first
 
--- those of party 0, then of party 1, and so on, n of them
+-- the checks of party 0, then of party 1, and so on, n of them
 unfoldable pub allOf : ℕ → (ℕ → Checked) → Checked
 allOf zero checks = passed
 allOf (suc n) checks = andThen (allOf n checks) (checks n)

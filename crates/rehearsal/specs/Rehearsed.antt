@@ -10,6 +10,7 @@ use Rattle.words.specs.declared.gate.Wire.{Wire}
 use Rattle.circuit.specs.Wires.{modulusAt, inputsIn}
 use Rattle.circuit.specs.File.{readFile}
 use Rattle.counts.specs.Counts.{rowsIn}
+use Rattle.scheme.specs.Contribution.{contributionSize}
 use Rattle.scheme.specs.Draw.{drawn}
 use Rattle.scheme.specs.Rows.{garbledRows, inputMasks, outputMasks}
 use Rattle.meter.specs.Meter.{raised}
@@ -40,6 +41,15 @@ module _ (file : List ℕ) (n K : ℕ) where
         results = λ party. nthPiece results (length outputs) party;
         plain = figures;
       }
+
+  -- how many inputs, wires and outputs there are; and how many bytes a party's contribution, its input keys, and its keys of all wires have
+  pub record Sized (own made given size each wide : ℕ) : Type 0 where
+    pub ownIs : own ≡ inputsIn wires
+    pub madeIs : made ≡ length wires
+    pub givenIs : given ≡ length outputs
+    pub sizeIs : size ≡ contributionSize K wires
+    pub eachIs : each ≡ inputsIn wires * K
+    pub wideIs : wide ≡ length wires * (n * K)
 
   -- the lengths of what holds all parties' parts
   pub record Whole (externals mine keys wkeys wexternals results : List ℕ) : Type 0 where

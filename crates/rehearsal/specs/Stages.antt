@@ -6,7 +6,7 @@ use mathlib.Core.List.{List}
 use Prim.Native.Nat.{ℕ}
 use Rattle.lists.specs.Blocks.{nthPiece}
 use Rattle.checks.specs.Checked.{andThen}
-use Rattle.words.specs.declared.gate.Wire.{Wire}
+use Rattle.circuit.specs.File.{readFile}
 use Rattle.pads.specs.Pad.{shakePad}
 use Rattle.round.specs.Garble.{garbleChecked, garbleRows, garbleInputMasks, garbleOutputMasks, garbleMeter}
 use Rattle.round.specs.InputKeys.{inputKeysChecked, inputKeysAfter}
@@ -16,14 +16,14 @@ use Rattle.rehearsal.specs.All.{Says, allOf, Parts}
 use Rattle.rehearsal.specs.Hosts.{ownChecks, gathered, keysByInput}
 
 -- garbling, then at each party the external values of its own inputs
-pub record Prepared (file : List ℕ) (wires : List Wire) (n K : ℕ) (contributions values : List ℕ) (meter : ℕ)
+pub record Prepared (file : List ℕ) (n K : ℕ) (contributions values : List ℕ) (meter : ℕ)
     (rows₀ inputs₀ outputs₀ externals₀ : List ℕ) (number : ℕ) (raised : ℕ) (rows inputs outputs externals : List ℕ) : Type 0 where
-  pub met : Says (andThen (garbleChecked file n K contributions rows₀ inputs₀ outputs₀ meter) (allOf n (ownChecks file n wires values inputs))) number
+  pub met : Says (andThen (garbleChecked file n K contributions rows₀ inputs₀ outputs₀ meter) (allOf n (ownChecks file n (readFile file .wires) values inputs))) number
   pub rowsIs : rows ≡ garbleRows shakePad file n K contributions rows₀ inputs₀ outputs₀ meter
   pub inputsIs : inputs ≡ garbleInputMasks file n K contributions rows₀ inputs₀ outputs₀ meter
   pub outputsIs : outputs ≡ garbleOutputMasks file n K contributions rows₀ inputs₀ outputs₀ meter
   pub meterIs : raised ≡ garbleMeter file n K contributions rows₀ inputs₀ outputs₀ meter
-  pub externalsIs : externals ≡ gathered file n wires values inputs externals₀ n
+  pub externalsIs : externals ≡ gathered file n (readFile file .wires) values inputs externals₀ n
 
 -- at each party its input keys, and all of them by input, then party
 pub record Keyed (file : List ℕ) (n K : ℕ) (contributions : List ℕ) (size : ℕ) (externals : List ℕ) (inputs each : ℕ) (mine₀ : List ℕ) (number : ℕ)

@@ -2,7 +2,8 @@
 ghost use mathlib.Core.Path.{_≡_};
 ghost use Prim.Native.Nat.{_*_};
 ghost use lib.ListN.{length};
-ghost use Rattle.circuit.specs.Held.{wiresIn, Held};
+ghost use Rattle.circuit.specs.Wires.{inputsIn};
+ghost use Rattle.circuit.specs.File.{readFile};
 ghost use Rattle.rehearsal.specs.Stages.{Prepared, Keyed, Finished};
 use super::called::Metered;
 use super::called::followed;
@@ -12,13 +13,12 @@ use super::masking::externals_of_all;
 use super::parties::decode_all;
 use super::parties::keys_of_all;
 use super::parties::open_all;
-use circuit::Circuit;
+use circuit::read;
 use exchange::counted;
 
 // Garbling, from all contributions; then at each party the external values of its own inputs, with the masks that garbling wrote.
 pub fn prepare(
     file: &[u8],
-    circuit: Circuit,
     n: u32,
     k: u32,
     contributions: &[u8],
@@ -29,8 +29,8 @@ pub fn prepare(
     externals: &mut [u8],
     meter: u32,
 ) -> Metered
-    requires { ⌜ Held circuit × (length (now externals) ≡ circuit .inputs) ⌝ }
-    ensures { λ r. ⌜ Prepared (now (file .entry)) (wiresIn circuit) n k (now (contributions .entry)) (now (values .entry)) meter (now (rows .entry)) (now (inputs .entry)) (now (outputs .entry)) (now (externals .entry)) (r .number) (r .meter) (now (rows .exit)) (now (inputs .exit)) (now (outputs .exit)) (now (externals .exit)) ⌝ }
+    requires { ⌜ length (now externals) ≡ inputsIn (readFile (now file) .wires) ⌝ }
+    ensures { λ r. ⌜ Prepared (now (file .entry)) n k (now (contributions .entry)) (now (values .entry)) meter (now (rows .entry)) (now (inputs .entry)) (now (outputs .entry)) (now (externals .entry)) (r .number) (r .meter) (now (rows .exit)) (now (inputs .exit)) (now (outputs .exit)) (now (externals .exit)) ⌝ }
 {
     let garbled = garble(
         file,
@@ -42,6 +42,8 @@ pub fn prepare(
         &mut *outputs,
         meter,
     );
+    let reading = read(file);
+    let circuit = reading.circuit;
     let masked = externals_of_all(file, circuit, n, values, &*inputs, &mut *externals);
     let first = garbled.number;
     let number = followed(first, masked);

@@ -4,12 +4,10 @@ ghost use Rattle.rehearsal.specs.Rehearsed.{lentOf, Whole, Rehearsed};
 use super::called::Metered;
 use super::called::followed;
 use super::called::plain;
+use super::memory::sizes_of;
 use super::stages::finish;
 use super::stages::hand_keys;
 use super::stages::prepare;
-use circuit::read;
-use contribution::contribution_size;
-use exchange::counted;
 
 // Under demand 3's conditions every call accepts, each party opens value plus mask on every wire, and decodes the plain circuit's outputs.
 pub fn rehearse(
@@ -34,20 +32,15 @@ pub fn rehearse(
         × Whole (now file) n k (now externals) (now mine) (now keys) (now wkeys) (now wexternals) (now results) ⌝ }
     ensures { λ r. ⌜ Rehearsed (now (file .entry)) n k (now (contributions .entry)) (now (values .entry)) meter (r .number) (r .meter) (now (rows .exit)) (now (inputs .exit)) (now (outputs .exit)) (now (externals .exit)) (now (mine .exit)) (now (keys .exit)) (now (wkeys .exit)) (now (wexternals .exit)) (now (results .exit)) (now (figures .exit)) ⌝ }
 {
-    let reading = read(file);
-    let circuit = reading.circuit;
-    let made = circuit.made;
-    let given = circuit.given;
-    let own = circuit.inputs;
-    let parties = counted(n);
-    let long = counted(k);
-    let size = contribution_size(circuit, long);
-    let each = own * long;
-    let both = parties * long;
-    let wide = made * both;
+    let sizes = sizes_of(file, n, k);
+    let own = sizes.own;
+    let made = sizes.made;
+    let given = sizes.given;
+    let size = sizes.size;
+    let each = sizes.each;
+    let wide = sizes.wide;
     let begun = prepare(
         file,
-        circuit,
         n,
         k,
         contributions,
