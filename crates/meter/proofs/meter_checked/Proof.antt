@@ -10,5 +10,5 @@ meter-checked-spec =
     tie.close
     (tie.spec
     (λ c. search needs)
-    (λ c. space-met (c .before .args .meter) (c .before .args .rows) (omega arith) (c .if1 .taken))
-    (λ c. full-met (c .before .args .meter) (c .before .args .rows) (omega arith) (c .if1 .left)))
+    (λ c. space-met (c .before .args .meter) (c .before .args .rows) (omega arith) (omega (arith, c .if1 .taken)))
+    (λ c. full-met (c .before .args .meter) (c .before .args .rows) (omega arith) (omega (arith, c .if1 .left))))
