@@ -9,75 +9,51 @@ use Rattle.rows.specs.Gate.{chooserRows}
 use Rattle.rows.proofs.choice.chooser.Statement.{statement}
 use Rattle.rows.proofs.choice.chooser.Tie as tie
 
-slice-relend-prefix-put-keyed-row : tie.Need-slice-relend-prefix-put-keyed-row
-slice-relend-prefix-put-keyed-row c =
+pub chooser-spec : {M : Type 1} → statement M
+unfolding chooserRows
+chooser-spec =
+    tie.close
+    (tie.spec
+    (λ c.
     let start = c .before .before .before .before .before .before .before .before .before .before in
-    front-fits 1 1 (length (start .args .d .now)) (start .pre .0) (omega (arith, start .pre .1 .0 .1 .1 .1 .0 .size))
-
-slice-aggregate-put-keyed-row : tie.Need-slice-aggregate-put-keyed-row
-slice-aggregate-put-keyed-row c =
+    front-fits 1 1 (length (start .args .d .now)) (start .pre .0) (omega (arith, start .pre .1 .0 .1 .1 .1 .0 .size)))
+    (λ c.
     let start = c .before .before .before .before .before .before .before .before .before .before .before in
-    front-long 1 1 (length (start .args .d .now)) (start .pre .0) (omega (arith, start .pre .1 .0 .1 .1 .1 .0 .size))
-
-put-keyed-row-requires : tie.Need-put-keyed-row-requires
-put-keyed-row-requires c κs =
+    front-long 1 1 (length (start .args .d .now)) (start .pre .0) (omega (arith, start .pre .1 .0 .1 .1 .1 .0 .size)))
+    (λ c κs.
     let start = c .before .before .before .before .before .before .before .before .before .before .before in
-    ((front-rows 1 1 (length (start .args .d .now)) (start .pre .0) (omega (arith, start .pre .1 .0 .1 .1 .1 .0 .size)), omega arith), ((start .pre .1 .0 .1 .1 .0, (start .pre .1 .0 .1 .0, (start .pre .1 .0 .1 .1 .1 .1 .0, start .pre .1 .0 .0))), start .pre .1 .1 .1 .1))
-
-difference-requires : tie.Need-difference-requires
-difference-requires c κs =
+    ((front-rows 1 1 (length (start .args .d .now)) (start .pre .0) (omega (arith, start .pre .1 .0 .1 .1 .1 .0 .size)), omega arith), ((start .pre .1 .0 .1 .1 .0, (start .pre .1 .0 .1 .0, (start .pre .1 .0 .1 .1 .1 .1 .0, start .pre .1 .0 .0))), start .pre .1 .1 .1 .1)))
+    (λ c κs.
     let start = c .before .before .before .before .before .before .before .before .before .before .before .before .before .before .before .before .before in
-    ((omega (arith, start .pre .0 .modulus)), (same-size (start .pre .1 .0 .1 .1 .1 .1 .1) (start .pre .1 .0 .1 .1 .1 .0), same-size (start .pre .1 .1 .1 .0) (start .pre .1 .0 .1 .1 .1 .1 .1)))
-
-sub-requires : tie.Need-sub-requires
-sub-requires c κs =
+    ((omega (arith, start .pre .0 .modulus)), (same-size (start .pre .1 .0 .1 .1 .1 .1 .1) (start .pre .1 .0 .1 .1 .1 .0), same-size (start .pre .1 .1 .1 .0) (start .pre .1 .0 .1 .1 .1 .1 .1))))
+    (λ c κs.
     let start = c .before .before .before .before .before .before .before .before .before .before .before .before .before .before .before .before .before .before .before .before in
-    (omega (arith, start .pre .1 .1 .0 .1, start .pre .1 .1 .0 .0), omega (arith, start .pre .1 .1 .0 .1, start .pre .1 .1 .0 .0))
-
-sub-put-keyed-row : tie.Need-sub-put-keyed-row
-sub-put-keyed-row c =
+    (omega (arith, start .pre .1 .1 .0 .1, start .pre .1 .1 .0 .0), omega (arith, start .pre .1 .1 .0 .1, start .pre .1 .1 .0 .0)))
+    (λ c.
     let the-put-keyed-row = c .before .before .before .before .before .before .before .before .before .before .before .put-keyed-row in
     let start = c .before .before .before .before .before .before .before .before .before .before .before .before .before .before .before .before .before .before .before .before .before .before .before in
-    omega (arith, rest-fits 1 1 (length (start .args .d .now)) (start .pre .0) (omega (arith, start .pre .1 .0 .1 .1 .1 .0 .size)) (the-put-keyed-row .last .1 .1 .1 .1 .1 .1 .1 .1 .1 .1 .1 .1 .1 .0) (the-put-keyed-row .kept .1 .1 .1 .1 .1 .1 .1 .1 .1 .1 .1 .1 .1 .0))
-
-part-put-keyed-row-start : tie.Need-part-put-keyed-row-start
-part-put-keyed-row-start c =
+    omega (arith, rest-fits 1 1 (length (start .args .d .now)) (start .pre .0) (omega (arith, start .pre .1 .0 .1 .1 .1 .0 .size)) (the-put-keyed-row .last .1 .1 .1 .1 .1 .1 .1 .1 .1 .1 .1 .1 .1 .0) (the-put-keyed-row .kept .1 .1 .1 .1 .1 .1 .1 .1 .1 .1 .1 .1 .1 .0)))
+    (λ c.
     let the-put-keyed-row = c .before .before .before .before .before .before .before .before .before .before .before .put-keyed-row in
     let start = c .before .before .before .before .before .before .before .before .before .before .before .before .before .before .before .before .before .before .before .before .before .before .before in
-    omega (arith, rest-fits 1 1 (length (start .args .d .now)) (start .pre .0) (omega (arith, start .pre .1 .0 .1 .1 .1 .0 .size)) (the-put-keyed-row .last .1 .1 .1 .1 .1 .1 .1 .1 .1 .1 .1 .1 .1 .0) (the-put-keyed-row .kept .1 .1 .1 .1 .1 .1 .1 .1 .1 .1 .1 .1 .1 .0))
-
-part-put-keyed-row-end : tie.Need-part-put-keyed-row-end
-part-put-keyed-row-end c =
+    omega (arith, rest-fits 1 1 (length (start .args .d .now)) (start .pre .0) (omega (arith, start .pre .1 .0 .1 .1 .1 .0 .size)) (the-put-keyed-row .last .1 .1 .1 .1 .1 .1 .1 .1 .1 .1 .1 .1 .1 .0) (the-put-keyed-row .kept .1 .1 .1 .1 .1 .1 .1 .1 .1 .1 .1 .1 .1 .0)))
+    (λ c.
     let the-put-keyed-row = c .before .before .before .before .before .before .before .before .before .before .before .put-keyed-row in
     let start = c .before .before .before .before .before .before .before .before .before .before .before .before .before .before .before .before .before .before .before .before .before .before .before in
-    omega (arith, rest-fits 1 1 (length (start .args .d .now)) (start .pre .0) (omega (arith, start .pre .1 .0 .1 .1 .1 .0 .size)) (the-put-keyed-row .last .1 .1 .1 .1 .1 .1 .1 .1 .1 .1 .1 .1 .1 .0) (the-put-keyed-row .kept .1 .1 .1 .1 .1 .1 .1 .1 .1 .1 .1 .1 .1 .0))
-
-put-keyed-row-requires-2 : tie.Need-put-keyed-row-requires-2
-put-keyed-row-requires-2 c κs =
+    omega (arith, rest-fits 1 1 (length (start .args .d .now)) (start .pre .0) (omega (arith, start .pre .1 .0 .1 .1 .1 .0 .size)) (the-put-keyed-row .last .1 .1 .1 .1 .1 .1 .1 .1 .1 .1 .1 .1 .1 .0) (the-put-keyed-row .kept .1 .1 .1 .1 .1 .1 .1 .1 .1 .1 .1 .1 .1 .0)))
+    (λ c κs.
     let the-put-keyed-row = c .before .before .before .before .before .before .before .before .before .before .before .before .put-keyed-row in
     let start = c .before .before .before .before .before .before .before .before .before .before .before .before .before .before .before .before .before .before .before .before .before .before .before .before in
-    ((rest-rows 1 1 (length (start .args .d .now)) (start .pre .0) (omega (arith, start .pre .1 .0 .1 .1 .1 .0 .size)) (the-put-keyed-row .last .1 .1 .1 .1 .1 .1 .1 .1 .1 .1 .1 .1 .1 .0) (the-put-keyed-row .kept .1 .1 .1 .1 .1 .1 .1 .1 .1 .1 .1 .1 .1 .0), omega arith), ((start .pre .1 .0 .1 .1 .0, (start .pre .1 .0 .1 .0, (vector-kept (start .pre .1 .1 .1 .0) (c .before .before .before .before .before .before .difference .kept .1 .1 .1 .0), start .pre .1 .0 .0))), vector-kept (start .pre .1 .1 .1 .1) (the-put-keyed-row .kept .1 .1 .1 .1 .1 .1 .1 .1 .1 .1 .1 .1 .0)))
-
-same-length : tie.Need-same-length
-same-length c = c .before .before .before .before .before .before .before .before .before .before .before .difference .kept .1 .1 .1 .0
-
-same-length-2 : tie.Need-same-length-2
-same-length-2 c = c .before .before .before .before .put-keyed-row2 .kept .1 .1 .1 .1 .1 .1 .1 .1 .1 .1 .1 .1 .0 ∙ c .before .before .before .before .before .before .before .before .before .before .before .before .before .before .before .before .before .put-keyed-row .kept .1 .1 .1 .1 .1 .1 .1 .1 .1 .1 .1 .1 .0
-
-same-length-3 : tie.Need-same-length-3
-same-length-3 c =
+    ((rest-rows 1 1 (length (start .args .d .now)) (start .pre .0) (omega (arith, start .pre .1 .0 .1 .1 .1 .0 .size)) (the-put-keyed-row .last .1 .1 .1 .1 .1 .1 .1 .1 .1 .1 .1 .1 .1 .0) (the-put-keyed-row .kept .1 .1 .1 .1 .1 .1 .1 .1 .1 .1 .1 .1 .1 .0), omega arith), ((start .pre .1 .0 .1 .1 .0, (start .pre .1 .0 .1 .0, (vector-kept (start .pre .1 .1 .1 .0) (c .before .before .before .before .before .before .difference .kept .1 .1 .1 .0), start .pre .1 .0 .0))), vector-kept (start .pre .1 .1 .1 .1) (the-put-keyed-row .kept .1 .1 .1 .1 .1 .1 .1 .1 .1 .1 .1 .1 .0))))
+    (λ c. c .before .before .before .before .before .before .before .before .before .before .before .difference .kept .1 .1 .1 .0)
+    (λ c. c .before .before .before .before .put-keyed-row2 .kept .1 .1 .1 .1 .1 .1 .1 .1 .1 .1 .1 .1 .0 ∙ c .before .before .before .before .before .before .before .before .before .before .before .before .before .before .before .before .before .put-keyed-row .kept .1 .1 .1 .1 .1 .1 .1 .1 .1 .1 .1 .1 .0)
+    (λ c.
     let the-put-keyed-row2 = c .before .before .before .before .put-keyed-row2 in
     let the-put-keyed-row = c .before .before .before .before .before .before .before .before .before .before .before .before .before .before .before .before .before .put-keyed-row in
     let start = c .before .before .before .before .before .before .before .before .before .before .before .before .before .before .before .before .before .before .before .before .before .before .before .before .before .before .before .before .before in
-    both-length 1 1 (length (start .args .d .now)) (start .pre .0) (omega (arith, start .pre .1 .0 .1 .1 .1 .0 .size)) (the-put-keyed-row .last .1 .1 .1 .1 .1 .1 .1 .1 .1 .1 .1 .1 .1 .0) (the-put-keyed-row .kept .1 .1 .1 .1 .1 .1 .1 .1 .1 .1 .1 .1 .1 .0) (the-put-keyed-row2 .last .1 .1 .1 .1 .1 .1 .1 .1 .1 .1 .1 .1 .1 .0) (the-put-keyed-row2 .kept .1 .1 .1 .1 .1 .1 .1 .1 .1 .1 .1 .1 .1 .0)
-
-returns : tie.Need-returns
-unfolding chooserRows
-returns c =
+    both-length 1 1 (length (start .args .d .now)) (start .pre .0) (omega (arith, start .pre .1 .0 .1 .1 .1 .0 .size)) (the-put-keyed-row .last .1 .1 .1 .1 .1 .1 .1 .1 .1 .1 .1 .1 .1 .0) (the-put-keyed-row .kept .1 .1 .1 .1 .1 .1 .1 .1 .1 .1 .1 .1 .1 .0) (the-put-keyed-row2 .last .1 .1 .1 .1 .1 .1 .1 .1 .1 .1 .1 .1 .1 .0) (the-put-keyed-row2 .kept .1 .1 .1 .1 .1 .1 .1 .1 .1 .1 .1 .1 .1 .0))
+    (λ c.
     let the-put-keyed-row2 = c .before .before .before .before .put-keyed-row2 in
     let the-put-keyed-row = c .before .before .before .before .before .before .before .before .before .before .before .before .before .before .before .before .before .put-keyed-row in
     let start = c .before .before .before .before .before .before .before .before .before .before .before .before .before .before .before .before .before .before .before .before .before .before .before .before .before .before .before .before .before in
-    both-parts 1 1 (length (start .args .d .now)) (start .pre .0) (omega (arith, start .pre .1 .0 .1 .1 .1 .0 .size)) (the-put-keyed-row .last .1 .1 .1 .1 .1 .1 .1 .1 .1 .1 .1 .1 .1 .0) (the-put-keyed-row .kept .1 .1 .1 .1 .1 .1 .1 .1 .1 .1 .1 .1 .1 .0) (choose₀-is _ _ _ _ _ _ _ _ (the-put-keyed-row .ensures)) (the-put-keyed-row2 .kept .1 .1 .1 .1 .1 .1 .1 .1 .1 .1 .1 .1 .1 .0) (choose₁-is _ _ _ _ _ _ _ _ _ _ (c .before .before .before .before .before .before .before .before .before .before .before .difference .ensures) (c .before .before .before .before .before .before .before .before .sub .ensures) (the-put-keyed-row2 .ensures))
-
-pub chooser-spec : {M : Type 1} → statement M
-chooser-spec = tie.close (tie.spec slice-relend-prefix-put-keyed-row slice-aggregate-put-keyed-row put-keyed-row-requires difference-requires sub-requires sub-put-keyed-row part-put-keyed-row-start part-put-keyed-row-end put-keyed-row-requires-2 same-length same-length-2 same-length-3 returns)
+    both-parts 1 1 (length (start .args .d .now)) (start .pre .0) (omega (arith, start .pre .1 .0 .1 .1 .1 .0 .size)) (the-put-keyed-row .last .1 .1 .1 .1 .1 .1 .1 .1 .1 .1 .1 .1 .1 .0) (the-put-keyed-row .kept .1 .1 .1 .1 .1 .1 .1 .1 .1 .1 .1 .1 .1 .0) (choose₀-is _ _ _ _ _ _ _ _ (the-put-keyed-row .ensures)) (the-put-keyed-row2 .kept .1 .1 .1 .1 .1 .1 .1 .1 .1 .1 .1 .1 .1 .0) (choose₁-is _ _ _ _ _ _ _ _ _ _ (c .before .before .before .before .before .before .before .before .before .before .before .difference .ensures) (c .before .before .before .before .before .before .before .before .sub .ensures) (the-put-keyed-row2 .ensures))))

@@ -6,27 +6,17 @@ use Rattle.rows.proofs.Messages.{linear-on}
 use Rattle.rows.proofs.choice.corrector.Statement.{statement}
 use Rattle.rows.proofs.choice.corrector.Tie as tie
 
-difference-requires : tie.Need-difference-requires
-difference-requires c κs =
-    let start = c .before .before .before .before .before .before .before .before in
-    ((omega (arith, start .pre .0 .modulus)), (same-size (start .pre .1 .0 .1 .1 .0) (start .pre .1 .0 .1 .1 .1), same-size (start .pre .1 .1 .1 .0) (start .pre .1 .0 .1 .1 .0)))
-
-linear-rows-requires : tie.Need-linear-rows-requires
-linear-rows-requires c κs =
-    let start = c .before .before .before .before .before .before .before .before .before .before .before .before .before .before in
-    (start .pre .0, ((start .pre .1 .0 .1 .0, (vector-kept (start .pre .1 .1 .1 .0) (c .before .before .before .before .before .difference .kept .1 .1 .1 .0), start .pre .1 .0 .0)), (start .pre .1 .1 .0, start .pre .1 .1 .1 .1)))
-
-same-length : tie.Need-same-length
-same-length c = c .before .before .before .before .before .before .before .before .before .before .difference .kept .1 .1 .1 .0
-
-same-length-2 : tie.Need-same-length-2
-same-length-2 c = c .before .before .before .before .linear-rows .kept .1 .1 .1 .1 .1 .1 .1 .1 .1 .1 .0
-
-same-length-3 : tie.Need-same-length-3
-same-length-3 c = c .before .before .before .before .linear-rows .kept .1 .1 .1 .1 .1 .1 .1 .1 .1 .1 .1 .0
-
-returns : tie.Need-returns
-returns c = linear-on _ _ _ _ _ _ _ _ _ _ (c .before .before .before .before .before .before .before .before .before .before .difference .ensures) (c .before .before .before .before .linear-rows .ensures)
-
 pub corrector-spec : {M : Type 1} → statement M
-corrector-spec = tie.close (tie.spec difference-requires linear-rows-requires same-length same-length-2 same-length-3 returns)
+corrector-spec =
+    tie.close
+    (tie.spec
+    (λ c κs.
+    let start = c .before .before .before .before .before .before .before .before in
+    ((omega (arith, start .pre .0 .modulus)), (same-size (start .pre .1 .0 .1 .1 .0) (start .pre .1 .0 .1 .1 .1), same-size (start .pre .1 .1 .1 .0) (start .pre .1 .0 .1 .1 .0))))
+    (λ c κs.
+    let start = c .before .before .before .before .before .before .before .before .before .before .before .before .before .before in
+    (start .pre .0, ((start .pre .1 .0 .1 .0, (vector-kept (start .pre .1 .1 .1 .0) (c .before .before .before .before .before .difference .kept .1 .1 .1 .0), start .pre .1 .0 .0)), (start .pre .1 .1 .0, start .pre .1 .1 .1 .1))))
+    (λ c. c .before .before .before .before .before .before .before .before .before .before .difference .kept .1 .1 .1 .0)
+    (λ c. c .before .before .before .before .linear-rows .kept .1 .1 .1 .1 .1 .1 .1 .1 .1 .1 .0)
+    (λ c. c .before .before .before .before .linear-rows .kept .1 .1 .1 .1 .1 .1 .1 .1 .1 .1 .1 .0)
+    (λ c. linear-on _ _ _ _ _ _ _ _ _ _ (c .before .before .before .before .before .before .before .before .before .before .difference .ensures) (c .before .before .before .before .linear-rows .ensures)))

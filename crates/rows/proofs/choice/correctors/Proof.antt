@@ -10,94 +10,62 @@ use Rattle.rows.specs.Gate.{correctorRows}
 use Rattle.rows.proofs.choice.correctors.Statement.{statement}
 use Rattle.rows.proofs.choice.correctors.Tie as tie
 
-mul-requires : tie.Need-mul-requires
-mul-requires c κs = (omega (arith, c .before .before .before .before .before .before .before .before .pre .0 .modulus))
-
-sub-requires : tie.Need-sub-requires
-sub-requires c κs =
+pub correctors-spec : {M : Type 1} → statement M
+unfolding correctorRows
+correctors-spec =
+    tie.close
+    (tie.spec
+    (λ c κs. (omega (arith, c .before .before .before .before .before .before .before .before .pre .0 .modulus)))
+    (λ c κs.
     let start = c .before .before .before .before .before .before .before .before .before in
-    (start .pre .1 .1 .0 .1 .0, start .pre .1 .1 .0 .1 .1 .0)
-
-sub-requires-2 : tie.Need-sub-requires-2
-sub-requires-2 c κs =
+    (start .pre .1 .1 .0 .1 .0, start .pre .1 .1 .0 .1 .1 .0))
+    (λ c κs.
     let start = c .before .before .before .before .before .before .before .before .before .before in
-    (sub-small _ _ (omega (arith, start .pre .0 .modulus)) (c .sub .ensures), mul-small _ _ (omega (arith, start .pre .0 .modulus)) (c .before .mul .ensures))
-
-slice-relend-prefix-corrector : tie.Need-slice-relend-prefix-corrector
-slice-relend-prefix-corrector c =
+    (sub-small _ _ (omega (arith, start .pre .0 .modulus)) (c .sub .ensures), mul-small _ _ (omega (arith, start .pre .0 .modulus)) (c .before .mul .ensures)))
+    (λ c.
     let start = c .before .before .before .before .before .before .before .before .before .before .before .before .before in
-    front-fits (start .args .p) (start .args .p) (length (start .args .out .now) / 2) (twice (start .args .p) (start .pre .0)) (half-of (start .args .p) (start .pre .0))
-
-slice-aggregate-corrector : tie.Need-slice-aggregate-corrector
-slice-aggregate-corrector c =
+    front-fits (start .args .p) (start .args .p) (length (start .args .out .now) / 2) (twice (start .args .p) (start .pre .0)) (half-of (start .args .p) (start .pre .0)))
+    (λ c.
     let start = c .before .before .before .before .before .before .before .before .before .before .before .before .before .before in
-    front-long (start .args .p) (start .args .p) (length (start .args .out .now) / 2) (twice (start .args .p) (start .pre .0)) (half-of (start .args .p) (start .pre .0))
-
-corrector-requires : tie.Need-corrector-requires
-corrector-requires c κs =
+    front-long (start .args .p) (start .args .p) (length (start .args .out .now) / 2) (twice (start .args .p) (start .pre .0)) (half-of (start .args .p) (start .pre .0)))
+    (λ c κs.
     let start = c .before .before .before .before .before .before .before .before .before .before .before .before .before .before in
-    (front-rows (start .args .p) (start .args .p) (length (start .args .out .now) / 2) (twice (start .args .p) (start .pre .0)) (half-of (start .args .p) (start .pre .0)), ((start .pre .1 .0 .0, (start .pre .1 .0 .1 .0, (start .pre .1 .0 .1 .1 .0, start .pre .1 .0 .1 .1 .1 .0))), (sub-small _ _ (omega (arith, start .pre .0 .modulus)) (c .before .before .before .sub2 .ensures), (start .pre .1 .1 .1 .0, start .pre .1 .1 .1 .1))))
-
-sub-requires-3 : tie.Need-sub-requires-3
-sub-requires-3 c κs =
+    (front-rows (start .args .p) (start .args .p) (length (start .args .out .now) / 2) (twice (start .args .p) (start .pre .0)) (half-of (start .args .p) (start .pre .0)), ((start .pre .1 .0 .0, (start .pre .1 .0 .1 .0, (start .pre .1 .0 .1 .1 .0, start .pre .1 .0 .1 .1 .1 .0))), (sub-small _ _ (omega (arith, start .pre .0 .modulus)) (c .before .before .before .sub2 .ensures), (start .pre .1 .1 .1 .0, start .pre .1 .1 .1 .1)))))
+    (λ c κs.
     let start = c .before .before .before .before .before .before .before .before .before .before .before .before .before .before .before .before .before .before .before .before .before in
-    (start .pre .1 .1 .0 .1 .0, start .pre .1 .1 .0 .1 .1 .1)
-
-add-requires : tie.Need-add-requires
-add-requires c κs =
+    (start .pre .1 .1 .0 .1 .0, start .pre .1 .1 .0 .1 .1 .1))
+    (λ c κs.
     let start = c .before .before .before .before .before .before .before .before .before .before .before .before .before .before .before .before .before .before .before .before .before .before in
-    (sub-small _ _ (omega (arith, start .pre .0 .modulus)) (c .sub3 .ensures), mul-small _ _ (omega (arith, start .pre .0 .modulus)) (c .before .before .before .before .before .before .before .before .before .before .before .before .before .mul .ensures))
-
-sub-requires-4 : tie.Need-sub-requires-4
-sub-requires-4 c κs =
+    (sub-small _ _ (omega (arith, start .pre .0 .modulus)) (c .sub3 .ensures), mul-small _ _ (omega (arith, start .pre .0 .modulus)) (c .before .before .before .before .before .before .before .before .before .before .before .before .before .mul .ensures)))
+    (λ c κs.
     let start = c .before .before .before .before .before .before .before .before .before .before .before .before .before .before .before .before .before .before .before .before .before .before .before in
-    ((omega (arith, start .pre .0 .modulus)), omega (arith, start .pre .1 .1 .0 .0, start .pre .0 .modulus))
-
-sub-corrector : tie.Need-sub-corrector
-sub-corrector c =
+    ((omega (arith, start .pre .0 .modulus)), omega (arith, start .pre .1 .1 .0 .0, start .pre .0 .modulus)))
+    (λ c.
     let the-corrector = c .before .before .before .before .before .before .before .before .before .before .before .corrector in
     let start = c .before .before .before .before .before .before .before .before .before .before .before .before .before .before .before .before .before .before .before .before .before .before .before .before .before .before in
-    omega (arith, rest-fits (start .args .p) (start .args .p) (length (start .args .out .now) / 2) (twice (start .args .p) (start .pre .0)) (half-of (start .args .p) (start .pre .0)) (the-corrector .last .1 .1 .1 .1 .1 .1 .1 .1 .1 .1 .1 .1 .1 .0) (the-corrector .kept .1 .1 .1 .1 .1 .1 .1 .1 .1 .1 .1 .1 .1 .0))
-
-part-corrector-start : tie.Need-part-corrector-start
-part-corrector-start c =
+    omega (arith, rest-fits (start .args .p) (start .args .p) (length (start .args .out .now) / 2) (twice (start .args .p) (start .pre .0)) (half-of (start .args .p) (start .pre .0)) (the-corrector .last .1 .1 .1 .1 .1 .1 .1 .1 .1 .1 .1 .1 .1 .0) (the-corrector .kept .1 .1 .1 .1 .1 .1 .1 .1 .1 .1 .1 .1 .1 .0)))
+    (λ c.
     let the-corrector = c .before .before .before .before .before .before .before .before .before .before .before .corrector in
     let start = c .before .before .before .before .before .before .before .before .before .before .before .before .before .before .before .before .before .before .before .before .before .before .before .before .before .before in
-    omega (arith, rest-fits (start .args .p) (start .args .p) (length (start .args .out .now) / 2) (twice (start .args .p) (start .pre .0)) (half-of (start .args .p) (start .pre .0)) (the-corrector .last .1 .1 .1 .1 .1 .1 .1 .1 .1 .1 .1 .1 .1 .0) (the-corrector .kept .1 .1 .1 .1 .1 .1 .1 .1 .1 .1 .1 .1 .1 .0))
-
-part-corrector-end : tie.Need-part-corrector-end
-part-corrector-end c =
+    omega (arith, rest-fits (start .args .p) (start .args .p) (length (start .args .out .now) / 2) (twice (start .args .p) (start .pre .0)) (half-of (start .args .p) (start .pre .0)) (the-corrector .last .1 .1 .1 .1 .1 .1 .1 .1 .1 .1 .1 .1 .1 .0) (the-corrector .kept .1 .1 .1 .1 .1 .1 .1 .1 .1 .1 .1 .1 .1 .0)))
+    (λ c.
     let the-corrector = c .before .before .before .before .before .before .before .before .before .before .before .corrector in
     let start = c .before .before .before .before .before .before .before .before .before .before .before .before .before .before .before .before .before .before .before .before .before .before .before .before .before .before in
-    omega (arith, rest-fits (start .args .p) (start .args .p) (length (start .args .out .now) / 2) (twice (start .args .p) (start .pre .0)) (half-of (start .args .p) (start .pre .0)) (the-corrector .last .1 .1 .1 .1 .1 .1 .1 .1 .1 .1 .1 .1 .1 .0) (the-corrector .kept .1 .1 .1 .1 .1 .1 .1 .1 .1 .1 .1 .1 .1 .0))
-
-corrector-requires-2 : tie.Need-corrector-requires-2
-corrector-requires-2 c κs =
+    omega (arith, rest-fits (start .args .p) (start .args .p) (length (start .args .out .now) / 2) (twice (start .args .p) (start .pre .0)) (half-of (start .args .p) (start .pre .0)) (the-corrector .last .1 .1 .1 .1 .1 .1 .1 .1 .1 .1 .1 .1 .1 .0) (the-corrector .kept .1 .1 .1 .1 .1 .1 .1 .1 .1 .1 .1 .1 .1 .0)))
+    (λ c κs.
     let the-corrector = c .before .before .before .before .before .before .before .before .before .before .before .before .corrector in
     let start = c .before .before .before .before .before .before .before .before .before .before .before .before .before .before .before .before .before .before .before .before .before .before .before .before .before .before .before in
-    (rest-rows (start .args .p) (start .args .p) (length (start .args .out .now) / 2) (twice (start .args .p) (start .pre .0)) (half-of (start .args .p) (start .pre .0)) (the-corrector .last .1 .1 .1 .1 .1 .1 .1 .1 .1 .1 .1 .1 .1 .0) (the-corrector .kept .1 .1 .1 .1 .1 .1 .1 .1 .1 .1 .1 .1 .1 .0), ((start .pre .1 .0 .0, (start .pre .1 .0 .1 .0, (start .pre .1 .0 .1 .1 .0, start .pre .1 .0 .1 .1 .1 .1))), (add-small _ _ (omega (arith, start .pre .0 .modulus)) (c .before .before .before .before .add .ensures), (vector-kept (start .pre .1 .1 .1 .0) (the-corrector .kept .1 .1 .1 .1 .1 .1 .1 .1 .1 .1 .1 .0), vector-kept (start .pre .1 .1 .1 .1) (the-corrector .kept .1 .1 .1 .1 .1 .1 .1 .1 .1 .1 .1 .1 .0)))))
-
-same-length : tie.Need-same-length
-same-length c = c .before .before .before .before .before .before .corrector2 .kept .1 .1 .1 .1 .1 .1 .1 .1 .1 .1 .1 .0 ∙ c .before .before .before .before .before .before .before .before .before .before .before .before .before .before .before .before .before .before .before .corrector .kept .1 .1 .1 .1 .1 .1 .1 .1 .1 .1 .1 .0
-
-same-length-2 : tie.Need-same-length-2
-same-length-2 c = c .before .before .before .before .before .before .corrector2 .kept .1 .1 .1 .1 .1 .1 .1 .1 .1 .1 .1 .1 .0 ∙ c .before .before .before .before .before .before .before .before .before .before .before .before .before .before .before .before .before .before .before .corrector .kept .1 .1 .1 .1 .1 .1 .1 .1 .1 .1 .1 .1 .0
-
-same-length-3 : tie.Need-same-length-3
-same-length-3 c =
+    (rest-rows (start .args .p) (start .args .p) (length (start .args .out .now) / 2) (twice (start .args .p) (start .pre .0)) (half-of (start .args .p) (start .pre .0)) (the-corrector .last .1 .1 .1 .1 .1 .1 .1 .1 .1 .1 .1 .1 .1 .0) (the-corrector .kept .1 .1 .1 .1 .1 .1 .1 .1 .1 .1 .1 .1 .1 .0), ((start .pre .1 .0 .0, (start .pre .1 .0 .1 .0, (start .pre .1 .0 .1 .1 .0, start .pre .1 .0 .1 .1 .1 .1))), (add-small _ _ (omega (arith, start .pre .0 .modulus)) (c .before .before .before .before .add .ensures), (vector-kept (start .pre .1 .1 .1 .0) (the-corrector .kept .1 .1 .1 .1 .1 .1 .1 .1 .1 .1 .1 .0), vector-kept (start .pre .1 .1 .1 .1) (the-corrector .kept .1 .1 .1 .1 .1 .1 .1 .1 .1 .1 .1 .1 .0))))))
+    (λ c. c .before .before .before .before .before .before .corrector2 .kept .1 .1 .1 .1 .1 .1 .1 .1 .1 .1 .1 .0 ∙ c .before .before .before .before .before .before .before .before .before .before .before .before .before .before .before .before .before .before .before .corrector .kept .1 .1 .1 .1 .1 .1 .1 .1 .1 .1 .1 .0)
+    (λ c. c .before .before .before .before .before .before .corrector2 .kept .1 .1 .1 .1 .1 .1 .1 .1 .1 .1 .1 .1 .0 ∙ c .before .before .before .before .before .before .before .before .before .before .before .before .before .before .before .before .before .before .before .corrector .kept .1 .1 .1 .1 .1 .1 .1 .1 .1 .1 .1 .1 .0)
+    (λ c.
     let the-corrector2 = c .before .before .before .before .before .before .corrector2 in
     let the-corrector = c .before .before .before .before .before .before .before .before .before .before .before .before .before .before .before .before .before .before .before .corrector in
     let start = c .before .before .before .before .before .before .before .before .before .before .before .before .before .before .before .before .before .before .before .before .before .before .before .before .before .before .before .before .before .before .before .before .before .before in
-    both-length (start .args .p) (start .args .p) (length (start .args .out .now) / 2) (twice (start .args .p) (start .pre .0)) (half-of (start .args .p) (start .pre .0)) (the-corrector .last .1 .1 .1 .1 .1 .1 .1 .1 .1 .1 .1 .1 .1 .0) (the-corrector .kept .1 .1 .1 .1 .1 .1 .1 .1 .1 .1 .1 .1 .1 .0) (the-corrector2 .last .1 .1 .1 .1 .1 .1 .1 .1 .1 .1 .1 .1 .1 .0) (the-corrector2 .kept .1 .1 .1 .1 .1 .1 .1 .1 .1 .1 .1 .1 .1 .0)
-
-returns : tie.Need-returns
-unfolding correctorRows
-returns c =
+    both-length (start .args .p) (start .args .p) (length (start .args .out .now) / 2) (twice (start .args .p) (start .pre .0)) (half-of (start .args .p) (start .pre .0)) (the-corrector .last .1 .1 .1 .1 .1 .1 .1 .1 .1 .1 .1 .1 .1 .0) (the-corrector .kept .1 .1 .1 .1 .1 .1 .1 .1 .1 .1 .1 .1 .1 .0) (the-corrector2 .last .1 .1 .1 .1 .1 .1 .1 .1 .1 .1 .1 .1 .1 .0) (the-corrector2 .kept .1 .1 .1 .1 .1 .1 .1 .1 .1 .1 .1 .1 .1 .0))
+    (λ c.
     let the-corrector2 = c .before .before .before .before .before .before .corrector2 in
     let the-corrector = c .before .before .before .before .before .before .before .before .before .before .before .before .before .before .before .before .before .before .before .corrector in
     let the-mul = c .before .before .before .before .before .before .before .before .before .before .before .before .before .before .before .before .before .before .before .before .before .before .before .before .before .mul in
     let start = c .before .before .before .before .before .before .before .before .before .before .before .before .before .before .before .before .before .before .before .before .before .before .before .before .before .before .before .before .before .before .before .before .before .before in
-    both-parts (start .args .p) (start .args .p) (length (start .args .out .now) / 2) (twice (start .args .p) (start .pre .0)) (half-of (start .args .p) (start .pre .0)) (the-corrector .last .1 .1 .1 .1 .1 .1 .1 .1 .1 .1 .1 .1 .1 .0) (the-corrector .kept .1 .1 .1 .1 .1 .1 .1 .1 .1 .1 .1 .1 .1 .0) (correct₀-is _ _ _ _ _ _ _ _ _ _ _ (omega (arith, start .pre .0 .modulus)) (the-mul .ensures) (c .before .before .before .before .before .before .before .before .before .before .before .before .before .before .before .before .before .before .before .before .before .before .before .before .sub .ensures) (c .before .before .before .before .before .before .before .before .before .before .before .before .before .before .before .before .before .before .before .before .before .before .before .sub2 .ensures) (the-corrector .ensures)) (the-corrector2 .kept .1 .1 .1 .1 .1 .1 .1 .1 .1 .1 .1 .1 .1 .0) (correct₁-is _ _ _ _ _ _ _ _ _ _ _ (omega (arith, start .pre .0 .modulus)) (the-mul .ensures) (c .before .before .before .before .before .before .before .before .before .before .before .before .sub3 .ensures) (c .before .before .before .before .before .before .before .before .before .before .before .add .ensures) (c .before .before .before .before .before .before .before .before .before .before .sub4 .ensures) (the-corrector2 .ensures))
-
-pub correctors-spec : {M : Type 1} → statement M
-correctors-spec = tie.close (tie.spec mul-requires sub-requires sub-requires-2 slice-relend-prefix-corrector slice-aggregate-corrector corrector-requires sub-requires-3 add-requires sub-requires-4 sub-corrector part-corrector-start part-corrector-end corrector-requires-2 same-length same-length-2 same-length-3 returns)
+    both-parts (start .args .p) (start .args .p) (length (start .args .out .now) / 2) (twice (start .args .p) (start .pre .0)) (half-of (start .args .p) (start .pre .0)) (the-corrector .last .1 .1 .1 .1 .1 .1 .1 .1 .1 .1 .1 .1 .1 .0) (the-corrector .kept .1 .1 .1 .1 .1 .1 .1 .1 .1 .1 .1 .1 .1 .0) (correct₀-is _ _ _ _ _ _ _ _ _ _ _ (omega (arith, start .pre .0 .modulus)) (the-mul .ensures) (c .before .before .before .before .before .before .before .before .before .before .before .before .before .before .before .before .before .before .before .before .before .before .before .before .sub .ensures) (c .before .before .before .before .before .before .before .before .before .before .before .before .before .before .before .before .before .before .before .before .before .before .before .sub2 .ensures) (the-corrector .ensures)) (the-corrector2 .kept .1 .1 .1 .1 .1 .1 .1 .1 .1 .1 .1 .1 .1 .0) (correct₁-is _ _ _ _ _ _ _ _ _ _ _ (omega (arith, start .pre .0 .modulus)) (the-mul .ensures) (c .before .before .before .before .before .before .before .before .before .before .before .before .sub3 .ensures) (c .before .before .before .before .before .before .before .before .before .before .before .add .ensures) (c .before .before .before .before .before .before .before .before .before .before .sub4 .ensures) (the-corrector2 .ensures))))

@@ -5,29 +5,19 @@ use borrow.Author.Needs.{needs}
 use Rattle.rows.proofs.gates.table_rows.Statement.{statement}
 use Rattle.rows.proofs.gates.table_rows.Tie as tie
 
-scratch-requires : tie.Need-scratch-requires
-scratch-requires c κs = search needs
-
-array-borrow-prefix-work : tie.Need-array-borrow-prefix-work
-array-borrow-prefix-work c =
-    let start = c .before .before .before .before .before .before .before in
-    work-fits (c .scratch .result) (start .pre .0 .0 .sizes) (start .pre .1 .0 .0 .size) (c .scratch .ensures)
-
-slice-aggregate-put-table : tie.Need-slice-aggregate-put-table
-slice-aggregate-put-table c =
-    let start = c .before .before .before .before .before .before .before .before in
-    work-long (c .before .scratch .result) (start .pre .0 .0 .sizes) (start .pre .1 .0 .0 .size) (c .before .scratch .ensures)
-
-put-table-requires : tie.Need-put-table-requires
-put-table-requires c κs =
-    let start = c .before .before .before .before .before .before .before .before .before in
-    (start .pre .0, (start .pre .1 .0, (start .pre .1 .1, work-vector (c .before .before .scratch .result) (start .pre .0 .0 .sizes) (start .pre .1 .0 .0 .size) (c .before .before .scratch .ensures))))
-
-same-length : tie.Need-same-length
-same-length c = c .before .before .before .put-table .kept .1 .1 .1 .1 .1 .1 .1 .1 .1 .1 .1 .1 .1 .1 .0
-
-returns : tie.Need-returns
-returns c = c .before .before .before .put-table .ensures
-
 pub table-rows-spec : {M : Type 1} → statement M
-table-rows-spec = tie.close (tie.spec scratch-requires array-borrow-prefix-work slice-aggregate-put-table put-table-requires same-length returns)
+table-rows-spec =
+    tie.close
+    (tie.spec
+    (λ c κs. search needs)
+    (λ c.
+    let start = c .before .before .before .before .before .before .before in
+    work-fits (c .scratch .result) (start .pre .0 .0 .sizes) (start .pre .1 .0 .0 .size) (c .scratch .ensures))
+    (λ c.
+    let start = c .before .before .before .before .before .before .before .before in
+    work-long (c .before .scratch .result) (start .pre .0 .0 .sizes) (start .pre .1 .0 .0 .size) (c .before .scratch .ensures))
+    (λ c κs.
+    let start = c .before .before .before .before .before .before .before .before .before in
+    (start .pre .0, (start .pre .1 .0, (start .pre .1 .1, work-vector (c .before .before .scratch .result) (start .pre .0 .0 .sizes) (start .pre .1 .0 .0 .size) (c .before .before .scratch .ensures)))))
+    (λ c. c .before .before .before .put-table .kept .1 .1 .1 .1 .1 .1 .1 .1 .1 .1 .1 .1 .1 .1 .0)
+    (λ c. c .before .before .before .put-table .ensures))

@@ -10,78 +10,52 @@ use Rattle.rows.specs.Gate.{productRows}
 use Rattle.rows.proofs.product.put_product.Statement.{statement}
 use Rattle.rows.proofs.product.put_product.Tie as tie
 
-slice-relend-prefix-first-rows : tie.Need-slice-relend-prefix-first-rows
-slice-relend-prefix-first-rows c =
+pub put-product-spec : {M : Type 1} → statement M
+unfolding productRows
+put-product-spec =
+    tie.close
+    (tie.spec
+    (λ c.
     let start = c .before .before .before .before .before .before .before .before .before .before in
-    front-fits (start .args .p) (start .args .p) (length (start .args .out .now) / 2) (twice (start .args .p) (start .pre .0)) (half-of (start .args .p) (start .pre .0))
-
-slice-aggregate-first-rows : tie.Need-slice-aggregate-first-rows
-slice-aggregate-first-rows c =
+    front-fits (start .args .p) (start .args .p) (length (start .args .out .now) / 2) (twice (start .args .p) (start .pre .0)) (half-of (start .args .p) (start .pre .0)))
+    (λ c.
     let start = c .before .before .before .before .before .before .before .before .before .before .before in
-    front-long (start .args .p) (start .args .p) (length (start .args .out .now) / 2) (twice (start .args .p) (start .pre .0)) (half-of (start .args .p) (start .pre .0))
-
-first-rows-requires : tie.Need-first-rows-requires
-first-rows-requires c κs =
+    front-long (start .args .p) (start .args .p) (length (start .args .out .now) / 2) (twice (start .args .p) (start .pre .0)) (half-of (start .args .p) (start .pre .0)))
+    (λ c κs.
     let start = c .before .before .before .before .before .before .before .before .before .before .before in
-    (front-rows (start .args .p) (start .args .p) (length (start .args .out .now) / 2) (twice (start .args .p) (start .pre .0)) (half-of (start .args .p) (start .pre .0)), ((start .pre .1 .0 .0, (start .pre .1 .0 .1 .0, start .pre .1 .0 .1 .1 .1 .1)), (start .pre .1 .1 .0 .0, (start .pre .1 .1 .0 .1 .1, start .pre .1 .1 .1 .1 .1))))
-
-difference-requires : tie.Need-difference-requires
-difference-requires c κs =
+    (front-rows (start .args .p) (start .args .p) (length (start .args .out .now) / 2) (twice (start .args .p) (start .pre .0)) (half-of (start .args .p) (start .pre .0)), ((start .pre .1 .0 .0, (start .pre .1 .0 .1 .0, start .pre .1 .0 .1 .1 .1 .1)), (start .pre .1 .1 .0 .0, (start .pre .1 .1 .0 .1 .1, start .pre .1 .1 .1 .1 .1)))))
+    (λ c κs.
     let start = c .before .before .before .before .before .before .before .before .before .before .before .before .before .before .before .before .before in
-    ((omega (arith, start .pre .0 .modulus)), (same-size (start .pre .1 .0 .1 .1 .1 .0) (start .pre .1 .0 .1 .1 .1 .1), same-size (start .pre .1 .1 .1 .0) (start .pre .1 .0 .1 .1 .1 .0)))
-
-sub-requires : tie.Need-sub-requires
-sub-requires c κs =
+    ((omega (arith, start .pre .0 .modulus)), (same-size (start .pre .1 .0 .1 .1 .1 .0) (start .pre .1 .0 .1 .1 .1 .1), same-size (start .pre .1 .1 .1 .0) (start .pre .1 .0 .1 .1 .1 .0))))
+    (λ c κs.
     let start = c .before .before .before .before .before .before .before .before .before .before .before .before .before .before .before .before .before .before .before .before in
-    (omega (arith, start .pre .1 .1 .0 .1 .0, start .pre .1 .1 .0 .1 .1), omega (arith, start .pre .1 .1 .0 .1 .0, start .pre .1 .1 .0 .1 .1))
-
-sub-second-rows : tie.Need-sub-second-rows
-sub-second-rows c =
+    (omega (arith, start .pre .1 .1 .0 .1 .0, start .pre .1 .1 .0 .1 .1), omega (arith, start .pre .1 .1 .0 .1 .0, start .pre .1 .1 .0 .1 .1)))
+    (λ c.
     let the-first-rows = c .before .before .before .before .before .before .before .before .before .before .before .before .first-rows in
     let start = c .before .before .before .before .before .before .before .before .before .before .before .before .before .before .before .before .before .before .before .before .before .before .before .before in
-    omega (arith, rest-fits (start .args .p) (start .args .p) (length (start .args .out .now) / 2) (twice (start .args .p) (start .pre .0)) (half-of (start .args .p) (start .pre .0)) (the-first-rows .last .1 .1 .1 .1 .1 .1 .1 .1 .1 .1 .1 .0) (the-first-rows .kept .1 .1 .1 .1 .1 .1 .1 .1 .1 .1 .1 .0))
-
-part-second-rows-start : tie.Need-part-second-rows-start
-part-second-rows-start c =
+    omega (arith, rest-fits (start .args .p) (start .args .p) (length (start .args .out .now) / 2) (twice (start .args .p) (start .pre .0)) (half-of (start .args .p) (start .pre .0)) (the-first-rows .last .1 .1 .1 .1 .1 .1 .1 .1 .1 .1 .1 .0) (the-first-rows .kept .1 .1 .1 .1 .1 .1 .1 .1 .1 .1 .1 .0)))
+    (λ c.
     let the-first-rows = c .before .before .before .before .before .before .before .before .before .before .before .before .first-rows in
     let start = c .before .before .before .before .before .before .before .before .before .before .before .before .before .before .before .before .before .before .before .before .before .before .before .before in
-    omega (arith, rest-fits (start .args .p) (start .args .p) (length (start .args .out .now) / 2) (twice (start .args .p) (start .pre .0)) (half-of (start .args .p) (start .pre .0)) (the-first-rows .last .1 .1 .1 .1 .1 .1 .1 .1 .1 .1 .1 .0) (the-first-rows .kept .1 .1 .1 .1 .1 .1 .1 .1 .1 .1 .1 .0))
-
-part-second-rows-end : tie.Need-part-second-rows-end
-part-second-rows-end c =
+    omega (arith, rest-fits (start .args .p) (start .args .p) (length (start .args .out .now) / 2) (twice (start .args .p) (start .pre .0)) (half-of (start .args .p) (start .pre .0)) (the-first-rows .last .1 .1 .1 .1 .1 .1 .1 .1 .1 .1 .1 .0) (the-first-rows .kept .1 .1 .1 .1 .1 .1 .1 .1 .1 .1 .1 .0)))
+    (λ c.
     let the-first-rows = c .before .before .before .before .before .before .before .before .before .before .before .before .first-rows in
     let start = c .before .before .before .before .before .before .before .before .before .before .before .before .before .before .before .before .before .before .before .before .before .before .before .before in
-    omega (arith, rest-fits (start .args .p) (start .args .p) (length (start .args .out .now) / 2) (twice (start .args .p) (start .pre .0)) (half-of (start .args .p) (start .pre .0)) (the-first-rows .last .1 .1 .1 .1 .1 .1 .1 .1 .1 .1 .1 .0) (the-first-rows .kept .1 .1 .1 .1 .1 .1 .1 .1 .1 .1 .1 .0))
-
-second-rows-requires : tie.Need-second-rows-requires
-second-rows-requires c κs =
+    omega (arith, rest-fits (start .args .p) (start .args .p) (length (start .args .out .now) / 2) (twice (start .args .p) (start .pre .0)) (half-of (start .args .p) (start .pre .0)) (the-first-rows .last .1 .1 .1 .1 .1 .1 .1 .1 .1 .1 .1 .0) (the-first-rows .kept .1 .1 .1 .1 .1 .1 .1 .1 .1 .1 .1 .0)))
+    (λ c κs.
     let the-first-rows = c .before .before .before .before .before .before .before .before .before .before .before .before .before .first-rows in
     let start = c .before .before .before .before .before .before .before .before .before .before .before .before .before .before .before .before .before .before .before .before .before .before .before .before .before in
-    (rest-rows (start .args .p) (start .args .p) (length (start .args .out .now) / 2) (twice (start .args .p) (start .pre .0)) (half-of (start .args .p) (start .pre .0)) (the-first-rows .last .1 .1 .1 .1 .1 .1 .1 .1 .1 .1 .1 .0) (the-first-rows .kept .1 .1 .1 .1 .1 .1 .1 .1 .1 .1 .1 .0), ((start .pre .1 .0 .0, (start .pre .1 .0 .1 .0, (start .pre .1 .0 .1 .1 .0, vector-kept (start .pre .1 .1 .1 .0) (c .before .before .before .before .before .before .before .difference .kept .1 .1 .1 .0)))), (sub-small _ _ (omega (arith, start .pre .0 .modulus)) (c .before .before .before .before .sub .ensures), (start .pre .1 .1 .1 .1 .0, vector-kept (start .pre .1 .1 .1 .1 .1) (the-first-rows .kept .1 .1 .1 .1 .1 .1 .1 .1 .1 .1 .0)))))
-
-same-length : tie.Need-same-length
-same-length c = c .before .before .before .before .before .before .before .before .before .before .before .before .before .before .difference .kept .1 .1 .1 .0
-
-same-length-2 : tie.Need-same-length-2
-same-length-2 c = c .before .before .before .before .before .before .second-rows .kept .1 .1 .1 .1 .1 .1 .1 .1 .1 .1 .0
-
-same-length-3 : tie.Need-same-length-3
-same-length-3 c = c .before .before .before .before .before .before .second-rows .kept .1 .1 .1 .1 .1 .1 .1 .1 .1 .1 .1 .0 ∙ c .before .before .before .before .before .before .before .before .before .before .before .before .before .before .before .before .before .before .before .before .first-rows .kept .1 .1 .1 .1 .1 .1 .1 .1 .1 .1 .0
-
-same-length-4 : tie.Need-same-length-4
-same-length-4 c =
+    (rest-rows (start .args .p) (start .args .p) (length (start .args .out .now) / 2) (twice (start .args .p) (start .pre .0)) (half-of (start .args .p) (start .pre .0)) (the-first-rows .last .1 .1 .1 .1 .1 .1 .1 .1 .1 .1 .1 .0) (the-first-rows .kept .1 .1 .1 .1 .1 .1 .1 .1 .1 .1 .1 .0), ((start .pre .1 .0 .0, (start .pre .1 .0 .1 .0, (start .pre .1 .0 .1 .1 .0, vector-kept (start .pre .1 .1 .1 .0) (c .before .before .before .before .before .before .before .difference .kept .1 .1 .1 .0)))), (sub-small _ _ (omega (arith, start .pre .0 .modulus)) (c .before .before .before .before .sub .ensures), (start .pre .1 .1 .1 .1 .0, vector-kept (start .pre .1 .1 .1 .1 .1) (the-first-rows .kept .1 .1 .1 .1 .1 .1 .1 .1 .1 .1 .0))))))
+    (λ c. c .before .before .before .before .before .before .before .before .before .before .before .before .before .before .difference .kept .1 .1 .1 .0)
+    (λ c. c .before .before .before .before .before .before .second-rows .kept .1 .1 .1 .1 .1 .1 .1 .1 .1 .1 .0)
+    (λ c. c .before .before .before .before .before .before .second-rows .kept .1 .1 .1 .1 .1 .1 .1 .1 .1 .1 .1 .0 ∙ c .before .before .before .before .before .before .before .before .before .before .before .before .before .before .before .before .before .before .before .before .first-rows .kept .1 .1 .1 .1 .1 .1 .1 .1 .1 .1 .0)
+    (λ c.
     let the-second-rows = c .before .before .before .before .before .before .second-rows in
     let the-first-rows = c .before .before .before .before .before .before .before .before .before .before .before .before .before .before .before .before .before .before .before .before .first-rows in
     let start = c .before .before .before .before .before .before .before .before .before .before .before .before .before .before .before .before .before .before .before .before .before .before .before .before .before .before .before .before .before .before .before .before in
-    both-length (start .args .p) (start .args .p) (length (start .args .out .now) / 2) (twice (start .args .p) (start .pre .0)) (half-of (start .args .p) (start .pre .0)) (the-first-rows .last .1 .1 .1 .1 .1 .1 .1 .1 .1 .1 .1 .0) (the-first-rows .kept .1 .1 .1 .1 .1 .1 .1 .1 .1 .1 .1 .0) (the-second-rows .last .1 .1 .1 .1 .1 .1 .1 .1 .1 .1 .1 .1 .0) (the-second-rows .kept .1 .1 .1 .1 .1 .1 .1 .1 .1 .1 .1 .1 .0)
-
-returns : tie.Need-returns
-unfolding productRows
-returns c =
+    both-length (start .args .p) (start .args .p) (length (start .args .out .now) / 2) (twice (start .args .p) (start .pre .0)) (half-of (start .args .p) (start .pre .0)) (the-first-rows .last .1 .1 .1 .1 .1 .1 .1 .1 .1 .1 .1 .0) (the-first-rows .kept .1 .1 .1 .1 .1 .1 .1 .1 .1 .1 .1 .0) (the-second-rows .last .1 .1 .1 .1 .1 .1 .1 .1 .1 .1 .1 .1 .0) (the-second-rows .kept .1 .1 .1 .1 .1 .1 .1 .1 .1 .1 .1 .1 .0))
+    (λ c.
     let the-second-rows = c .before .before .before .before .before .before .second-rows in
     let the-first-rows = c .before .before .before .before .before .before .before .before .before .before .before .before .before .before .before .before .before .before .before .before .first-rows in
     let start = c .before .before .before .before .before .before .before .before .before .before .before .before .before .before .before .before .before .before .before .before .before .before .before .before .before .before .before .before .before .before .before .before in
-    both-parts (start .args .p) (start .args .p) (length (start .args .out .now) / 2) (twice (start .args .p) (start .pre .0)) (half-of (start .args .p) (start .pre .0)) (the-first-rows .last .1 .1 .1 .1 .1 .1 .1 .1 .1 .1 .1 .0) (the-first-rows .kept .1 .1 .1 .1 .1 .1 .1 .1 .1 .1 .1 .0) (the-first-rows .ensures) (the-second-rows .kept .1 .1 .1 .1 .1 .1 .1 .1 .1 .1 .1 .1 .0) (second-as _ _ _ _ _ _ _ _ (c .before .before .before .before .before .before .before .before .before .before .before .before .before .before .difference .ensures) (c .before .before .before .before .before .before .before .before .before .before .before .sub .ensures) (the-second-rows .ensures))
-
-pub put-product-spec : {M : Type 1} → statement M
-put-product-spec = tie.close (tie.spec slice-relend-prefix-first-rows slice-aggregate-first-rows first-rows-requires difference-requires sub-requires sub-second-rows part-second-rows-start part-second-rows-end second-rows-requires same-length same-length-2 same-length-3 same-length-4 returns)
+    both-parts (start .args .p) (start .args .p) (length (start .args .out .now) / 2) (twice (start .args .p) (start .pre .0)) (half-of (start .args .p) (start .pre .0)) (the-first-rows .last .1 .1 .1 .1 .1 .1 .1 .1 .1 .1 .1 .0) (the-first-rows .kept .1 .1 .1 .1 .1 .1 .1 .1 .1 .1 .1 .0) (the-first-rows .ensures) (the-second-rows .kept .1 .1 .1 .1 .1 .1 .1 .1 .1 .1 .1 .1 .0) (second-as _ _ _ _ _ _ _ _ (c .before .before .before .before .before .before .before .before .before .before .before .before .before .before .difference .ensures) (c .before .before .before .before .before .before .before .before .before .before .before .sub .ensures) (the-second-rows .ensures))))

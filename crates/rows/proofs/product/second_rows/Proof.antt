@@ -19,53 +19,32 @@ Inv-loop w n k p offset a ma b second m2 base₀ work₀ out₀ m at₀ beta₀ 
 abbrev μ-loop : tie.MeasureT-loop
 μ-loop w n k p offset a ma b second m2 base₀ work₀ out₀ m at₀ beta₀ base work out at beta = p - beta
 
-loop-holds : tie.Need-loop-holds Inv-loop μ-loop
-loop-holds c =
+pub second-rows-spec : {M : Type 1} → statement M
+second-rows-spec =
+    tie.close
+    (tie.spec
+    Inv-loop
+    μ-loop
+    (λ c.
     let start = c .before .before .before .before .before .before .before in
-    (start .pre .1 .1 .1 .0, (start .pre .1 .1 .1 .1, level-start (omega (arith, start .pre .0 .size))))
-
-add-to : tie.Need-add-to Inv-loop μ-loop
-add-to c = omega (arith, next-room (c .before .before .before .before .before .before .before .before .before .pre .1 .0 .1 .1 .1) (c .before .loop .inv .1 .1) (c .loop-test .taken))
-
-sub-second-row : tie.Need-sub-second-row Inv-loop μ-loop
-sub-second-row c = omega arith
-
-part-second-row-start : tie.Need-part-second-row-start Inv-loop μ-loop
-part-second-row-start c = omega (arith, next-fits (c .before .before .before .before .before .before .before .before .before .before .before .pre .1 .0 .1 .1 .1) (c .before .before .before .loop .inv .1 .1) (c .before .before .loop-test .taken))
-
-part-second-row-end : tie.Need-part-second-row-end Inv-loop μ-loop
-part-second-row-end c = omega (arith, next-fits (c .before .before .before .before .before .before .before .before .before .before .before .pre .1 .0 .1 .1 .1) (c .before .before .before .loop .inv .1 .1) (c .before .before .loop-test .taken))
-
-second-row-requires : tie.Need-second-row-requires Inv-loop μ-loop
-second-row-requires c κs =
+    (start .pre .1 .1 .1 .0, (start .pre .1 .1 .1 .1, level-start (omega (arith, start .pre .0 .size)))))
+    (λ c. omega (arith, next-room (c .before .before .before .before .before .before .before .before .before .pre .1 .0 .1 .1 .1) (c .before .loop .inv .1 .1) (c .loop-test .taken)))
+    (λ c. omega arith)
+    (λ c. omega (arith, next-fits (c .before .before .before .before .before .before .before .before .before .before .before .pre .1 .0 .1 .1 .1) (c .before .before .before .loop .inv .1 .1) (c .before .before .loop-test .taken)))
+    (λ c. omega (arith, next-fits (c .before .before .before .before .before .before .before .before .before .before .before .pre .1 .0 .1 .1 .1) (c .before .before .before .loop .inv .1 .1) (c .before .before .loop-test .taken)))
+    (λ c κs.
     let the-loop-test = c .before .before .before .loop-test in
     let the-loop = c .before .before .before .before .loop in
     let start = c .before .before .before .before .before .before .before .before .before .before .before .before in
-    (next-part (start .pre .1 .0 .1 .1 .1) (the-loop .inv .1 .1) (the-loop-test .taken) (start .pre .0), (start .pre .1 .0, ((the-loop-test .taken, start .pre .1 .1 .0), (the-loop .inv .0, the-loop .inv .1 .0))))
-
-add-beta : tie.Need-add-beta Inv-loop μ-loop
-add-beta c = omega (arith, c .before .before .before .before .before .before .before .before .before .before .loop-test .taken)
-
-loop-less : tie.Need-loop-less Inv-loop μ-loop
-loop-less c = omega (arith, c .before .before .before .before .before .before .before .before .before .before .loop-test .taken)
-
-loop-again : tie.Need-loop-again Inv-loop μ-loop
-loop-again c =
+    (next-part (start .pre .1 .0 .1 .1 .1) (the-loop .inv .1 .1) (the-loop-test .taken) (start .pre .0), (start .pre .1 .0, ((the-loop-test .taken, start .pre .1 .1 .0), (the-loop .inv .0, the-loop .inv .1 .0)))))
+    (λ c. omega (arith, c .before .before .before .before .before .before .before .before .before .before .loop-test .taken))
+    (λ c. omega (arith, c .before .before .before .before .before .before .before .before .before .before .loop-test .taken))
+    (λ c.
+    let turn = c .before .before .before .before .before .before .before .before .before .before in
     let the-second-row = c .before .before .before .before .before .before .second-row in
-    let the-loop = c .before .before .before .before .before .before .before .before .before .before .before .loop in
-    (vector-kept (the-loop .inv .0) (the-second-row .kept .1 .1 .1 .1 .1 .1 .1 .1 .1 .1 .1 .0), (vector-kept (the-loop .inv .1 .0) (the-second-row .kept .1 .1 .1 .1 .1 .1 .1 .1 .1 .1 .1 .1 .0), next-row (c .before .before .before .before .before .before .before .before .before .before .before .before .before .before .before .before .before .before .before .pre .1 .0 .1 .1 .1) (the-loop .inv .1 .1) (c .before .before .before .before .before .before .before .before .before .before .loop-test .taken) (the-second-row .kept .1 .1 .1 .1 .1 .1 .1 .1 .1 .1 .1 .1 .1 .0) (the-second-row .ensures)))
-
-same-length : tie.Need-same-length Inv-loop μ-loop
-same-length c = c .before .loop .inv .0 .size ∙ sym (c .before .before .before .before .before .before .before .before .before .pre .1 .1 .1 .0 .size)
-
-same-length-2 : tie.Need-same-length-2 Inv-loop μ-loop
-same-length-2 c = c .before .loop .inv .1 .0 .size ∙ sym (c .before .before .before .before .before .before .before .before .before .pre .1 .1 .1 .1 .size)
-
-same-length-3 : tie.Need-same-length-3 Inv-loop μ-loop
-same-length-3 c = c .before .loop .inv .1 .1 .kept
-
-returns : tie.Need-returns Inv-loop μ-loop
-returns c = level-whole (c .before .loop .inv .1 .1) (c .loop-test .left) (c .before .before .before .before .before .before .before .before .before .pre .0 .size)
-
-pub second-rows-spec : {M : Type 1} → statement M
-second-rows-spec = tie.close (tie.spec Inv-loop μ-loop loop-holds add-to sub-second-row part-second-row-start part-second-row-end second-row-requires add-beta loop-less loop-again same-length same-length-2 same-length-3 returns)
+    let the-loop = turn .before .loop in
+    (vector-kept (the-loop .inv .0) (the-second-row .kept .1 .1 .1 .1 .1 .1 .1 .1 .1 .1 .1 .0), (vector-kept (the-loop .inv .1 .0) (the-second-row .kept .1 .1 .1 .1 .1 .1 .1 .1 .1 .1 .1 .1 .0), next-row (c .before .before .before .before .before .before .before .before .before .before .before .before .before .before .before .before .before .before .before .pre .1 .0 .1 .1 .1) (the-loop .inv .1 .1) (turn .loop-test .taken) (the-second-row .kept .1 .1 .1 .1 .1 .1 .1 .1 .1 .1 .1 .1 .1 .0) (the-second-row .ensures))))
+    (λ c. c .before .loop .inv .0 .size ∙ sym (c .before .before .before .before .before .before .before .before .before .pre .1 .1 .1 .0 .size))
+    (λ c. c .before .loop .inv .1 .0 .size ∙ sym (c .before .before .before .before .before .before .before .before .before .pre .1 .1 .1 .1 .size))
+    (λ c. c .before .loop .inv .1 .1 .kept)
+    (λ c. level-whole (c .before .loop .inv .1 .1) (c .loop-test .left) (c .before .before .before .before .before .before .before .before .before .pre .0 .size)))

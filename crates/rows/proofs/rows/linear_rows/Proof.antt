@@ -20,57 +20,34 @@ Inv-loop w component n k p zero base start step offset work₀ out₀ m at₀ al
 abbrev μ-loop : tie.MeasureT-loop
 μ-loop w component n k p zero base start step offset work₀ out₀ m at₀ alpha₀ work out at alpha = p - alpha
 
-loop-holds : tie.Need-loop-holds Inv-loop μ-loop
-loop-holds c =
+pub linear-rows-spec : {M : Type 1} → statement M
+unfolding linearRows
+linear-rows-spec =
+    tie.close
+    (tie.spec
+    Inv-loop
+    μ-loop
+    (λ c.
     let start = c .before .before .before .before .before in
-    (start .pre .1 .1 .1, level-start (omega (arith, start .pre .0 .size)))
-
-add-to : tie.Need-add-to Inv-loop μ-loop
-add-to c = omega (arith, next-room (c .before .before .before .before .before .before .before .pre .1 .0 .0) (c .before .loop .inv .1) (c .loop-test .taken))
-
-mul-requires : tie.Need-mul-requires Inv-loop μ-loop
-mul-requires c κs = omega (arith, c .loop-test .taken)
-
-add-requires : tie.Need-add-requires Inv-loop μ-loop
-add-requires c κs = (c .before .before .before .before .before .before .before .before .pre .1 .1 .0, mul-small _ _ (omega (arith, c .before .loop-test .taken)) (c .mul .ensures))
-
-sub-put-keyed-row : tie.Need-sub-put-keyed-row Inv-loop μ-loop
-sub-put-keyed-row c = omega arith
-
-part-put-keyed-row-start : tie.Need-part-put-keyed-row-start Inv-loop μ-loop
-part-put-keyed-row-start c = omega (arith, next-fits (c .before .before .before .before .before .before .before .before .before .before .pre .1 .0 .0) (c .before .before .before .before .loop .inv .1) (c .before .before .before .loop-test .taken))
-
-part-put-keyed-row-end : tie.Need-part-put-keyed-row-end Inv-loop μ-loop
-part-put-keyed-row-end c = omega (arith, next-fits (c .before .before .before .before .before .before .before .before .before .before .pre .1 .0 .0) (c .before .before .before .before .loop .inv .1) (c .before .before .before .loop-test .taken))
-
-put-keyed-row-requires : tie.Need-put-keyed-row-requires Inv-loop μ-loop
-put-keyed-row-requires c κs =
+    (start .pre .1 .1 .1, level-start (omega (arith, start .pre .0 .size))))
+    (λ c. omega (arith, next-room (c .before .before .before .before .before .before .before .pre .1 .0 .0) (c .before .loop .inv .1) (c .loop-test .taken)))
+    (λ c κs. omega (arith, c .loop-test .taken))
+    (λ c κs. (c .before .before .before .before .before .before .before .before .pre .1 .1 .0, mul-small _ _ (omega (arith, c .before .loop-test .taken)) (c .mul .ensures)))
+    (λ c. omega arith)
+    (λ c. omega (arith, next-fits (c .before .before .before .before .before .before .before .before .before .before .pre .1 .0 .0) (c .before .before .before .before .loop .inv .1) (c .before .before .before .loop-test .taken)))
+    (λ c. omega (arith, next-fits (c .before .before .before .before .before .before .before .before .before .before .pre .1 .0 .0) (c .before .before .before .before .loop .inv .1) (c .before .before .before .loop-test .taken)))
+    (λ c κs.
     let the-loop-test = c .before .before .before .before .loop-test in
     let the-loop = c .before .before .before .before .before .loop in
     let start = c .before .before .before .before .before .before .before .before .before .before .before in
-    ((next-part (start .pre .1 .0 .0) (the-loop .inv .1) (the-loop-test .taken) (start .pre .0), omega (arith, the-loop-test .taken)), ((start .pre .1 .0 .0, (start .pre .1 .0 .1 .1, (start .pre .1 .0 .1 .0, start .pre .1 .0 .1 .1))), the-loop .inv .0))
-
-add-alpha : tie.Need-add-alpha Inv-loop μ-loop
-add-alpha c = omega (arith, c .before .before .before .before .before .before .before .before .before .loop-test .taken)
-
-loop-less : tie.Need-loop-less Inv-loop μ-loop
-loop-less c = omega (arith, c .before .before .before .before .before .before .before .before .before .loop-test .taken)
-
-loop-again : tie.Need-loop-again Inv-loop μ-loop
-loop-again c =
+    ((next-part (start .pre .1 .0 .0) (the-loop .inv .1) (the-loop-test .taken) (start .pre .0), omega (arith, the-loop-test .taken)), ((start .pre .1 .0 .0, (start .pre .1 .0 .1 .1, (start .pre .1 .0 .1 .0, start .pre .1 .0 .1 .1))), the-loop .inv .0)))
+    (λ c. omega (arith, c .before .before .before .before .before .before .before .before .before .loop-test .taken))
+    (λ c. omega (arith, c .before .before .before .before .before .before .before .before .before .loop-test .taken))
+    (λ c.
+    let turn = c .before .before .before .before .before .before .before .before .before in
     let the-put-keyed-row = c .before .before .before .before .put-keyed-row in
-    let the-loop = c .before .before .before .before .before .before .before .before .before .before .loop in
-    (vector-kept (the-loop .inv .0) (the-put-keyed-row .kept .1 .1 .1 .1 .1 .1 .1 .1 .1 .1 .1 .1 .0), next-row (c .before .before .before .before .before .before .before .before .before .before .before .before .before .before .before .before .pre .1 .0 .0) (the-loop .inv .1) (c .before .before .before .before .before .before .before .before .before .loop-test .taken) (the-put-keyed-row .kept .1 .1 .1 .1 .1 .1 .1 .1 .1 .1 .1 .1 .1 .0) (linear-row _ _ _ _ _ _ _ _ _ _ _ (c .before .before .before .before .before .before .before .before .mul .ensures) (c .before .before .before .before .before .before .before .add .ensures) (the-put-keyed-row .ensures)))
-
-same-length : tie.Need-same-length Inv-loop μ-loop
-same-length c = c .before .loop .inv .0 .size ∙ sym (c .before .before .before .before .before .before .before .pre .1 .1 .1 .size)
-
-same-length-2 : tie.Need-same-length-2 Inv-loop μ-loop
-same-length-2 c = c .before .loop .inv .1 .kept
-
-returns : tie.Need-returns Inv-loop μ-loop
-unfolding linearRows
-returns c = level-whole (c .before .loop .inv .1) (c .loop-test .left) (c .before .before .before .before .before .before .before .pre .0 .size)
-
-pub linear-rows-spec : {M : Type 1} → statement M
-linear-rows-spec = tie.close (tie.spec Inv-loop μ-loop loop-holds add-to mul-requires add-requires sub-put-keyed-row part-put-keyed-row-start part-put-keyed-row-end put-keyed-row-requires add-alpha loop-less loop-again same-length same-length-2 returns)
+    let the-loop = turn .before .loop in
+    (vector-kept (the-loop .inv .0) (the-put-keyed-row .kept .1 .1 .1 .1 .1 .1 .1 .1 .1 .1 .1 .1 .0), next-row (c .before .before .before .before .before .before .before .before .before .before .before .before .before .before .before .before .pre .1 .0 .0) (the-loop .inv .1) (turn .loop-test .taken) (the-put-keyed-row .kept .1 .1 .1 .1 .1 .1 .1 .1 .1 .1 .1 .1 .1 .0) (linear-row _ _ _ _ _ _ _ _ _ _ _ (c .before .before .before .before .before .before .before .before .mul .ensures) (c .before .before .before .before .before .before .before .add .ensures) (the-put-keyed-row .ensures))))
+    (λ c. c .before .loop .inv .0 .size ∙ sym (c .before .before .before .before .before .before .before .pre .1 .1 .1 .size))
+    (λ c. c .before .loop .inv .1 .kept)
+    (λ c. level-whole (c .before .loop .inv .1) (c .loop-test .left) (c .before .before .before .before .before .before .before .pre .0 .size)))

@@ -7,22 +7,16 @@ use Rattle.rows.proofs.Messages.{row-asked, row-sizes, row-made}
 use Rattle.rows.proofs.rows.put_row.Statement.{statement}
 use Rattle.rows.proofs.rows.put_row.Tie as tie
 
-key-of-requires : tie.Need-key-of-requires
-key-of-requires c κs =
+pub put-row-spec : {M : Type 1} → statement M
+put-row-spec =
+    tie.close
+    (tie.spec
+    (λ c κs.
     let start = c .before .before .before .before .before in
-    (aligned (omega (arith, start .pre .0 .modulus)) (start .pre .1 .1 .0) (start .pre .1 .1 .1), same-size (one-row (start .pre .0)) (start .pre .1 .1 .0))
-
-add-pad-row-requires : tie.Need-add-pad-row-requires
-add-pad-row-requires c κs =
+    (aligned (omega (arith, start .pre .0 .modulus)) (start .pre .1 .1 .0) (start .pre .1 .1 .1), same-size (one-row (start .pre .0)) (start .pre .1 .1 .0)))
+    (λ c κs.
     let the-key-of = c .before .before .before .key-of in
     let start = c .before .before .before .before .before .before .before .before .before in
-    (row-asked _ _ _ (start .pre .0) (the-key-of .ensures), row-sizes (start .pre .0) (start .pre .1 .0) (the-key-of .kept .1 .1 .1 .1 .0))
-
-same-length : tie.Need-same-length
-same-length c = c .before .before .add-pad-row .kept .1 .1 .1 .1 .1 .1 .1 .0 ∙ c .before .before .before .before .before .before .key-of .kept .1 .1 .1 .1 .0
-
-returns : tie.Need-returns
-returns c = row-made _ _ _ _ _ _ _ _ _ _ (c .before .before .before .before .before .before .key-of .ensures) (c .before .before .add-pad-row .ensures)
-
-pub put-row-spec : {M : Type 1} → statement M
-put-row-spec = tie.close (tie.spec key-of-requires add-pad-row-requires same-length returns)
+    (row-asked _ _ _ (start .pre .0) (the-key-of .ensures), row-sizes (start .pre .0) (start .pre .1 .0) (the-key-of .kept .1 .1 .1 .1 .0)))
+    (λ c. c .before .before .add-pad-row .kept .1 .1 .1 .1 .1 .1 .1 .0 ∙ c .before .before .before .before .before .before .key-of .kept .1 .1 .1 .1 .0)
+    (λ c. row-made _ _ _ _ _ _ _ _ _ _ (c .before .before .before .before .before .before .key-of .ensures) (c .before .before .add-pad-row .ensures)))

@@ -6,17 +6,11 @@ use borrow.Author.Needs.{needs}
 use Rattle.rows.proofs.table.image_of.Statement.{statement}
 use Rattle.rows.proofs.table.image_of.Tie as tie
 
-add-entry : tie.Need-add-entry
-add-entry c = search needs
-
-mul-at : tie.Need-mul-at
-mul-at c = search needs
-
-shared-slice-read-result : tie.Need-shared-slice-read-result
-shared-slice-read-result c = search needs
-
-returns : tie.Need-returns
-returns c = image-byte (c .before .args .file .now) (c .before .args .table + c .before .args .v) (c .shared-slice-known .given (4 * (c .before .args .table + c .before .args .v)) .fits)
-
 pub image-of-spec : {M : Type 1} → statement M
-image-of-spec = tie.close (tie.spec add-entry mul-at shared-slice-read-result returns)
+image-of-spec =
+    tie.close
+    (tie.spec
+    (λ c. search needs)
+    (λ c. search needs)
+    (λ c. search needs)
+    (λ c. image-byte (c .before .args .file .now) (c .before .args .table + c .before .args .v) (c .shared-slice-known .given (4 * (c .before .args .table + c .before .args .v)) .fits)))
