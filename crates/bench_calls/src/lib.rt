@@ -5,8 +5,7 @@ ghost use lib.ListN.{length};
 ghost use Rattle.keccak.specs.Keccak.{keccakF};
 ghost use Rattle.shake.specs.Numbers.{numbers};
 ghost use Rattle.shake.specs.Shake.{shake256};
-ghost use Rattle.pads.specs.Moved.{placed};
-ghost use Rattle.pads.specs.Pad.{padInput};
+ghost use Rattle.pads.specs.Pad.{padInput, placed};
 
 // One permutation in place.
 #[no_mangle]

@@ -16,8 +16,8 @@ use Rattle.residue.proofs.Parts.{below-take, below-drop}
 use Rattle.residue.proofs.Ring.Expr.{var}
 use Rattle.residue.proofs.VectorRing.{vring}
 use Rattle.residue.proofs.VectorRing.VExpr.{vec, _⊞_, _⊟_, _⊡_}
-use Rattle.pads.specs.Moved.{Asked, Row, placed}
-use Rattle.pads.specs.Pad.{shakePad, padRow}
+use Rattle.pads.specs.Moved.{Asked, Row}
+use Rattle.pads.specs.Pad.{shakePad, padRow, placed}
 use Rattle.pads.proofs.Sizes.{shakePad-length, padRow-length}
 use Rattle.evaluation.specs.Gate.{bared, productKeys, chooserKeys, choiceKeys}
 use Rattle.session.specs.Sizes.{Sizes, Vector}

@@ -21,11 +21,10 @@ use Rattle.circuit.specs.Accepted.{GateFits, AcceptedCircuit}
 use Rattle.circuit.specs.Accepted.GateFits.{input, scale, multiply, project, select}
 use Rattle.counts.specs.Recipe.{gateRecipe, recipe}
 use Rattle.counts.specs.Counts.{rowsBy, rowsOf}
-use Rattle.pads.specs.Pad.{shakePad, padRow}
+use Rattle.pads.specs.Pad.{shakePad, padRow, placed}
 use Rattle.scheme.specs.Contribution.{recordAt, keyAt, offsetAt, contributionSize}
 use Rattle.scheme.specs.Draw.{Draw, drawn}
 use Rattle.scheme.specs.Zero.{freely, freelyV}
-use Rattle.pads.specs.Moved.{placed}
 use Rattle.scheme.specs.Opening.{Opened, unpadded, rowAt, ownKey, found, searched, openInput, openFree, openTable, openProduct, chosen, corrector, openChoice, openBy}
 use Rattle.scheme.proofs.Contributed.{nth-whole}
 use Rattle.scheme.proofs.Bounds.{positive}

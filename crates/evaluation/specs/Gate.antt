@@ -6,8 +6,7 @@ use mathlib.Core.List.{List}
 use Prim.Native.Nat.{ℕ, _+_}
 use lib.Dec.{eqb}
 use Rattle.residue.specs.Vector.{addV, subV, mulV}
-use Rattle.pads.specs.Pad.{shakePad, padRow}
-use Rattle.pads.specs.Moved.{placed}
+use Rattle.pads.specs.Pad.{shakePad, padRow, placed}
 
 -- select: for 0 the chooser's row alone, for 1 the opener adds the difference's key
 unfoldable pub chooserKeys : Bool → ℕ → List ℕ → List ℕ → List ℕ

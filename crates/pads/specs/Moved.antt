@@ -1,4 +1,4 @@
--- Pads put on or taken off: what the functions ask, and how a contract names a row's place.
+-- Pads put on or taken off, and what the functions ask.
 -- Assumes nothing.
 use mathlib.Core.Path.{_≡_}
 use mathlib.Core.Bool.{Bool, true, false}
@@ -7,11 +7,6 @@ use Prim.Native.Nat.{ℕ, _*_, _%_, _≤_, _<_}
 use lib.ListN.{length}
 use Rattle.residue.specs.Residue.{add, sub}
 use Rattle.residue.specs.Vector.{zipWith, AllBelow}
-use Rattle.pads.specs.Pad.{Under}
-
--- the place of a row, from its numbers
-abbrev pub placed : ℕ → ℕ → ℕ → Under
-placed modulus wire component = record { modulus = modulus; wire = wire; component = component }
 
 -- each number modulo q
 unfoldable pub reduced : ℕ → List ℕ → List ℕ

@@ -18,6 +18,10 @@ pub record Under : Type 0 where
   pub wire : ℕ
   pub component : ℕ
 
+-- the place of a row, from its numbers
+abbrev pub placed : ℕ → ℕ → ℕ → Under
+placed modulus wire component = record { modulus = modulus; wire = wire; component = component }
+
 -- ROWPAD, the sender key's modulus (1 byte), the output wire's number (4 bytes, little-endian), component (1), receiver (1), the K bytes
 -- of the sender's key
 unfoldable pub padInput : Under → ℕ → List ℕ → List ℕ

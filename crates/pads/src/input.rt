@@ -5,8 +5,7 @@ ghost use lib.ListN.{length};
 ghost use Rattle.shake.specs.Numbers.{numbers, bytesOf};
 ghost use Rattle.shake.specs.Shake.{shake256};
 ghost use Rattle.shake.specs.Stream.{withField, empty};
-ghost use Rattle.pads.specs.Pad.{padInput};
-ghost use Rattle.pads.specs.Moved.{placed};
+ghost use Rattle.pads.specs.Pad.{padInput, placed};
 use shake::Sponge;
 
 // One sponge, lent for each of six fields in turn.

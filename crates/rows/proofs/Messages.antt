@@ -14,8 +14,8 @@ use Rattle.residue.proofs.Ring.Expr.{var, _⊕_, _⊖_, _⊗_}
 use Rattle.residue.proofs.VectorRing.{vring}
 use Rattle.residue.proofs.VectorRing.VExpr.{vec, _⊞_, _⊟_, _⊡_}
 use Rattle.residue.proofs.Vectors.{add-below, sub-below, mul-below, keyV-below}
-use Rattle.pads.specs.Pad.{shakePad, padRow}
-use Rattle.pads.specs.Moved.{placed, Asked, Row}
+use Rattle.pads.specs.Pad.{shakePad, padRow, placed}
+use Rattle.pads.specs.Moved.{Asked, Row}
 use Rattle.scheme.specs.Message.{projectMessage, productMessage₀, productMessage₁, chooserMessage₀, chooserMessage₁, correctorMessage₀, correctorMessage₁}
 use Rattle.rows.specs.Gate.{padded, linearRows}
 use Rattle.session.specs.Sizes.{Vector}

@@ -6,8 +6,7 @@ use Prim.Native.Nat.{ℕ}
 use Rattle.lists.specs.Blocks.{blocks}
 use Rattle.residue.specs.Residue.{add, sub, mul}
 use Rattle.residue.specs.Vector.{addV, subV, keyV}
-use Rattle.pads.specs.Pad.{shakePad, padRow}
-use Rattle.pads.specs.Moved.{placed}
+use Rattle.pads.specs.Pad.{shakePad, padRow, placed}
 use Rattle.scheme.specs.Message.{projectMessage, productMessage₀, productMessage₁, chooserMessage₀, chooserMessage₁, correctorMessage₀, correctorMessage₁}
 
 module _ (n K w : ℕ) where

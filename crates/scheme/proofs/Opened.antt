@@ -30,8 +30,7 @@ use Rattle.plain.specs.Plain.{chosenBy, plainBy, plainValues}
 use Rattle.scheme.specs.Draw.{Draw}
 use Rattle.scheme.specs.Zero.{freely, freelyV, zeroKeyBy, maskBy, zeroKey, mask}
 use Rattle.scheme.specs.Message.{projectMessage}
-use Rattle.pads.specs.Pad.{Pad, Under, padRow}
-use Rattle.pads.specs.Moved.{placed}
+use Rattle.pads.specs.Pad.{Pad, Under, padRow, placed}
 use Rattle.scheme.specs.Rows.{image, row, projectRow, productRow₀, productRow₁, differenceKey, differenceMask, chooserRow, correctorRow₀, correctorRow₁, garbledRows}
 use Rattle.search.specs.Search.{multiplier}
 use Rattle.scheme.specs.Opening.{Opened, nothing, unpadded, rowAt, ownKey, found, searched, openInput, openFree, openTable, openProduct, chosen, corrector, openChoice, openBy, opened}

@@ -18,8 +18,7 @@ use Rattle.counts.specs.Recipe.{recipe}
 use Rattle.counts.specs.Counts.{rowsOf}
 use Rattle.scheme.specs.Draw.{Draw}
 use Rattle.scheme.specs.Zero.{freely, freelyV}
-use Rattle.pads.specs.Pad.{Pad, Under, padRow}
-use Rattle.pads.specs.Moved.{placed}
+use Rattle.pads.specs.Pad.{Pad, Under, padRow, placed}
 use Rattle.search.specs.Search.{multiplier}
 
 -- a wire that is opened: all parties' keys, the external value, and whether a multiplier fits; true where none is searched

@@ -17,8 +17,7 @@ use Rattle.counts.specs.declared.recipe.Recipe.the-variants.{Entered, Free, Tab
 use Rattle.counts.specs.Recipe.{recipe}
 use Rattle.scheme.specs.Draw.{Draw}
 use Rattle.scheme.specs.Zero.{zeroKey, mask}
-use Rattle.pads.specs.Pad.{Pad, Under, padRow}
-use Rattle.pads.specs.Moved.{placed}
+use Rattle.pads.specs.Pad.{Pad, Under, padRow, placed}
 use Rattle.scheme.specs.Message.{projectMessage, productMessage₀, productMessage₁, chooserMessage₀, chooserMessage₁, correctorMessage₀, correctorMessage₁}
 
 -- the image of a value by a gate's table: a projection's table starts at a word of the file; nothing asks it of another gate

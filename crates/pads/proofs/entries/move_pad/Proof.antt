@@ -5,8 +5,7 @@ use native.Mathlib.Omega.{arith}
 use borrow.Author.Needs.{needs}
 use lib.ListN.{length}
 use lib.Seq.{length-take-le, length-front}
-use Rattle.pads.specs.Moved.{placed}
-use Rattle.pads.specs.Pad.{padInput}
+use Rattle.pads.specs.Pad.{padInput, placed}
 use Rattle.pads.proofs.Reduced.{front-back, pad-moved}
 use Rattle.pads.proofs.entries.move_pad.Statement.{statement}
 use Rattle.pads.proofs.entries.move_pad.Tie as tie

@@ -5,7 +5,7 @@ use Prim.Native.Nat.{_-_, _*_}
 use native.Mathlib.Omega.{arith}
 use lib.ListN.{length}
 use Rattle.lists.proofs.Steps.{level-start, steps-fits, steps-long}
-use Rattle.pads.specs.Moved.{placed}
+use Rattle.pads.specs.Pad.{placed}
 use Rattle.pads.proofs.Moving.{Done, receiver-asked, receivers-more, receivers-all}
 use Rattle.pads.proofs.entries.move_pad_row.Statement.{statement}
 use Rattle.pads.proofs.entries.move_pad_row.Tie as tie

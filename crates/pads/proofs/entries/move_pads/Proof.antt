@@ -5,8 +5,8 @@ use Prim.Native.Nat.{_-_, _≤_}
 use native.Mathlib.Omega.{arith}
 use lib.ListN.{length}
 use Rattle.lists.proofs.Sums.{times-fits}
-use Rattle.pads.specs.Moved.{moved, placed}
-use Rattle.pads.specs.Pad.{shakePad, padSum}
+use Rattle.pads.specs.Moved.{moved}
+use Rattle.pads.specs.Pad.{shakePad, padSum, placed}
 use Rattle.pads.proofs.Moving.{senders-none, senders-length, senders-asked, senders-more}
 use Rattle.pads.proofs.entries.move_pads.Statement.{statement}
 use Rattle.pads.proofs.entries.move_pads.Tie as tie

@@ -5,8 +5,7 @@ use borrow.Author.Needs.{needs}
 use Rattle.shake.specs.Numbers.{numbers}
 use Rattle.shake.proofs.Whole.{field-place, is-shake256}
 use Rattle.pads.proofs.Taken.{input-bytes}
-use Rattle.pads.specs.Moved.{placed}
-use Rattle.pads.specs.Pad.{padInput}
+use Rattle.pads.specs.Pad.{padInput, placed}
 use Rattle.pads.proofs.input.pad_numbers.Statement.{statement}
 use Rattle.pads.proofs.input.pad_numbers.Tie as tie
 

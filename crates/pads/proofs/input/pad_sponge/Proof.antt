@@ -2,8 +2,7 @@
 -- Assumes nothing.
 use borrow.Author.Needs.{needs}
 use Rattle.pads.proofs.Taken.{takes-input}
-use Rattle.pads.specs.Moved.{placed}
-use Rattle.pads.specs.Pad.{rowpad}
+use Rattle.pads.specs.Pad.{rowpad, placed}
 use Rattle.pads.proofs.input.pad_sponge.Statement.{statement}
 use Rattle.pads.proofs.input.pad_sponge.Tie as tie
 
