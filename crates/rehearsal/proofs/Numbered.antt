@@ -9,14 +9,15 @@ use Rattle.checks.specs.declared.Refusal.the-variants.{NoHead, UnknownWord, Not
 use Rattle.checks.specs.Answer.{numberOf}
 use Rattle.checks.specs.Checked.{Checked, Reports, andThen}
 use Rattle.checks.specs.Checked.Checked.{passed, refused}
-use Rattle.checks.specs.Checked.Reports.{accepts, names, namesSome}
+use Rattle.checks.specs.Checked.Meets.{accepts, names, namesSome}
+use Rattle.checks.specs.Checked.Reports.{reports}
 use Rattle.rehearsal.specs.All.{numberAt, Says, followed}
 
 pub said : {checks : Checked} {number place : ℕ} → Reports checks number place → Says checks number
 unfolding numberAt
-said accepts = record { is = refl }
-said names = record { is = refl }
-said (namesSome t) = record { is = refl }
+said (reports accepts) = record { is = refl }
+said (reports names) = record { is = refl }
+said (reports (namesSome t)) = record { is = refl }
 
 -- no refusal has number 0
 not-zero : (reason : Refusal) → eqb (numberOf reason) 0 ≡ false
