@@ -1,7 +1,10 @@
 #!/usr/bin/env python3
-"""Prints the two rows of the circuit in crates/examples/proofs/Row.antt, for both receivers: a bit projected to 7 and 200 modulo 251, two
-parties, key length 1. Written from document 01; SHAKE256 is python's hashlib."""
+"""Prints the two rows of the circuit in crates/examples/specs/Row.antt, for both receivers: a bit projected to 7 and 200 modulo 251, two
+parties, key length 1. Written from document 01; SHAKE256 is python's hashlib. Row 0 must be the one that is written there, which the prover
+computes from the definitions."""
 import hashlib
+import pathlib
+import re
 
 # of each party: offsets modulo 2 and 251; zero key and mask share of the bit; zero key and mask share of its image
 CONTRIBUTIONS = [[1, 100, 1, 0, 33, 17], [1, 9, 0, 1, 250, 90]]
@@ -25,3 +28,8 @@ def row(alpha):
 
 
 print(row(0), row(1))
+text = (pathlib.Path(__file__).parent.parent / "crates/examples/specs/Row.antt").read_text(encoding="utf-8")
+written = [int(byte) for byte in re.search(r"^computed = (.*) ∷ \[\]$", text, re.M).group(1).split(" ∷ ")]
+same = written == row(0)
+print(f"{int(same)} passed, {int(not same)} failed")
+raise SystemExit(not same)
