@@ -35,8 +35,7 @@ use Rattle.exchange.specs.Either.{eitherChecked}
 use Rattle.exchange.specs.Decoding.{Masked, Decodes}
 use Rattle.exchange.proofs.TableLoops.{front-moduli}
 use Rattle.exchange.proofs.TwoBuffers.{either-as}
-use Rattle.exchange.proofs.Lent.{lent-is}
-use Rattle.exchange.proofs.Ending.{stage-passed, stage-next, stage-refused, fails-left, fails-right, fails-guarded, read-met, check-accepted, circuit-accepted, ends-written, ends-refused}
+use Rattle.exchange.proofs.Ending.{lent-is, stage-passed, stage-next, stage-refused, fails-left, fails-right, fails-guarded, read-met, check-accepted, circuit-accepted, ends-written, ends-refused}
 
 -- ---- 15
 

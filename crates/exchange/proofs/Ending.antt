@@ -1,10 +1,11 @@
 -- How a call goes on and ends: after the reader's answer, after a stage of checks, with its buffer written or left.
 -- Assumes nothing.
-use mathlib.Core.Path.{_≡_, refl, sym, subst, _∙_}
+use mathlib.Core.Path.{_≡_, refl, sym, ap, subst, _∙_}
 use mathlib.Core.Bool.{Bool, true, false, _&&_, _||_}
 use mathlib.Core.List.{List}
 use Prim.Native.Nat.{ℕ}
 use native.Mathlib.Omega.{arith}
+use lib.ListN.{getD}
 use Rattle.checks.specs.declared.Answer.{Answer}
 use Rattle.checks.specs.declared.Answer.the-variants.{Accepted, Refused}
 use Rattle.checks.specs.declared.Refusal.{Refusal}
@@ -18,7 +19,8 @@ use Rattle.circuit.specs.File.{readFile}
 use Rattle.circuit.specs.Accepted.{AcceptedCircuit}
 use Rattle.circuit.specs.Held.{wiresIn, outputsIn, Holds}
 use Rattle.circuit.proofs.Accepted.{accepted}
-use Rattle.session.specs.Session.{fileChecked}
+use Rattle.session.specs.Session.{fileChecked, lengthsChecked}
+use Rattle.session.proofs.Sessions.{lengths-same}
 
 -- ---- one stage of checks, and then the next
 
@@ -35,6 +37,11 @@ module _ {a : Checked} {x : Answer} (m : Meets a x) where
   -- both answers at hand
   pub stage-followed : {b : Checked} {y z : Answer} → Meets b y → z ≡ followed x y → Meets (andThen a b) z
   stage-followed n e = rw e (meets-andThen m (λ _. n))
+
+-- ---- where the lengths pass, each is the one wanted
+
+pub lent-is : (lent wanted : List ℕ) → lengthsChecked lent wanted ≡ passed → (i : ℕ) → getD lent i 0 ≡ getD wanted i 0
+lent-is lent wanted e i = ap (λ (l : List ℕ). getD l i 0) (lengths-same lent wanted e)
 
 -- ---- what two tests that fail say
 

@@ -45,8 +45,7 @@ use Rattle.session.proofs.Circuits.{held-of, made-is, inputs-made}
 use Rattle.round.specs.Bytes.{contributionsChecked, offsetsChecked}
 use Rattle.round.specs.InputKeys.{inputKey, inputKeysBytes, inputKeysLent, inputKeysParty, inputKeysAsked, inputKeysMade, inputKeysChecked, inputKeysAfter}
 use Rattle.exchange.specs.Keying.{KeysLent, KeysFit}
-use Rattle.exchange.proofs.Lent.{lent-is}
-use Rattle.exchange.proofs.Ending.{stage-passed, stage-next, stage-refused, stage-followed, read-met, check-accepted, circuit-accepted, ends-written, ends-refused}
+use Rattle.exchange.proofs.Ending.{lent-is, stage-passed, stage-next, stage-refused, stage-followed, read-met, check-accepted, circuit-accepted, ends-written, ends-refused}
 
 -- ---- where an input's key stands
 

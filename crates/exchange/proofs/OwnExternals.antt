@@ -37,8 +37,7 @@ use Rattle.exchange.specs.Tables.{Front}
 use Rattle.exchange.specs.Either.{eitherChecked}
 use Rattle.exchange.specs.Masking.{OwnLent, OwnFit}
 use Rattle.exchange.proofs.TwoBuffers.{both-as}
-use Rattle.exchange.proofs.Lent.{lent-is}
-use Rattle.exchange.proofs.Ending.{stage-passed, stage-next, stage-refused, stage-followed, fails-left, fails-right, read-met, check-accepted, ends-written, ends-refused}
+use Rattle.exchange.proofs.Ending.{lent-is, stage-passed, stage-next, stage-refused, stage-followed, fails-left, fails-right, read-met, check-accepted, ends-written, ends-refused}
 
 -- a party owns no more inputs than there are wires
 mark-small : (b : Bool) → mark b ≤ 1

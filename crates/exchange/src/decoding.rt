@@ -7,7 +7,6 @@ ghost use Rattle.circuit.specs.Held.{wiresIn, outputsIn, Held, Holds};
 ghost use Rattle.round.specs.Decode.{decodeBytes, decodeLent, decodeMade, decodeChecked, decodeAfter};
 ghost use Rattle.exchange.specs.Decoding.{Masked, Decodes};
 use super::either::either_checked;
-use super::lengths::length_checked;
 use super::tables::output_moduli;
 use super::tables::place_of;
 use checks::Answer;
@@ -17,6 +16,7 @@ use circuit::Reading;
 use circuit::read;
 use counts::moduli;
 use residue::sub;
+use session::length_checked;
 
 // Each external value below its wire's modulus, each mask below that of its output's wire.
 fn masks_checked(circuit: Circuit, externals: &[u8], masks: &[u8]) -> Answer

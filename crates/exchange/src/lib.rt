@@ -4,13 +4,11 @@
 mod decoding;
 mod either;
 mod keys;
-mod lengths;
 mod masking;
 mod tables;
 
 pub use decoding::decode;
 pub use keys::input_keys;
 pub use keys::put_keys;
-pub use lengths::length_checked;
 pub use masking::externals;
 pub use tables::counted;

@@ -32,8 +32,7 @@ use Rattle.meter.proofs.Totals.{passed-space}
 use Rattle.round.specs.Garble.{garbleBytes, garbleLengths, garbleLent, garbleOwned, garbleAsked, garbleChecked, garbleRows, garbleInputMasks, garbleOutputMasks, garbleMeter}
 use Rattle.ring.specs.Garbled.{Draws}
 use Rattle.zero.specs.Ready.{Contributed, drawnIn}
-use Rattle.exchange.proofs.Lent.{lent-is}
-use Rattle.exchange.proofs.Ending.{stage-passed, stage-next, stage-refused, stage-followed, first-accepted, second-accepted, read-met, check-accepted, circuit-accepted}
+use Rattle.exchange.proofs.Ending.{lent-is, stage-passed, stage-next, stage-refused, stage-followed, first-accepted, second-accepted, read-met, check-accepted, circuit-accepted}
 
 -- ---- 14, and then 16 and 17
 

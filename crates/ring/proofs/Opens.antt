@@ -48,9 +48,8 @@ use Rattle.exchange.specs.Keying.{KeysFit}
 use Rattle.evaluation.specs.Given.{Given, Evaluated}
 use Rattle.ring.specs.Opened.{OpenSizes, Compared}
 use Rattle.exchange.proofs.TwoBuffers.{first-ext}
-use Rattle.exchange.proofs.Lent.{lent-is}
 use Rattle.exchange.proofs.KeyPlaces.{one-key}
-use Rattle.exchange.proofs.Ending.{stage-passed, stage-next, stage-refused, stage-followed, read-met, check-accepted, circuit-accepted}
+use Rattle.exchange.proofs.Ending.{lent-is, stage-passed, stage-next, stage-refused, stage-followed, read-met, check-accepted, circuit-accepted}
 
 -- ---- 15 to 18
 

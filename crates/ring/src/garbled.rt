@@ -16,9 +16,9 @@ use contribution::contribution_size;
 use contribution::contributions_checked;
 use contribution::offsets_checked;
 use exchange::counted;
-use exchange::length_checked;
 use meter::meter_checked;
 use meter::raised;
+use session::length_checked;
 use session::owners_checked;
 use session::session_checked;
 

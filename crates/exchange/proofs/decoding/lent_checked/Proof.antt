@@ -1,6 +1,6 @@
 -- `exchange::lent_checked` meets its contract: a wrong length, or what the check of the bytes answers. Assumes nothing.
 use borrow.Author.Needs.{needs}
-use Rattle.exchange.proofs.Lent.{lengths-met}
+use Rattle.session.proofs.Lent.{lengths-met}
 use Rattle.exchange.proofs.Decodes.{lent-masked, lent-next, lent-refused}
 use Rattle.exchange.proofs.decoding.lent_checked.Statement.{statement}
 use Rattle.exchange.proofs.decoding.lent_checked.Tie as tie

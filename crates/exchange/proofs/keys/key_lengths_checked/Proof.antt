@@ -2,7 +2,7 @@
 use native.Mathlib.Omega.{arith}
 use borrow.Author.Needs.{needs}
 use Rattle.session.proofs.Circuits.{inputs-made}
-use Rattle.exchange.proofs.Lent.{lengths-met}
+use Rattle.session.proofs.Lent.{lengths-met}
 use Rattle.exchange.proofs.KeyPlaces.{small-product, keys-lent, keys-next, keys-stop}
 use Rattle.exchange.proofs.keys.key_lengths_checked.Statement.{statement}
 use Rattle.exchange.proofs.keys.key_lengths_checked.Tie as tie

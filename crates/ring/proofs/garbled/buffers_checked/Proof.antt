@@ -2,7 +2,7 @@
 use Prim.Native.Nat.{_*_}
 use native.Mathlib.Omega.{arith}
 use Rattle.exchange.proofs.KeyPlaces.{small-product}
-use Rattle.exchange.proofs.Lent.{lengths-met}
+use Rattle.session.proofs.Lent.{lengths-met}
 use Rattle.ring.proofs.Garbles.{draws-lent, draws-next, draws-stop}
 use borrow.Author.Needs.{needs}
 use Rattle.ring.proofs.garbled.buffers_checked.Statement.{statement}
