@@ -2,7 +2,7 @@
 -- decoding, and stands beside the numbers that the document prints. A pad of zeros leaves a row its message. One party and key length 1 serve,
 -- since keys are taken component by component.
 -- Assumes nothing.
-use mathlib.Core.List.{List, [], _∷_, _++_}
+use mathlib.Core.List.{List, [], _∷_}
 use Prim.Native.Nat.{ℕ, _+_, _-_}
 use lib.ListN.{getD, replicate}
 use Rattle.lists.specs.Blocks.{blocks, tab}

@@ -2,7 +2,6 @@
 -- Assumes nothing.
 use mathlib.Core.List.{List, [], _∷_}
 use Prim.Native.Nat.{ℕ}
-use Rattle.words.specs.declared.gate.Wire.{Wire}
 use Rattle.circuit.specs.File.{readFile}
 use Rattle.pads.specs.Pad.{shakePad}
 use Rattle.scheme.specs.Draw.{drawn}
