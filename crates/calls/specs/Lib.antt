@@ -1,3 +1,6 @@
--- What the calls that read a circuit answer and write.
-pub mod Summary
-pub mod InputsOf
+-- The calls of a round, each with its checks in order and what it writes.
+pub mod Garble
+pub mod Externals
+pub mod InputKeys
+pub mod Open
+pub mod Decode

@@ -1,9 +1,2 @@
-// The calls that read a circuit and count in it. Each reads the file first; then come the checks on what else it is given, in
-// document 01's order. Rests on `circuit` for the reader, `counts` for what is counted, `session` for the checks.
-mod inputs;
-mod summary;
-
-pub use inputs::Counted;
-pub use inputs::inputs_of;
-pub use summary::Summary;
-pub use summary::summary_of;
+// The calls of a round as definitions: each with its checks in order, and what each lent buffer holds afterwards. It has no code: the crates that
+// make the calls are proved to do this. Rests on `scheme` for what is garbled and opened, on `session` for the checks that calls share, on `meter`.

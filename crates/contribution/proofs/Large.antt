@@ -23,7 +23,7 @@ use Rattle.circuit.specs.Wires.{inputsIn, modulusAt}
 use Rattle.counts.specs.Counts.{rowsOf}
 use Rattle.session.specs.Session.{tooLarge}
 use Rattle.scheme.specs.Contribution.{contributionModuli}
-use Rattle.round.specs.Bytes.{bytesChecked, contributionsChecked, keysChecked, rowsChecked}
+use Rattle.scheme.specs.Bytes.{bytesChecked, contributionsChecked, keysChecked, rowsChecked}
 use Rattle.contribution.specs.Large.{firstLarge, Bounded}
 
 -- ---- a bound, entry by entry

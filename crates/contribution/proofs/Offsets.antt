@@ -25,7 +25,7 @@ use Rattle.counts.specs.Counts.{Counts, mark}
 use Rattle.counts.specs.Moduli.{used, usedBelow, someBelow}
 use Rattle.scheme.specs.Contribution.{offsetAt, contributionSize}
 use Rattle.scheme.proofs.Places.{offset-fits}
-use Rattle.round.specs.Bytes.{allZero, zeroOffset, offsetsChecked}
+use Rattle.scheme.specs.Bytes.{allZero, zeroOffset, offsetsChecked}
 use Rattle.contribution.proofs.Wired.{mark-at}
 
 -- ---- bytes that are all zero

@@ -9,7 +9,7 @@ ghost use Rattle.circuit.specs.Held.{wiresIn, Room};
 ghost use Rattle.counts.specs.Counts.{mark, recordKeysOf, recordKeysIn};
 ghost use Rattle.counts.specs.Moduli.{used, moduliUsed};
 ghost use Rattle.scheme.specs.Contribution.{contributionSize, contributionModuli};
-ghost use Rattle.round.specs.Bytes.{contributionsChecked};
+ghost use Rattle.scheme.specs.Bytes.{contributionsChecked};
 ghost use Rattle.contribution.specs.Large.{firstLarge};
 use super::places::contribution_size;
 use super::places::wide;

@@ -7,7 +7,7 @@ ghost use Rattle.checks.specs.Checked.{Meets};
 ghost use Rattle.circuit.specs.Wires.{modulusAt, inputsIn};
 ghost use Rattle.circuit.specs.Held.{wiresIn, Held};
 ghost use Rattle.counts.specs.Counts.{rowsOf, rowsIn};
-ghost use Rattle.round.specs.Bytes.{keysChecked, rowsChecked};
+ghost use Rattle.scheme.specs.Bytes.{keysChecked, rowsChecked};
 ghost use Rattle.contribution.specs.Large.{firstLarge};
 use super::places::wide;
 use super::run::first_at_least;

@@ -10,7 +10,7 @@ ghost use Rattle.checks.specs.Checked.{Meets};
 ghost use Rattle.circuit.specs.Held.{wiresIn, Room};
 ghost use Rattle.counts.specs.Moduli.{someBelow};
 ghost use Rattle.scheme.specs.Contribution.{contributionSize};
-ghost use Rattle.round.specs.Bytes.{allZero, zeroOffset, offsetsChecked};
+ghost use Rattle.scheme.specs.Bytes.{allZero, zeroOffset, offsetsChecked};
 use super::places::contribution_size;
 use super::places::ranks;
 use super::places::wide_byte;

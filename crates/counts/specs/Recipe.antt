@@ -1,4 +1,4 @@
--- How a wire's gate is garbled, by document 01's "The gates". Rows, records, garbling and evaluation all go by this one definition.
+-- How a wire's gate is garbled, by document 01's "The gates". Rows, records, garbling and opening all go by this one definition.
 -- Assumes nothing.
 use Rattle.words.specs.declared.gate.Gate.{Gate}
 use Rattle.words.specs.declared.gate.Gate.the-variants.{Input, Add, Scale, Multiply, Project, Select}

@@ -17,9 +17,9 @@ use Rattle.circuit.specs.File.{readFile}
 use Rattle.counts.specs.Counts.{rowsIn}
 use Rattle.meter.specs.Meter.{raised}
 use Rattle.pads.specs.Pad.{shakePad}
-use Rattle.round.specs.Garble.{garbleMeter}
-use Rattle.round.specs.Externals.{externalsAfter}
-use Rattle.round.specs.InputKeys.{inputKeysAfter}
+use Rattle.calls.specs.Garble.{garbleMeter}
+use Rattle.calls.specs.Externals.{externalsAfter}
+use Rattle.calls.specs.InputKeys.{inputKeysAfter}
 use Rattle.round.specs.Round as round
 use Rattle.round.specs.Round.{Lent, ownerAt, placeAt, contributionOf, ownOf}
 use Rattle.round.specs.Claim.{Conditions, Promise}

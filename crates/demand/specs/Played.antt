@@ -12,11 +12,11 @@ use Rattle.counts.specs.Counts.{rowsIn}
 use Rattle.meter.specs.Meter.{raised}
 use Rattle.pads.specs.Pad.{shakePad}
 use Rattle.plain.specs.Call.{plainChecked, plainAfter}
-use Rattle.round.specs.Garble.{garbleChecked, garbleRows, garbleInputMasks, garbleOutputMasks, garbleMeter}
-use Rattle.round.specs.Externals.{externalsChecked, externalsAfter}
-use Rattle.round.specs.InputKeys.{inputKeysChecked, inputKeysAfter}
-use Rattle.round.specs.Open.{openChecked, openKeys, openExternals}
-use Rattle.round.specs.Decode.{decodeChecked, decodeAfter}
+use Rattle.calls.specs.Garble.{garbleChecked, garbleRows, garbleInputMasks, garbleOutputMasks, garbleMeter}
+use Rattle.calls.specs.Externals.{externalsChecked, externalsAfter}
+use Rattle.calls.specs.InputKeys.{inputKeysChecked, inputKeysAfter}
+use Rattle.calls.specs.Open.{openChecked, openKeys, openExternals}
+use Rattle.calls.specs.Decode.{decodeChecked, decodeAfter}
 use Rattle.round.specs.Round.{Lent, contributionOf, ownOf, inWireOrder, byInput}
 use Rattle.round.specs.Claim.{Delivered}
 

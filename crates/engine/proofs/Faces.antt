@@ -11,10 +11,10 @@ use Rattle.checks.specs.Checked.{Checked, Meets, Reports, afterwards}
 use Rattle.checks.proofs.Answers.{meets-answered, meets-reports, afterwards-accepted, afterwards-refused}
 use Rattle.circuit.specs.File.{readFile}
 use Rattle.session.specs.Session.{fileChecked}
-use Rattle.calls.specs.declared.summary.Summary.{Summary}
-use Rattle.calls.specs.Summary.{Summarizes}
-use Rattle.calls.specs.declared.inputs.Counted.{Counted}
-use Rattle.calls.specs.InputsOf.{CountsInputs, inputsOfChecked, inputsOfAfter}
+use Rattle.read_calls.specs.declared.summary.Summary.{Summary}
+use Rattle.read_calls.specs.Summary.{Summarizes}
+use Rattle.read_calls.specs.declared.inputs.Counted.{Counted}
+use Rattle.read_calls.specs.InputsOf.{CountsInputs, inputsOfChecked, inputsOfAfter}
 
 -- reading's only checks are the file's
 pub file-met : {file : List ℕ} {found : Summary} → Summarizes file found → Meets (fileChecked file) (found .answer)

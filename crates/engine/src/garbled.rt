@@ -2,12 +2,12 @@
 ghost use mathlib.Core.Path.{_≡_};
 ghost use Rattle.checks.specs.Checked.{Reports};
 ghost use Rattle.pads.specs.Pad.{shakePad};
-ghost use Rattle.round.specs.Garble.{garbleChecked, garbleRows, garbleInputMasks, garbleOutputMasks, garbleMeter};
-ghost use Rattle.round.specs.Open.{openChecked, openKeys, openExternals};
+ghost use Rattle.calls.specs.Garble.{garbleChecked, garbleRows, garbleInputMasks, garbleOutputMasks, garbleMeter};
+ghost use Rattle.calls.specs.Open.{openChecked, openKeys, openExternals};
 use super::answer::Reported;
 use super::answer::told;
-use ring::garble;
-use ring::open_rows;
+use row_calls::garble;
+use row_calls::open_rows;
 
 // Rows, input masks and output masks from all contributions, and the row meter raised: 1 to 10, 11, 13, 14, 16, 17, 21.
 #[no_mangle]

@@ -1,14 +1,14 @@
 // The small calls of a round: external values, input keys, decoding.
 ghost use mathlib.Core.Path.{_≡_};
 ghost use Rattle.checks.specs.Checked.{Reports};
-ghost use Rattle.round.specs.Externals.{externalsChecked, externalsAfter};
-ghost use Rattle.round.specs.InputKeys.{inputKeysChecked, inputKeysAfter};
-ghost use Rattle.round.specs.Decode.{decodeChecked, decodeAfter};
+ghost use Rattle.calls.specs.Externals.{externalsChecked, externalsAfter};
+ghost use Rattle.calls.specs.InputKeys.{inputKeysChecked, inputKeysAfter};
+ghost use Rattle.calls.specs.Decode.{decodeChecked, decodeAfter};
 use super::answer::Reported;
 use super::answer::told;
-use exchange::decode;
-use exchange::externals;
-use exchange::input_keys;
+use party_calls::decode;
+use party_calls::externals;
+use party_calls::input_keys;
 
 // The external values of a party's own inputs, from their values and masks: 1 to 10, 11 for n, 12 to 15.
 #[no_mangle]

@@ -7,12 +7,12 @@ ghost use Rattle.circuit.specs.File.{readFile};
 ghost use Rattle.counts.specs.Counts.{rowsIn, recordKeysIn};
 ghost use Rattle.counts.specs.Moduli.{moduliUsed};
 ghost use Rattle.session.specs.Session.{fileChecked};
-ghost use Rattle.calls.specs.InputsOf.{inputsOfChecked, inputsOfAfter};
+ghost use Rattle.read_calls.specs.InputsOf.{inputsOfChecked, inputsOfAfter};
 use super::answer::Reported;
-use calls::inputs_of;
-use calls::summary_of;
 use checks::Answer;
 use checks::number;
+use read_calls::inputs_of;
+use read_calls::summary_of;
 
 // Reads a circuit: 1 to 10.
 #[no_mangle]

@@ -20,8 +20,8 @@ use Rattle.scheme.specs.Rows.{row, differenceKey, differenceMask, productRow₀
 use Rattle.scheme.specs.Opening.{openInput, openFree, rowAt, unpadded, chosen, corrector, ownKey, found, searched, openProduct, openChoice, openBy, openedTo, opened, wireKeys, wireExternals}
 use Rattle.search.specs.Search.{same, multiplier}
 use Rattle.session.specs.Session.{fileChecked, sameNumbers, lengthsChecked}
-use Rattle.round.specs.InputKeys.{inputKey}
-use Rattle.round.specs.Decode.{decodeChecked, decodeAfter}
+use Rattle.calls.specs.InputKeys.{inputKey}
+use Rattle.calls.specs.Decode.{decodeChecked, decodeAfter}
 use Rattle.round.specs.Example.{fileOf}
 use Rattle.examples.specs.Marked.{noPad, drew, inputs, keys, rows, openedKeys, openedExternals, productWires, productFile, productDraw, productKeys, productExternals, productDecoded, wire, scaled, product, choiceWires, choiceFile, choiceDraw, choiceKeys, choiceExternals, choiceDecoded, select, input, counts, cases, printed}
 

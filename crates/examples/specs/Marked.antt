@@ -17,8 +17,8 @@ use Rattle.scheme.specs.Draw.{Draw}
 use Rattle.scheme.specs.Zero.{mask}
 use Rattle.scheme.specs.Rows.{garbledRows, outputMasks}
 use Rattle.scheme.specs.Opening.{found, wireKeys, wireExternals}
-use Rattle.round.specs.InputKeys.{inputKey}
-use Rattle.round.specs.Decode.{decodeAfter}
+use Rattle.calls.specs.InputKeys.{inputKey}
+use Rattle.calls.specs.Decode.{decodeAfter}
 use Rattle.round.specs.Example.{fileOf}
 
 -- ---- one party's round without pads

@@ -17,9 +17,9 @@ use Rattle.words.specs.declared.gate.Wire.{Wire}
 use Rattle.circuit.specs.declared.Circuit.{Circuit}
 use Rattle.circuit.specs.Held.{wiresIn, Held}
 use Rattle.session.proofs.Circuits.{made-is, inputs-made}
-use Rattle.round.specs.Externals.{ownInputs, externalsChecked, externalsAfter}
+use Rattle.calls.specs.Externals.{ownInputs, externalsChecked, externalsAfter}
 use Rattle.round.specs.Round.{ownOf}
-use Rattle.round.proofs.OwnInputs.{owns, placeOf, own-inside}
+use Rattle.calls.proofs.OwnInputs.{owns, placeOf, own-inside}
 use Rattle.rehearsal.specs.Hosts.{Picked, scattered, ownChecks, ownAfter, gathered}
 use Rattle.rehearsal.specs.All.{Says, followed, allOf}
 use Rattle.rehearsal.proofs.InTurn.{turn-start, turn-next}

@@ -11,7 +11,7 @@ use Rattle.lists.proofs.Blocks.{length-tab, getD-tab, is-tab}
 use Rattle.words.specs.declared.gate.Wire.{Wire}
 use Rattle.circuit.specs.Wires.{wireAt, inputsIn}
 use Rattle.round.specs.Round.{ownerOf, ownerAt, placeAt}
-use Rattle.round.proofs.OwnInputs.{owns, placeOf, owned-input}
+use Rattle.calls.proofs.OwnInputs.{owns, placeOf, owned-input}
 use Rattle.rehearsal.specs.Hosts.{ownAfter, gathered}
 
 -- whoever owns an input is its owner

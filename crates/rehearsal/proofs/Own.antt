@@ -21,8 +21,8 @@ use Rattle.circuit.specs.Held.{wiresIn, Room, Held}
 use Rattle.counts.specs.Counts.{mark, ownedBy, Counts}
 use Rattle.counts.proofs.Wires.{wire-at}
 use Rattle.session.proofs.Circuits.{inputs-made}
-use Rattle.round.specs.Externals.{ownInputs}
-use Rattle.round.proofs.OwnInputs.{owns, placeOf, own-length, own-at}
+use Rattle.calls.specs.Externals.{ownInputs}
+use Rattle.calls.proofs.OwnInputs.{owns, placeOf, own-length, own-at}
 use Rattle.rehearsal.specs.Hosts.{Picked, scattered}
 
 blank-long : {out : List ℕ} → out ≡ replicate 1024 0 → length out ≡ 1024

@@ -18,8 +18,8 @@ use Rattle.counts.specs.Counts.{rowsIn}
 use Rattle.scheme.specs.Contribution.{contributionSize}
 use Rattle.pads.specs.Pad.{shakePad}
 use Rattle.plain.specs.Call.{plainChecked, plainAfter}
-use Rattle.round.specs.Garble.{garbleMeter}
-use Rattle.round.specs.InputKeys.{inputKey, inputKeysAfter}
+use Rattle.calls.specs.Garble.{garbleMeter}
+use Rattle.calls.specs.InputKeys.{inputKey, inputKeysAfter}
 use Rattle.round.specs.Round as round
 use Rattle.round.specs.Round.{Lent, ownerAt, placeAt}
 use Rattle.round.specs.Claim.{Conditions, Promise, maskOf, drawOf}

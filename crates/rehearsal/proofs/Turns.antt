@@ -11,9 +11,9 @@ use Rattle.lists.proofs.Written.{lent}
 use Rattle.lists.proofs.Steps.{Level, level-start, steps-long, steps-call}
 use Rattle.checks.specs.Checked.{Checked}
 use Rattle.pads.specs.Pad.{shakePad}
-use Rattle.round.specs.InputKeys.{inputKeysChecked, inputKeysAfter}
-use Rattle.round.specs.Open.{openChecked, openKeys, openExternals}
-use Rattle.round.specs.Decode.{decodeChecked, decodeAfter}
+use Rattle.calls.specs.InputKeys.{inputKeysChecked, inputKeysAfter}
+use Rattle.calls.specs.Open.{openChecked, openKeys, openExternals}
+use Rattle.calls.specs.Decode.{decodeChecked, decodeAfter}
 use Rattle.rehearsal.specs.All.{Says, followed, allOf}
 use Rattle.rehearsal.proofs.InTurn.{turn-start, turn-next, part-next, read-next, met-all, sized-next}
 

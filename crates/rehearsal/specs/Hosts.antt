@@ -10,7 +10,7 @@ use Rattle.words.specs.declared.gate.Wire.{Wire}
 use Rattle.circuit.specs.Wires.{wireAt}
 use Rattle.counts.specs.Counts.{mark, ownedBy}
 use Rattle.checks.specs.Checked.{Checked}
-use Rattle.round.specs.Externals.{ownInputs, externalsChecked, externalsAfter}
+use Rattle.calls.specs.Externals.{ownInputs, externalsChecked, externalsAfter}
 use Rattle.round.specs.Round.{ownOf, byInput}
 
 -- a party's own of all inputs' bytes stand at the front of an array

@@ -15,8 +15,8 @@ use Rattle.scheme.specs.Draw.{drawn}
 use Rattle.scheme.specs.Rows.{garbledRows, inputMasks, outputMasks}
 use Rattle.meter.specs.Meter.{raised}
 use Rattle.pads.specs.Pad.{shakePad}
-use Rattle.round.specs.Externals.{ownInputs}
-use Rattle.round.specs.InputKeys.{inputKey}
+use Rattle.calls.specs.Externals.{ownInputs}
+use Rattle.calls.specs.InputKeys.{inputKey}
 use Rattle.round.specs.Round.{Lent}
 use Rattle.round.specs.Claim.{maskOf, drawOf, Delivered}
 

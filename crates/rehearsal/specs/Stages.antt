@@ -8,10 +8,10 @@ use Rattle.lists.specs.Blocks.{nthPiece}
 use Rattle.checks.specs.Checked.{andThen}
 use Rattle.circuit.specs.File.{readFile}
 use Rattle.pads.specs.Pad.{shakePad}
-use Rattle.round.specs.Garble.{garbleChecked, garbleRows, garbleInputMasks, garbleOutputMasks, garbleMeter}
-use Rattle.round.specs.InputKeys.{inputKeysChecked, inputKeysAfter}
-use Rattle.round.specs.Open.{openChecked, openKeys, openExternals}
-use Rattle.round.specs.Decode.{decodeChecked, decodeAfter}
+use Rattle.calls.specs.Garble.{garbleChecked, garbleRows, garbleInputMasks, garbleOutputMasks, garbleMeter}
+use Rattle.calls.specs.InputKeys.{inputKeysChecked, inputKeysAfter}
+use Rattle.calls.specs.Open.{openChecked, openKeys, openExternals}
+use Rattle.calls.specs.Decode.{decodeChecked, decodeAfter}
 use Rattle.rehearsal.specs.All.{Says, allOf, Parts}
 use Rattle.rehearsal.specs.Hosts.{ownChecks, gathered, keysByInput}
 

@@ -2,11 +2,11 @@
 ghost use mathlib.Core.Path.{_≡_};
 ghost use Rattle.pads.specs.Pad.{shakePad};
 ghost use Rattle.plain.specs.Call.{plainChecked, plainAfter};
-ghost use Rattle.round.specs.Garble.{garbleChecked, garbleRows, garbleInputMasks, garbleOutputMasks, garbleMeter};
-ghost use Rattle.round.specs.Externals.{externalsChecked, externalsAfter};
-ghost use Rattle.round.specs.InputKeys.{inputKeysChecked, inputKeysAfter};
-ghost use Rattle.round.specs.Open.{openChecked, openKeys, openExternals};
-ghost use Rattle.round.specs.Decode.{decodeChecked, decodeAfter};
+ghost use Rattle.calls.specs.Garble.{garbleChecked, garbleRows, garbleInputMasks, garbleOutputMasks, garbleMeter};
+ghost use Rattle.calls.specs.Externals.{externalsChecked, externalsAfter};
+ghost use Rattle.calls.specs.InputKeys.{inputKeysChecked, inputKeysAfter};
+ghost use Rattle.calls.specs.Open.{openChecked, openKeys, openExternals};
+ghost use Rattle.calls.specs.Decode.{decodeChecked, decodeAfter};
 ghost use Rattle.rehearsal.specs.All as all;
 ghost use Rattle.rehearsal.specs.All.{Says};
 use engine::lupiknam_decode;

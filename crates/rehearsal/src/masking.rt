@@ -5,7 +5,7 @@ ghost use lib.ListN.{length, take};
 ghost use Rattle.circuit.specs.Held.{wiresIn, Held};
 ghost use Rattle.rehearsal.specs.Hosts.{scattered, ownChecks, ownAfter, gathered};
 ghost use Rattle.rehearsal.specs.All.{Says, allOf};
-ghost use Rattle.round.specs.Externals.{externalsChecked, externalsAfter};
+ghost use Rattle.calls.specs.Externals.{externalsChecked, externalsAfter};
 use super::called::externals;
 use super::called::followed;
 use super::hosts::blank;
@@ -13,8 +13,8 @@ use super::hosts::picked;
 use super::hosts::scatter;
 use circuit::Circuit;
 use counts::inputs_of;
-use exchange::counted;
 use lists::piece;
+use party_calls::counted;
 
 // The call, on the first `count` bytes of each buffer.
 pub fn ask(

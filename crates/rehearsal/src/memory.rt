@@ -3,7 +3,7 @@ ghost use Prim.Native.Nat.{_≤_};
 ghost use Rattle.rehearsal.specs.Rehearsed.{Sized};
 use circuit::read;
 use contribution::contribution_size;
-use exchange::counted;
+use party_calls::counted;
 
 // How many inputs, wires and outputs; and how many bytes a party's contribution, its input keys, and its keys of all wires have.
 pub struct Sizes {

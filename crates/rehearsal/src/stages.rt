@@ -14,7 +14,7 @@ use super::parties::decode_all;
 use super::parties::keys_of_all;
 use super::parties::open_all;
 use circuit::read;
-use exchange::counted;
+use party_calls::counted;
 
 // Garbling, from all contributions; then at each party the external values of its own inputs, with the masks that garbling wrote.
 pub fn prepare(

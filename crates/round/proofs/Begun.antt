@@ -12,10 +12,10 @@ use Rattle.circuit.proofs.Accepted.{accepted}
 use Rattle.scheme.specs.Contribution.{contributionSize}
 use Rattle.pads.specs.Pad.{Pad}
 use Rattle.scheme.proofs.Contributed.{Contributed, contributed-own, length-nth}
-use Rattle.round.specs.Bytes.{contributionsChecked, offsetsChecked}
+use Rattle.scheme.specs.Bytes.{contributionsChecked, offsetsChecked}
 use Rattle.round.proofs.Contributions.{contributions-below, own-offsets-passed}
-use Rattle.round.specs.Externals.{ownInputs}
-use Rattle.round.proofs.OwnInputs.{owned-input, own-length, own-inside, own-at, own-entry}
+use Rattle.calls.specs.Externals.{ownInputs}
+use Rattle.calls.proofs.OwnInputs.{owned-input, own-length, own-inside, own-at, own-entry}
 use Rattle.scheme.specs.Drawn.{PadSize}
 use Rattle.round.specs.Round.{Lent, ownerAt}
 use Rattle.round.specs.Claim.{Conditions}

@@ -21,8 +21,8 @@ use Rattle.scheme.proofs.ByteModuli.{length-contributionModuli}
 use Rattle.scheme.proofs.EachBelow.{EachBelow, each-nth, nth-each}
 use Rattle.scheme.proofs.Contributed.{Contributed, length-nth, nth-whole}
 use Rattle.scheme.proofs.Drawn.{own-offset, offset-nth}
-use Rattle.round.specs.Bytes.{allZero, contributionsChecked, zeroOffset, offsetsChecked}
-use Rattle.round.proofs.Bounds.{bytes-passed, bytes-below}
+use Rattle.scheme.specs.Bytes.{allZero, contributionsChecked, zeroOffset, offsetsChecked}
+use Rattle.scheme.proofs.ByteChecks.{bytes-passed, bytes-below}
 
 -- ---- 16
 

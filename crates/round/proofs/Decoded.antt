@@ -20,9 +20,9 @@ use Rattle.pads.specs.Pad.{Pad}
 use Rattle.plain.specs.Plain.{plainValues, plainOutputs}
 use Rattle.plain.specs.Ready.{Fed}
 use Rattle.session.proofs.Sessions.{file-passed, lengths-passed}
-use Rattle.round.proofs.Bounds.{values-passed}
+use Rattle.scheme.proofs.ByteChecks.{values-passed}
 use Rattle.round.proofs.DecodingPasses.{decode-passed}
-use Rattle.round.specs.Decode.{decodeAfter}
+use Rattle.calls.specs.Decode.{decodeAfter}
 use Rattle.plain.specs.Call.{plainChecked, plainAfter}
 use Rattle.round.specs.Round.{Lent, outputMasks, wireExternals, decoding, figures, plainly, plainFigures}
 use Rattle.scheme.proofs.Bounds.{positive, mask-below, value-below}

@@ -15,9 +15,9 @@ use Rattle.words.specs.declared.gate.Wire.{Wire}
 use Rattle.circuit.specs.Wires.{modulusAt}
 use Rattle.circuit.specs.File.{readFile}
 use Rattle.session.specs.Session.{tooLarge}
-use Rattle.round.specs.Decode.{decodeChecked}
+use Rattle.calls.specs.Decode.{decodeChecked}
 use Rattle.session.proofs.Sessions.{file-passed, lengths-passed}
-use Rattle.round.proofs.Bounds.{below-tooLarge, either-fine}
+use Rattle.scheme.proofs.ByteChecks.{below-tooLarge, either-fine}
 
 pub record DecodeFits (file externals masks results : List ℕ) : Type 0 where
   pub read : readFile file .answer ≡ Accepted

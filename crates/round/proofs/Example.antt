@@ -23,7 +23,7 @@ use Rattle.counts.specs.Moduli.{someBelow}
 use Rattle.scheme.specs.Contribution.{offsetAt, contributionSize, contributionModuli}
 use Rattle.pads.specs.Pad.{shakePad}
 use Rattle.plain.specs.Plain.{plainBy, plainTo, plainValues, plainOutputs}
-use Rattle.round.specs.Bytes.{allZero, bytesChecked, contributionsChecked, zeroOffset, offsetsChecked}
+use Rattle.scheme.specs.Bytes.{allZero, bytesChecked, contributionsChecked, zeroOffset, offsetsChecked}
 use Rattle.meter.specs.Meter.{HasSpace}
 use Rattle.round.specs.Round.{ownerAt, figures}
 use Rattle.round.specs.Claim.{LengthsRight, Conditions, Promise}

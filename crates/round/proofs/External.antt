@@ -17,7 +17,7 @@ use Rattle.scheme.specs.Draw.{Draw, drawn}
 use Rattle.scheme.specs.Zero.{mask}
 use Rattle.pads.specs.Pad.{Pad}
 use Rattle.round.proofs.ExternalsPass.{externals-passed}
-use Rattle.round.specs.Externals.{ownInputs, externalsAfter}
+use Rattle.calls.specs.Externals.{ownInputs, externalsAfter}
 use Rattle.round.specs.Round.{Lent, ownerAt, placeAt, inputMasks, ownOf, externalValues, ownExternals, externals}
 use Rattle.scheme.proofs.Bounds.{positive, mask-below}
 use Rattle.round.proofs.Inputs.{input-made}

@@ -12,9 +12,9 @@ use Rattle.checks.proofs.Passed.{andThen-passed, noneBad-passed}
 use Rattle.circuit.specs.Wires.{modulusAt}
 use Rattle.circuit.specs.File.{readFile}
 use Rattle.session.specs.Session.{tooLarge}
-use Rattle.round.specs.Externals.{ownInputs, externalsChecked}
+use Rattle.calls.specs.Externals.{ownInputs, externalsChecked}
 use Rattle.session.proofs.Sessions.{PartiesFit, OwnersFit, parties-passed, party-passed, owners-passed, file-passed, lengths-passed}
-use Rattle.round.proofs.Bounds.{below-tooLarge, either-fine}
+use Rattle.scheme.proofs.ByteChecks.{below-tooLarge, either-fine}
 
 pub record ExternalsFit (file : List ℕ) (n party : ℕ) (values masks externals : List ℕ) : Type 0 where
   pub read : readFile file .answer ≡ Accepted

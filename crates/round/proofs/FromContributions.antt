@@ -15,7 +15,7 @@ use Rattle.scheme.specs.Draw.{drawn}
 use Rattle.scheme.proofs.Used.{used-modulus}
 use Rattle.scheme.proofs.Contributed.{Contributed}
 use Rattle.scheme.proofs.Drawn.{offset-length, offset-below, key-length, mask-below, own-key, own-offset}
-use Rattle.round.specs.Bytes.{offsetsChecked}
+use Rattle.scheme.specs.Bytes.{offsetsChecked}
 use Rattle.round.proofs.Contributions.{own-offset-not-zero}
 use Rattle.scheme.specs.Drawn.{WellDrawn, OwnPart}
 

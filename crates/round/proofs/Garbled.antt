@@ -13,7 +13,7 @@ use Rattle.scheme.specs.Draw.{Draw, drawn}
 use Rattle.scheme.specs.Zero.{mask}
 use Rattle.pads.specs.Pad.{Pad}
 use Rattle.scheme.specs.Rows as Rows
-use Rattle.round.specs.Garble.{garbleRows, garbleInputMasks, garbleOutputMasks}
+use Rattle.calls.specs.Garble.{garbleRows, garbleInputMasks, garbleOutputMasks}
 use Rattle.round.proofs.GarblingPasses.{garble-passed}
 use Rattle.round.specs.Round.{Lent, garbling, rows, inputMasks, outputMasks}
 use Rattle.round.proofs.Start.{Start}

@@ -14,8 +14,8 @@ use Rattle.circuit.specs.Wires.{inputsIn}
 use Rattle.circuit.specs.File.{readFile}
 use Rattle.counts.specs.Counts.{rowsIn}
 use Rattle.scheme.proofs.Contributed.{Contributed}
-use Rattle.round.specs.Bytes.{offsetsChecked}
-use Rattle.round.specs.Garble.{garbleChecked}
+use Rattle.scheme.specs.Bytes.{offsetsChecked}
+use Rattle.calls.specs.Garble.{garbleChecked}
 use Rattle.session.proofs.Sessions.{SessionFits, OwnersFit, session-passed, owners-passed, file-passed, lengths-passed}
 use Rattle.round.proofs.Contributions.{contributions-passed}
 

@@ -12,10 +12,10 @@ use Rattle.circuit.specs.Wires.{modulusAt, inputsIn}
 use Rattle.circuit.specs.File.{readFile}
 use Rattle.scheme.specs.Contribution.{contributionSize}
 use Rattle.scheme.proofs.Contributed.{Contributed}
-use Rattle.round.specs.Bytes.{offsetsChecked}
-use Rattle.round.specs.InputKeys.{inputKeysChecked}
+use Rattle.scheme.specs.Bytes.{offsetsChecked}
+use Rattle.calls.specs.InputKeys.{inputKeysChecked}
 use Rattle.session.proofs.Sessions.{SessionFits, OwnersFit, session-passed, party-passed, owners-passed, file-passed, lengths-passed}
-use Rattle.round.proofs.Bounds.{values-passed}
+use Rattle.scheme.proofs.ByteChecks.{values-passed}
 use Rattle.round.proofs.Contributions.{contributions-passed}
 
 pub record InputKeysFit (file : List ℕ) (n K party : ℕ) (contribution externals keys : List ℕ) : Type 0 where

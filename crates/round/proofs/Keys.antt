@@ -20,10 +20,10 @@ use Rattle.circuit.specs.File.{readFile}
 use Rattle.scheme.specs.Draw.{Draw, drawn}
 use Rattle.scheme.specs.Zero.{zeroKey}
 use Rattle.pads.specs.Pad.{Pad}
-use Rattle.round.specs.Bytes.{keysChecked}
-use Rattle.round.proofs.Bounds.{keys-passed}
+use Rattle.scheme.specs.Bytes.{keysChecked}
+use Rattle.scheme.proofs.ByteChecks.{keys-passed}
 use Rattle.round.proofs.InputKeysPass.{inputKeys-passed}
-use Rattle.round.specs.InputKeys.{inputKey, inputKeysAfter}
+use Rattle.calls.specs.InputKeys.{inputKey, inputKeysAfter}
 use Rattle.round.specs.Round.{Lent, contributionOf, externals, inputKeys, ownKeys, keys}
 use Rattle.scheme.proofs.Search.{key-part}
 use Rattle.scheme.proofs.Contributed.{length-nth}

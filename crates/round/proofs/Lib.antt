@@ -1,7 +1,6 @@
 -- The claim: every call of a round accepts, and every party decodes the plain circuit's outputs.
 pub mod Claim
 pub mod Begun
-pub mod Bounds
 pub mod Contributions
 pub mod Decoded
 pub mod DecodingPasses
@@ -19,7 +18,6 @@ pub mod Masks
 pub mod OpeningPasses
 pub mod Opens
 pub mod Own
-pub mod OwnInputs
 pub mod Parties
 pub mod RealPad
 pub mod RowBytes

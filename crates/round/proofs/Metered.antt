@@ -10,7 +10,7 @@ use Rattle.meter.specs.Meter.{Garbling, checksAt, handedBack}
 use Rattle.circuit.specs.File.{readFile}
 use Rattle.counts.specs.Counts.{rowsIn}
 use Rattle.session.specs.Session.{fileChecked}
-use Rattle.round.specs.Garble.{garbleAsked, garbleChecked, garbleMeter}
+use Rattle.calls.specs.Garble.{garbleAsked, garbleChecked, garbleMeter}
 
 module _ (file : List ℕ) (n K : ℕ) (contributions rows masks outs : List ℕ) where
   unfoldable pub asGarbling : Garbling

@@ -1,4 +1,4 @@
--- The checks of evaluation that are made before any gate pass where this holds.
+-- The checks of opening that are made before any gate pass where this holds.
 -- Assumes nothing.
 use mathlib.Core.Path.{_≡_, ap, _∙_}
 use mathlib.Core.Bool.{not}
@@ -19,11 +19,11 @@ use Rattle.scheme.specs.Draw.{drawn}
 use Rattle.scheme.proofs.Contributed.{Contributed}
 use Rattle.search.specs.Search.{same}
 use Rattle.search.proofs.Same.{same-refl}
-use Rattle.round.specs.Bytes.{offsetsChecked, keysChecked, rowsChecked}
-use Rattle.round.specs.InputKeys.{inputKey}
-use Rattle.round.specs.Open.{inputKeyWrong, beforeOpening}
+use Rattle.scheme.specs.Bytes.{offsetsChecked, keysChecked, rowsChecked}
+use Rattle.calls.specs.InputKeys.{inputKey}
+use Rattle.calls.specs.Open.{inputKeyWrong, beforeOpening}
 use Rattle.session.proofs.Sessions.{SessionFits, OwnersFit, session-passed, party-passed, owners-passed, file-passed, lengths-passed}
-use Rattle.round.proofs.Bounds.{values-passed}
+use Rattle.scheme.proofs.ByteChecks.{values-passed}
 use Rattle.round.proofs.Contributions.{contributions-passed}
 
 pub record OpeningFits (file : List ℕ) (n K party : ℕ) (contribution externals keys rows wkeys wexternals : List ℕ) : Type 0 where

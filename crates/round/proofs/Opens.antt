@@ -1,5 +1,5 @@
 -- At each party opening accepts: its input keys fit, every byte is below its modulus and every search finds its multiplier. So on every wire
--- it writes the keys and the external value that evaluation comes to.
+-- it writes the keys and the external value that opening comes to.
 -- Assumes nothing.
 use mathlib.Core.Path.{_≡_, refl, sym, ap, ap₂, _∙_}
 use mathlib.Core.Bool.{not}
@@ -28,16 +28,16 @@ use Rattle.pads.specs.Pad.{Pad}
 use Rattle.scheme.specs.Rows.{gateRows, garbledRows}
 use Rattle.plain.specs.Plain.{plainValues}
 use Rattle.scheme.specs.Opening as Opening
-use Rattle.round.specs.Bytes.{rowsChecked}
-use Rattle.round.proofs.Bounds.{rows-passed}
+use Rattle.scheme.specs.Bytes.{rowsChecked}
+use Rattle.scheme.proofs.ByteChecks.{rows-passed}
 use Rattle.round.proofs.OpeningPasses.{opening-passed}
-use Rattle.round.specs.Open.{beforeOpening, gatesChecked, openChecked, openKeys, openExternals}
+use Rattle.calls.specs.Open.{beforeOpening, gatesChecked, openChecked, openKeys, openExternals}
 use Rattle.scheme.specs.Given.{GivenInputs, RoundAt, Rightly}
 use Rattle.round.specs.Round.{Lent, contributionOf, rows, externals, keys, opening, wireKeys, wireExternals}
 use Rattle.scheme.proofs.Search.{key-part}
 use Rattle.scheme.proofs.Bounds.{positive, zeroKey-size}
 use Rattle.scheme.proofs.Rows.{gate-size}
-use Rattle.scheme.proofs.Opened.{evaluation-undoes-garbling}
+use Rattle.scheme.proofs.Opened.{opening-undoes-garbling}
 use Rattle.round.proofs.Start.{Start}
 use Rattle.round.proofs.Shared.{session-fits, owners-fit}
 use Rattle.round.proofs.Own.{own-contribution, own-alone, own-offsets, own-part}
@@ -101,7 +101,7 @@ module _ {pad : Pad} {file : List ℕ} {n K : ℕ} {contributions values : List 
       (rows-passed n K wires rowsAt rowsAt-size
       (λ w h. rows-below pad n K file wires draw w (positive (start .accepted) w h) (recipe (wireAt wires w))))
 
-  -- ---- what evaluation at a party is given
+  -- ---- what opening at a party is given
 
   given : GivenInputs n K wires draw values inputs inputKeys
   given = record { value = start .conditions .valuesBelow; external = external-at start; key = keys-at start }
@@ -125,7 +125,7 @@ module _ {pad : Pad} {file : List ℕ} {n K : ℕ} {contributions values : List 
 
     pub rightly : (w : ℕ) → w < length wires
         → Rightly (modulusAt wires w) (value w) (mask wires draw w) (zeroKey wires draw w) (draw .offset (modulusAt wires w)) (wire w)
-    rightly w made = evaluation-undoes-garbling pad n K party file wires outputs draw (own party) values inputs inputKeys garbled round w made
+    rightly w made = opening-undoes-garbling pad n K party file wires outputs draw (own party) values inputs inputKeys garbled round w made
 
     -- ---- the checks
 

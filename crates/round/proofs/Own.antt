@@ -11,7 +11,7 @@ use Rattle.scheme.specs.Contribution.{contributionSize}
 use Rattle.scheme.specs.Draw.{drawn}
 use Rattle.pads.specs.Pad.{Pad}
 use Rattle.scheme.proofs.Contributed.{Contributed}
-use Rattle.round.specs.Bytes.{offsetsChecked}
+use Rattle.scheme.specs.Bytes.{offsetsChecked}
 use Rattle.scheme.specs.Drawn.{OwnPart}
 use Rattle.round.specs.Round.{Lent, contributionOf}
 use Rattle.round.proofs.Start.{Start}

@@ -16,8 +16,8 @@ use Rattle.scheme.specs.Contribution.{contributionSize}
 use Rattle.scheme.specs.Draw.{drawn}
 use Rattle.pads.specs.Pad.{Pad}
 use Rattle.scheme.proofs.Contributed.{Contributed}
-use Rattle.round.specs.Bytes.{offsetsChecked}
-use Rattle.round.specs.Externals.{ownInputs}
+use Rattle.scheme.specs.Bytes.{offsetsChecked}
+use Rattle.calls.specs.Externals.{ownInputs}
 use Rattle.scheme.specs.Drawn.{PadSize, WellDrawn, OwnPart}
 use Rattle.round.specs.Round.{Lent, ownerAt, placeAt}
 use Rattle.round.specs.Claim.{Conditions}

@@ -1,4 +1,4 @@
--- What evaluation writes, read back: n·K key bytes and one external byte per wire.
+-- What opening writes, read back: n·K key bytes and one external byte per wire.
 -- Assumes nothing.
 use mathlib.Core.Path.{_≡_, _∙_}
 use mathlib.Core.List.{List}

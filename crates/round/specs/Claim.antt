@@ -19,7 +19,7 @@ use Rattle.scheme.specs.Draw.{Draw, drawn}
 use Rattle.scheme.specs.Zero.{zeroKey, mask}
 use Rattle.pads.specs.Pad.{Pad}
 use Rattle.plain.specs.Plain.{plainValues, plainOutputs}
-use Rattle.round.specs.Bytes.{contributionsChecked, offsetsChecked}
+use Rattle.scheme.specs.Bytes.{contributionsChecked, offsetsChecked}
 use Rattle.meter.specs.Meter.{HasSpace}
 use Rattle.round.specs.Round as round
 use Rattle.round.specs.Round.{Lent, ownerAt, contributionOf}

@@ -14,11 +14,11 @@ use Rattle.circuit.specs.File.{readFile}
 use Rattle.counts.specs.Counts.{mark, ownedBy}
 use Rattle.scheme.specs.Contribution.{contributionSize}
 use Rattle.pads.specs.Pad.{Pad}
-use Rattle.round.specs.Garble.{garbleChecked, garbleRows, garbleInputMasks, garbleOutputMasks}
-use Rattle.round.specs.Externals.{ownInputs, externalsChecked, externalsAfter}
-use Rattle.round.specs.InputKeys.{inputKeysChecked, inputKeysAfter}
-use Rattle.round.specs.Open.{openChecked, openKeys, openExternals}
-use Rattle.round.specs.Decode.{decodeChecked, decodeAfter}
+use Rattle.calls.specs.Garble.{garbleChecked, garbleRows, garbleInputMasks, garbleOutputMasks}
+use Rattle.calls.specs.Externals.{ownInputs, externalsChecked, externalsAfter}
+use Rattle.calls.specs.InputKeys.{inputKeysChecked, inputKeysAfter}
+use Rattle.calls.specs.Open.{openChecked, openKeys, openExternals}
+use Rattle.calls.specs.Decode.{decodeChecked, decodeAfter}
 use Rattle.plain.specs.Call.{plainChecked, plainAfter}
 
 -- what the buffers that are lent to be written hold before the calls, for each party where each party makes the call

@@ -1,2 +1,2 @@
-// The calls of a round as definitions, and the claim about a whole round: every call accepts, and every party decodes the plain circuit's
-// outputs. It has no code: the calls are proved to be these definitions. Rests on `scheme`.
+// A round of calls, and the claim about it: every call accepts, and every party decodes the plain circuit's outputs. It has no code, and no crate
+// below the claim names it. Rests on `calls` for what each call does and on `scheme` for what garbling and opening come to.

@@ -1,8 +1,9 @@
--- Laws of the scheme: layout of contributions, what they draw, and that evaluation undoes garbling.
+-- Laws of the scheme: layout of contributions, what they draw, and that opening undoes garbling.
 pub mod Rows
 pub mod Search
 pub mod Drawn
 pub mod Bounds
+pub mod ByteChecks
 pub mod ByteModuli
 pub mod Contributed
 pub mod EachBelow

@@ -1,4 +1,4 @@
--- Every gate is opened rightly where the wires that it uses are; and so, by induction over the wires, evaluation undoes garbling.
+-- Every gate is opened rightly where the wires that it uses are; and so, by induction over the wires, opening undoes garbling.
 -- Assumes nothing.
 use mathlib.Core.Path.{_≡_, refl, sym, ap, ap₂, _∙_, subst, subst⁻¹}
 use mathlib.Core.Bool.{true}
@@ -34,7 +34,7 @@ use Rattle.pads.specs.Pad.{Pad, Under, padRow, placed}
 use Rattle.scheme.specs.Rows.{image, row, projectRow, productRow₀, productRow₁, differenceKey, differenceMask, chooserRow, correctorRow₀, correctorRow₁, garbledRows}
 use Rattle.search.specs.Search.{multiplier}
 use Rattle.scheme.specs.Opening.{Opened, nothing, unpadded, rowAt, ownKey, found, searched, openInput, openFree, openTable, openProduct, chosen, corrector, openChoice, openBy, opened}
-use Rattle.scheme.specs.Given.{RoundAt, EvaluationUndoesGarbling}
+use Rattle.scheme.specs.Given.{RoundAt, OpeningUndoesGarbling}
 use Rattle.scheme.proofs.Steps.{by-lower, zeroKey-step, mask-step, plain-step, open-step}
 use Rattle.scheme.proofs.Search.{multiplier-is, key-part, part-below}
 use Rattle.scheme.proofs.Bounds.{prime, positive, input-first, key-size, mask-small}
@@ -296,5 +296,5 @@ module _ {pad : Pad} {n K s : ℕ} {file : List ℕ} {wires : List Wire} {output
   opened-known =
       by-lower (λ w. w < length wires → At (modulusAt wires w) w) (λ w lower made. wire-known w made (λ a l. lower a l (omega arith)))
 
-pub evaluation-undoes-garbling : EvaluationUndoesGarbling
-evaluation-undoes-garbling pad n K s file wires outputs draw own values inputs keys rows round w made = known-rightly (opened-known round w made)
+pub opening-undoes-garbling : OpeningUndoesGarbling
+opening-undoes-garbling pad n K s file wires outputs draw own values inputs keys rows round w made = known-rightly (opened-known round w made)

@@ -1,4 +1,4 @@
--- Document 01, "The plain circuit and a round": what evaluation at a party is given in a round, and what it comes to on every wire. This
+-- Document 01, "The plain circuit and a round": what opening at a party is given in a round, and what it comes to on every wire. This
 -- states the theorem of proofs/Opened.antt.
 -- Assumes nothing.
 use mathlib.Core.Path.{_≡_}
@@ -28,7 +28,7 @@ pub record GivenInputs (n K : ℕ) (wires : List Wire) (draw : Draw) (values inp
       → w < inputsIn wires
       → nthPiece keys (n * K) w ≡ keyV (modulusAt wires w) (zeroKey wires draw w) (getD inputs w 0) (draw .offset (modulusAt wires w))
 
--- what evaluation at party s is given: an accepted circuit, what was drawn, the inputs, and the garbled rows
+-- what opening at party s is given: an accepted circuit, what was drawn, the inputs, and the garbled rows
 pub record RoundAt (pad : Pad) (n K s : ℕ) (file : List ℕ) (wires : List Wire) (outputs : List ℕ) (draw own : Draw) (values inputs keys rows : List ℕ) : Type 0 where
   pub pads : PadSize pad
   pub accepted : AcceptedCircuit file wires outputs
@@ -44,9 +44,9 @@ pub record Rightly (p v m : ℕ) (k D : List ℕ) (o : Opened) : Type 0 where
   pub external : o .external ≡ add p v m
   pub fits : o .fits ≡ true
 
--- evaluation undoes garbling: every wire is opened rightly
-abbrev pub EvaluationUndoesGarbling : Type 0
-EvaluationUndoesGarbling =
+-- opening undoes garbling: every wire is opened rightly
+abbrev pub OpeningUndoesGarbling : Type 0
+OpeningUndoesGarbling =
     (pad : Pad) (n K s : ℕ) (file : List ℕ) (wires : List Wire) (outputs : List ℕ) (draw own : Draw) (values inputs keys rows : List ℕ)
     → RoundAt pad n K s file wires outputs draw own values inputs keys rows
     → (w : ℕ)

@@ -1,4 +1,4 @@
--- The garbling scheme as document 01 writes it, in its order: what parties contribute, zero keys and masks, messages, rows; evaluation. Drawn
+-- The garbling scheme as document 01 writes it, in its order: what parties contribute, zero keys and masks, messages, rows; opening. Drawn
 -- and Given state the theorem of proofs/Opened; no contract rests on them.
 pub mod Contribution
 pub mod Draw
@@ -6,5 +6,6 @@ pub mod Zero
 pub mod Message
 pub mod Rows
 pub mod Opening
+pub mod Bytes
 pub mod Drawn
 pub mod Given

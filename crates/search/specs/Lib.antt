@@ -1,3 +1,3 @@
--- What evaluation finds: the first multiplier that fits, and the corrector that is opened.
+-- What opening finds: the first multiplier that fits, and the corrector that is opened.
 pub mod Search
 pub mod Corrector

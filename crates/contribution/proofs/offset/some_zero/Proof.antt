@@ -5,7 +5,7 @@ use Prim.Native.Nat.{_-_}
 use Rattle.lists.specs.Blocks.{part, nthPiece}
 use Rattle.lists.proofs.Search.{Looking, looking-start, looking-on}
 use Rattle.scheme.proofs.Used.{someBelow-at, someBelow-fails}
-use Rattle.round.specs.Bytes.{allZero}
+use Rattle.scheme.specs.Bytes.{allZero}
 use Rattle.contribution.proofs.Offsets.{within-all, party-part}
 use Rattle.contribution.proofs.offset.some_zero.Statement.{statement}
 use Rattle.contribution.proofs.offset.some_zero.Tie as tie

@@ -1,7 +1,7 @@
 -- `rehearsal::party_externals` meets its contract: picked, asked, scattered. Assumes nothing.
 use mathlib.Core.Path.{sym, _∙_}
 use native.Mathlib.Omega.{arith}
-use Rattle.round.proofs.OwnInputs.{own-length}
+use Rattle.calls.proofs.OwnInputs.{own-length}
 use Rattle.circuit.specs.Held.{wiresIn}
 use Rattle.rehearsal.proofs.Asked.{party-ends}
 use borrow.Author.Needs.{needs}

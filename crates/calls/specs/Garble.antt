@@ -1,0 +1,72 @@
+-- The call for garbling: from all n contributions, rows, one mask byte per input and one per output; the row meter in and back.
+-- Assumes nothing.
+use mathlib.Core.List.{List, [], _∷_}
+use Prim.Native.Nat.{ℕ, _*_}
+use lib.ListN.{length}
+use Rattle.checks.specs.Checked.{Checked, andThen, afterwards}
+use Rattle.meter.specs.Meter.{meterChecked, raised}
+use Rattle.words.specs.declared.gate.Wire.{Wire}
+use Rattle.circuit.specs.Wires.{inputsIn}
+use Rattle.circuit.specs.File.{readFile}
+use Rattle.counts.specs.Counts.{rowsIn}
+use Rattle.scheme.specs.Contribution.{contributionSize}
+use Rattle.scheme.specs.Draw.{Draw, drawn}
+use Rattle.pads.specs.Pad.{Pad}
+use Rattle.scheme.specs.Rows.{garbledRows, inputMasks, outputMasks}
+use Rattle.session.specs.Session.{fileChecked, sessionChecked, ownersChecked, lengthsChecked}
+use Rattle.scheme.specs.Bytes.{contributionsChecked, offsetsChecked}
+
+-- on the wires and outputs of a circuit: 16 and 17
+abbrev pub garbleBytes : ℕ → ℕ → List Wire → List ℕ → Checked
+garbleBytes n K wires contributions = andThen (contributionsChecked n K wires contributions) (offsetsChecked n K wires contributions)
+
+module _ (n K : ℕ) (wires : List Wire) (outputs contributions : List ℕ) where
+  -- 14, where so many bytes are lent for the rows, the input masks and the output masks
+  abbrev pub garbleLengths : ℕ → ℕ → ℕ → Checked
+  garbleLengths rows masks outs =
+      lengthsChecked (length contributions ∷ rows ∷ masks ∷ outs ∷ [])
+      (n * contributionSize K wires ∷ rowsIn wires * (n * K) ∷ inputsIn wires ∷ length outputs ∷ [])
+
+  -- 14, then 16 and 17
+  abbrev pub garbleLent : ℕ → ℕ → ℕ → Checked
+  garbleLent rows masks outs = andThen (garbleLengths rows masks outs) (garbleBytes n K wires contributions)
+
+  -- 13, then those
+  abbrev pub garbleOwned : ℕ → ℕ → ℕ → Checked
+  garbleOwned rows masks outs = andThen (ownersChecked n wires) (garbleLent rows masks outs)
+
+  -- 11, then those
+  abbrev pub garbleAsked : ℕ → ℕ → ℕ → Checked
+  garbleAsked rows masks outs = andThen (sessionChecked n K) (garbleOwned rows masks outs)
+
+-- the call: the file first, the meter last
+module _ (file : List ℕ) (n K : ℕ) (contributions rows masks outs : List ℕ) (meter : ℕ) where
+  abbrev wires : List Wire
+  wires = readFile file .wires
+
+  abbrev outputs : List ℕ
+  outputs = readFile file .outputs
+
+  abbrev draw : Draw
+  draw = drawn n K wires contributions
+
+  unfoldable pub garbleChecked : Checked
+  garbleChecked =
+      andThen (andThen (fileChecked file) (garbleAsked n K wires outputs contributions (length rows) (length masks) (length outs)))
+      (meterChecked meter (rowsIn wires))
+
+  -- afterwards: input masks, output masks, meter, and the rows, which alone depend on the pad
+  unfoldable pub garbleInputMasks : List ℕ
+  garbleInputMasks = afterwards garbleChecked (inputMasks wires draw) masks
+
+  unfoldable pub garbleOutputMasks : List ℕ
+  garbleOutputMasks = afterwards garbleChecked (outputMasks wires outputs draw) outs
+
+  unfoldable pub garbleMeter : ℕ
+  garbleMeter = afterwards garbleChecked (raised meter (rowsIn wires)) meter
+
+module _ (pad : Pad) (file : List ℕ) (n K : ℕ) (contributions rows masks outs : List ℕ) (meter : ℕ) where
+  unfoldable pub garbleRows : List ℕ
+  garbleRows =
+      afterwards (garbleChecked file n K contributions rows masks outs meter)
+      (garbledRows pad n K file (readFile file .wires) (drawn n K (readFile file .wires) contributions)) rows

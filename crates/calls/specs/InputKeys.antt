@@ -1,0 +1,56 @@
+-- The call for a party's input keys in wire order, from its contribution and all external inputs (n, K and party given).
+-- Assumes nothing.
+use mathlib.Core.List.{List, [], _∷_}
+use Prim.Native.Nat.{ℕ, _*_}
+use lib.ListN.{length, getD}
+use Rattle.lists.specs.Blocks.{blocks}
+use Rattle.residue.specs.Vector.{keyV}
+use Rattle.checks.specs.Checked.{Checked, andThen, afterwards}
+use Rattle.words.specs.declared.gate.Wire.{Wire}
+use Rattle.circuit.specs.Wires.{modulusAt, inputsIn}
+use Rattle.circuit.specs.File.{readFile}
+use Rattle.scheme.specs.Contribution.{contributionSize}
+use Rattle.scheme.specs.Draw.{Draw, drawn}
+use Rattle.session.specs.Session.{fileChecked, sessionChecked, partyChecked, ownersChecked, lengthsChecked, valuesChecked}
+use Rattle.scheme.specs.Bytes.{contributionsChecked, offsetsChecked}
+
+-- a party's key on input w: its zero key plus the external value times its offset
+unfoldable pub inputKey : List Wire → Draw → List ℕ → ℕ → List ℕ
+inputKey wires own externals w =
+    keyV (modulusAt wires w) (own .key w 0) (getD externals w 0) (own .offset (modulusAt wires w))
+
+-- on the wires of a circuit
+module _ (K : ℕ) (wires : List Wire) (contribution externals : List ℕ) where
+  -- 15, 16 and 17
+  abbrev pub inputKeysBytes : Checked
+  inputKeysBytes =
+      andThen (valuesChecked externals (modulusAt wires)) (andThen (contributionsChecked 1 K wires contribution) (offsetsChecked 1 K wires contribution))
+
+  -- 14, where so many bytes are lent for the keys, then those
+  abbrev pub inputKeysLent : ℕ → Checked
+  inputKeysLent keys =
+      andThen
+      (lengthsChecked (length contribution ∷ length externals ∷ keys ∷ []) (contributionSize K wires ∷ inputsIn wires ∷ inputsIn wires * K ∷ []))
+      inputKeysBytes
+
+  -- 12 and 13, with n parties, then those
+  abbrev pub inputKeysParty : ℕ → ℕ → ℕ → Checked
+  inputKeysParty n party keys = andThen (partyChecked n party) (andThen (ownersChecked n wires) (inputKeysLent keys))
+
+  -- 11, then those
+  abbrev pub inputKeysAsked : ℕ → ℕ → ℕ → Checked
+  inputKeysAsked n party keys = andThen (sessionChecked n K) (inputKeysParty n party keys)
+
+  abbrev pub inputKeysMade : List ℕ
+  inputKeysMade = blocks (inputsIn wires) (inputKey wires (drawn 1 K wires contribution) externals)
+
+-- the call: the file first
+module _ (file : List ℕ) (n K party : ℕ) (contribution externals keys : List ℕ) where
+  abbrev wires : List Wire
+  wires = readFile file .wires
+
+  unfoldable pub inputKeysChecked : Checked
+  inputKeysChecked = andThen (fileChecked file) (inputKeysAsked K wires contribution externals n party (length keys))
+
+  unfoldable pub inputKeysAfter : List ℕ
+  inputKeysAfter = afterwards inputKeysChecked (inputKeysMade K wires contribution externals) keys

@@ -1,0 +1,32 @@
+-- `opening::put_from` meets its contract: what was opened stands at its place. Assumes nothing.
+use mathlib.Core.Path.{_∙_}
+use Prim.Native.Nat.{_*_, _≤_}
+use native.Mathlib.Omega.{arith}
+use lib.ListN.{length}
+use Rattle.contribution.proofs.Sizes.{vector-fits}
+use Rattle.opening.proofs.Turns.{place-fits, put-room, put-is}
+use borrow.Author.Needs.{needs}
+use Rattle.opening.proofs.pass.put_from.Statement.{statement}
+use Rattle.opening.proofs.pass.put_from.Tie as tie
+
+pub put-from-spec : {M : Type 1} → statement M
+put-from-spec =
+    tie.close
+    (tie.spec
+    (λ c κs. search needs)
+    (λ c κs. search needs)
+    (λ c. omega (arith, vector-fits (c .before .before .before .before .before .before .before .before .before .before .before .before .before .before .before .before .before .pre .0 .0 .sizes)))
+    (λ c.
+    let start = c .before .before .before .before .before .before .before .before .before .before .before .before .before .before .before .before .before in
+    let h : c .before .before .wide .result * (start .args .turn .n * start .args .turn .k) ≤ length (start .args .wkeys .now) = place-fits (start .args .turn .n * start .args .turn .k) (c .before .before .wide .ensures) (start .pre .0 .1 .1 .0) in
+    omega (arith, h, start .good))
+    (λ c κs.
+    let start = c .before .before .before .before .before .before .before .before .before .before .before .before .before .before .before .before .before .before in
+    put-room (c .before .before .before .wide .ensures) (start .pre .0 .1 .1 .0) (c .before .before .before .before .before .before .open-wire .kept .1 .1 .1 .1 .1 .1 .1 .1 .1 .0 ∙ start .pre .0 .1 .0 .size))
+    (λ c. omega (arith, c .before .before .before .before .before .before .wide .ensures, c .before .before .before .before .before .before .before .before .before .before .before .before .before .before .before .before .before .before .before .before .before .pre .0 .1 .1 .1))
+    (λ c. search needs)
+    (λ c. search needs)
+    (λ c. search needs)
+    (λ c.
+    let start = c .before .before .before .before .before .before .before .before .before .before .before .before .before .before .before .before .before .before .before .before .before in
+    put-is (start .args .turn) (c .before .before .before .before .before .before .wide .ensures) (c .before .before .before .before .before .before .before .before .before .open-wire .kept .1 .1 .1 .1 .1 .1 .1 .1 .1 .0 ∙ start .pre .0 .1 .0 .size) (c .before .before .before .before .before .before .before .before .before .open-wire .ensures) (c .before .before .put-at .ensures)))

@@ -1,0 +1,3 @@
+-- Laws of the calls that read a circuit: what is counted.
+pub mod Counting
+pub mod Kept

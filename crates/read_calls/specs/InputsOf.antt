@@ -1,0 +1,27 @@
+-- The call that counts a party's inputs (n and party given, no K).
+-- Assumes nothing.
+use mathlib.Core.Path.{_≡_}
+use mathlib.Core.List.{List}
+use Prim.Native.Nat.{ℕ}
+use Rattle.checks.specs.Checked.{Checked, Meets, andThen, afterwards}
+use Rattle.circuit.specs.File.{readFile}
+use Rattle.counts.specs.Counts.{inputsOf}
+use Rattle.session.specs.Session.{fileChecked, partiesChecked, partyChecked, ownersChecked}
+use Rattle.read_calls.specs.declared.inputs.Counted.{Counted}
+
+module _ (file : List ℕ) (n party : ℕ) where
+  unfoldable pub inputsOfChecked : Checked
+  inputsOfChecked =
+      andThen (fileChecked file)
+      (andThen (partiesChecked n)
+      (andThen (partyChecked n party)
+      (ownersChecked n (readFile file .wires))))
+
+  -- a lent number afterwards
+  unfoldable pub inputsOfAfter : ℕ → ℕ
+  inputsOfAfter count = afterwards inputsOfChecked (inputsOf party (readFile file .wires)) count
+
+  -- the answer, and the count, which is 0 where the file is refused
+  pub record CountsInputs (counted : Counted) : Type 0 where
+    pub answer : Meets inputsOfChecked (counted .answer)
+    pub count : counted .count ≡ inputsOf party (readFile file .wires)

@@ -1,0 +1,3 @@
+-- What the calls that read a circuit answer and write.
+pub mod Summary
+pub mod InputsOf

@@ -1,9 +1,0 @@
-// The calls that make garbled rows and open them. Each reads the file first; then come the checks on what else it is given, in document 01's order; only then is
-// anything written. Rests on `garbling` and `evaluation` for the work, on `session`, `contribution`, `exchange` and `meter` for the checks, and on `round` for what the
-// calls are to do.
-mod garbled;
-mod opened;
-
-pub use garbled::Metered;
-pub use garbled::garble;
-pub use opened::open_rows;

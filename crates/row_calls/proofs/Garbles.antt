@@ -1,0 +1,206 @@
+-- Garbling as a call: the checks after reading, what acceptance hands on, and how the call ends.
+-- Assumes nothing.
+use mathlib.Core.Path.{_≡_, sym, ap, ap₂, subst, _∙_}
+use mathlib.Core.List.{List, [], _∷_}
+use Prim.Native.Nat.{ℕ, _*_, _≤_}
+use native.Mathlib.Omega.{arith}
+use lib.ListN.{length}
+use Rattle.checks.specs.declared.Answer.{Answer}
+use Rattle.checks.specs.declared.Answer.the-variants.{Accepted, Refused}
+use Rattle.checks.specs.declared.Refusal.{Refusal}
+use Rattle.checks.specs.Combined.{followed}
+use Rattle.checks.specs.Checked.{Checked, Meets, andThen}
+use Rattle.checks.specs.Checked.Checked.{passed}
+use Rattle.checks.proofs.Passed.{andThen-left, andThen-right}
+use Rattle.checks.proofs.Answers.{afterwards-accepted, afterwards-refused}
+use Rattle.words.specs.declared.gate.Wire.{Wire}
+use Rattle.circuit.specs.declared.Circuit.{Circuit}
+use Rattle.circuit.specs.declared.Reading.{Reading}
+use Rattle.circuit.specs.Wires.{inputsIn}
+use Rattle.circuit.specs.File.{readFile}
+use Rattle.circuit.specs.Held.{wiresIn, outputsIn, Held, Holds}
+use Rattle.counts.specs.Counts.{rowsIn, Counts}
+use Rattle.pads.specs.Pad.{shakePad}
+use Rattle.scheme.specs.Contribution.{contributionSize}
+use Rattle.scheme.specs.Draw.{Draw, drawn}
+use Rattle.scheme.specs.Rows.{garbledRows, inputMasks, outputMasks}
+use Rattle.session.specs.Session.{sessionChecked, ownersChecked, lengthsChecked}
+use Rattle.session.proofs.Sessions.{SessionFits, session-fits}
+use Rattle.session.proofs.Circuits.{held-of, given-is}
+use Rattle.meter.specs.Meter.{HasSpace, meterChecked, raised}
+use Rattle.meter.proofs.Totals.{passed-space}
+use Rattle.calls.specs.Garble.{garbleBytes, garbleLengths, garbleLent, garbleOwned, garbleAsked, garbleChecked, garbleRows, garbleInputMasks, garbleOutputMasks, garbleMeter}
+use Rattle.row_calls.specs.Garbled.{Draws}
+use Rattle.zero.specs.Ready.{Contributed, drawnIn}
+use Rattle.party_calls.proofs.Ending.{lent-is, stage-passed, stage-next, stage-refused, stage-followed, first-accepted, second-accepted, read-met, check-accepted, circuit-accepted}
+
+-- ---- 14, and then 16 and 17
+
+four-same : {a b c d x y z t : ℕ} → a ≡ x → b ≡ y → c ≡ z → d ≡ t → _≡_ {A = List ℕ} (a ∷ b ∷ c ∷ d ∷ []) (x ∷ y ∷ z ∷ t ∷ [])
+four-same e f g h = rw (e, f, g, h)
+
+module _ {circuit : Circuit} (held : Held circuit) (n K : ℕ) (few : n ≤ 8) (most : K ≤ 128) (contributions : List ℕ) (rows masks outs : ℕ)
+    {parties long size raw count : ℕ} (p : parties ≡ n) (l : long ≡ K) (s : Counts 429056 (contributionSize long (wiresIn circuit)) size)
+    (c : Counts 524288 (rowsIn (wiresIn circuit)) raw) (d : count ≡ raw) {answer : Answer}
+    (m : Meets (lengthsChecked (length contributions ∷ rows ∷ masks ∷ outs ∷ []) (parties * size ∷ count * (parties * long) ∷ circuit .inputs ∷ circuit .given ∷ [])) answer) where
+  abbrev ws : List Wire
+  ws = wiresIn circuit
+
+  abbrev os : List ℕ
+  os = outputsIn circuit
+
+  abbrev lent : List ℕ
+  lent = length contributions ∷ rows ∷ masks ∷ outs ∷ []
+
+  abbrev rest : ℕ → ℕ → Checked
+  rest a b = garbleBytes a b (wiresIn circuit) contributions
+
+  sized : size ≡ contributionSize K ws
+  sized = s .is ∙ ap (λ (k : ℕ). contributionSize k ws) l
+
+  lengths-met : Meets (garbleLengths n K ws os contributions rows masks outs) answer
+  lengths-met =
+      subst (λ (w : List ℕ). Meets (lengthsChecked lent w) answer)
+      (four-same (ap₂ (λ (a b : ℕ). a * b) p sized) (ap₂ (λ (a b : ℕ). a * b) (d ∙ c .is) (ap₂ (λ (a b : ℕ). a * b) p l)) (held .inputs) (sym (given-is held))) m
+
+  pub draws-lent : answer ≡ Accepted → Draws circuit parties long contributions
+  draws-lent e =
+      record { held = held; parties = omega arith; most = omega arith; size = lent-is _ _ (stage-passed m e) 0 ∙ ap (λ (x : ℕ). parties * x) (s .is) }
+
+  pub draws-next : answer ≡ Accepted → {r : Answer} → Meets (rest parties long) r → Meets (garbleLent n K (wiresIn circuit) (outputsIn circuit) contributions rows masks outs) r
+  draws-next e {r} k =
+      stage-next lengths-met e
+      (subst (λ (a : ℕ). Meets (rest a K) r) p (subst (λ (b : ℕ). Meets (rest parties b) r) l k))
+
+  pub draws-stop : {reason : Refusal} {place : ℕ} → answer ≡ Refused reason place
+      → Meets (garbleLent n K (wiresIn circuit) (outputsIn circuit) contributions rows masks outs) (Refused reason place)
+  draws-stop e = stage-refused lengths-met (rest n K) e
+
+-- ---- 11
+
+module _ (n K : ℕ) {session : Answer} (m : Meets (sessionChecked n K) session) where
+  pub session-in-range : session ≡ Accepted → (n ≤ 8) × (K ≤ 128)
+  session-in-range e = let f = session-fits n K (stage-passed m e) in (f .parties .most, f .most)
+
+  module _ (wires : List Wire) (outputs contributions : List ℕ) (rows masks outs : ℕ) where
+    pub garble-next : session ≡ Accepted → {r : Answer} → Meets (garbleOwned n K wires outputs contributions rows masks outs) r
+        → Meets (garbleAsked n K wires outputs contributions rows masks outs) r
+    garble-next e k = stage-next m e k
+
+    pub garble-stop : {reason : Refusal} {place : ℕ} → session ≡ Refused reason place → Meets (garbleAsked n K wires outputs contributions rows masks outs) (Refused reason place)
+    garble-stop e = stage-refused m (garbleOwned n K wires outputs contributions rows masks outs) e
+
+-- ---- the whole call
+
+module _ {reading : Reading} (file : List ℕ) (n K : ℕ) (contributions rows masks outs : List ℕ) (meter : ℕ) (h : Holds reading (readFile file)) {check earlier space answer : Answer} {count : ℕ}
+    (checked : Meets (garbleAsked n K (wiresIn (reading .circuit)) (outputsIn (reading .circuit)) contributions (length rows) (length masks) (length outs)) check)
+    (joined : earlier ≡ followed (reading .answer) check) (counted : Counts 524288 (rowsIn (wiresIn (reading .circuit))) count) (spaced : Meets (meterChecked meter count) space)
+    (last : answer ≡ followed earlier space) where
+  abbrev circuit : Circuit
+  circuit = reading .circuit
+
+  abbrev wires : List Wire
+  wires = wiresIn (reading .circuit)
+
+  abbrev outputs : List ℕ
+  outputs = outputsIn (reading .circuit)
+
+  abbrev fate : Checked
+  fate = garbleChecked file n K contributions rows masks outs meter
+
+  rows-are : count ≡ rowsIn (readFile file .wires)
+  rows-are = counted .is ∙ ap rowsIn (h .wires)
+
+  met : Meets fate answer
+  unfolding garbleChecked
+  met =
+      stage-followed
+      (read-met file h check joined
+      (subst (λ (w : List Wire). Meets (garbleAsked n K w (readFile file .outputs) contributions (length rows) (length masks) (length outs)) check) (h .wires)
+      (subst (λ (o : List ℕ). Meets (garbleAsked n K wires o contributions (length rows) (length masks) (length outs)) check) (h .outputs) checked)))
+      (subst (λ (c : ℕ). Meets (meterChecked meter c) space) rows-are spaced) last
+
+  abbrev Ends : Answer → List ℕ → List ℕ → List ℕ → ℕ → Type 0
+  Ends a rows′ masks′ outs′ meter′ =
+      Meets fate a × (rows′ ≡ garbleRows shakePad file n K contributions rows masks outs meter)
+      × (masks′ ≡ garbleInputMasks file n K contributions rows masks outs meter)
+      × (outs′ ≡ garbleOutputMasks file n K contributions rows masks outs meter)
+      × (meter′ ≡ garbleMeter file n K contributions rows masks outs meter)
+
+  pub garble-refused : {reason : Refusal} {place : ℕ} → answer ≡ Refused reason place → Ends (Refused reason place) rows masks outs meter
+  unfolding garbleRows garbleInputMasks garbleOutputMasks garbleMeter
+  garble-refused {reason} {place} e =
+      let a : Meets fate (Refused reason place) = subst (Meets fate) e met in
+      (a, afterwards-refused a _ rows, afterwards-refused a _ masks, afterwards-refused a _ outs, afterwards-refused a _ meter)
+
+  module _ (e : answer ≡ Accepted) where
+    read : earlier ≡ Accepted
+    read = first-accepted earlier space (sym last ∙ e)
+
+    abbrev buffers : Checked
+    buffers = garbleLent n K wires outputs contributions (length rows) (length masks) (length outs)
+
+    all : andThen (sessionChecked n K) (andThen (ownersChecked n wires) buffers) ≡ passed
+    all = stage-passed checked (check-accepted file h check joined read)
+
+    fits : SessionFits n K
+    fits = session-fits n K (andThen-left (sessionChecked n K) (andThen (ownersChecked n wires) buffers) all)
+
+    buffersPassed : buffers ≡ passed
+    buffersPassed = andThen-right (ownersChecked n wires) buffers (andThen-right (sessionChecked n K) (andThen (ownersChecked n wires) buffers) all)
+
+    lengthsPassed : garbleLengths n K wires outputs contributions (length rows) (length masks) (length outs) ≡ passed
+    lengthsPassed =
+        andThen-left (garbleLengths n K wires outputs contributions (length rows) (length masks) (length outs)) (garbleBytes n K wires contributions) buffersPassed
+
+    pub garble-most : K ≤ 128
+    garble-most = fits .most
+
+    pub garble-space : HasSpace meter count
+    garble-space = passed-space meter count (stage-passed spaced (second-accepted earlier space (sym last ∙ e)))
+
+    module _ {parties long : ℕ} (p : parties ≡ n) (l : long ≡ K) where
+      pub garble-contributed : {size : ℕ} → Counts 429056 (contributionSize long (wiresIn (reading .circuit))) size → Contributed file (reading .circuit) parties long size contributions
+      garble-contributed {size} s =
+          let sized : size ≡ contributionSize K wires = s .is ∙ ap (λ (k : ℕ). contributionSize k wires) l in
+          record {
+            held = held-of h;
+            accepted = circuit-accepted file h check joined read;
+            sizes = record {
+              some = omega (arith, fits .parties .least);
+              parties = omega (arith, fits .parties .most);
+              long = omega (arith, fits .least);
+              short = omega (arith, fits .most);
+            };
+            each = s .is;
+            all = lent-is _ _ lengthsPassed 0 ∙ ap₂ (λ (a b : ℕ). a * b) (sym p) (sym sized);
+          }
+
+      pub garble-room : (length rows ≡ rowsIn (wiresIn (reading .circuit)) * (parties * long)) × ((length masks ≡ inputsIn (wiresIn (reading .circuit))) × (length outs ≡ length (outputsIn (reading .circuit))))
+      garble-room =
+          (lent-is _ _ lengthsPassed 1 ∙ ap (λ (b : ℕ). rowsIn wires * b) (ap₂ (λ (a b : ℕ). a * b) (sym p) (sym l)), (lent-is _ _ lengthsPassed 2, lent-is _ _ lengthsPassed 3))
+
+      drawn-is : drawnIn circuit parties long contributions ≡ drawn n K (readFile file .wires) contributions
+      drawn-is =
+          ap₂ (λ (a b : ℕ). drawn a b wires contributions) p l ∙ ap (λ (w : List Wire). drawn n K w contributions) (h .wires)
+
+      pub garble-written : {rows′ masks′ outs′ : List ℕ} {meter′ : ℕ}
+          → (rows′ ≡ garbledRows shakePad parties long file (wiresIn (reading .circuit)) (drawnIn (reading .circuit) parties long contributions))
+          × ((masks′ ≡ inputMasks (wiresIn (reading .circuit)) (drawnIn (reading .circuit) parties long contributions))
+          × (outs′ ≡ outputMasks (wiresIn (reading .circuit)) (outputsIn (reading .circuit)) (drawnIn (reading .circuit) parties long contributions)))
+          → meter′ ≡ raised meter count → Ends Accepted rows′ masks′ outs′ meter′
+      unfolding garbleRows garbleInputMasks garbleOutputMasks garbleMeter
+      garble-written {rows′} {masks′} {outs′} {meter′} w r =
+          let a : Meets fate Accepted = subst (Meets fate) e met in (
+            a,
+            w .0
+                ∙ ap₂ (λ (a b : ℕ). garbledRows shakePad a b file wires (drawnIn circuit parties long contributions)) p l
+                ∙ ap₂ (λ (v : List Wire) (d : Draw). garbledRows shakePad n K file v d) (h .wires) drawn-is
+                ∙ afterwards-accepted a _ rows,
+            w .1 .0 ∙ ap₂ (λ (v : List Wire) (d : Draw). inputMasks v d) (h .wires) drawn-is ∙ afterwards-accepted a _ masks,
+            w .1 .1
+                ∙ ap (λ (o : List ℕ). outputMasks wires o (drawnIn circuit parties long contributions)) (h .outputs)
+                ∙ ap₂ (λ (v : List Wire) (d : Draw). outputMasks v (readFile file .outputs) d) (h .wires) drawn-is
+                ∙ afterwards-accepted a _ outs,
+            r ∙ ap (raised meter) rows-are ∙ afterwards-accepted a _ meter,
+          )

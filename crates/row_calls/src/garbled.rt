@@ -1,0 +1,181 @@
+// Garbling as a call: rows, input masks and output masks from the contributions of all parties, and the row meter raised.
+ghost use mathlib.Core.Path.{_≡_};
+ghost use Prim.Native.Nat.{_≤_};
+ghost use Rattle.checks.specs.Checked.{Meets};
+ghost use Rattle.circuit.specs.File.{readFile};
+ghost use Rattle.circuit.specs.Held.{wiresIn, outputsIn, Held, Holds};
+ghost use Rattle.pads.specs.Pad.{shakePad};
+ghost use Rattle.calls.specs.Garble.{garbleBytes, garbleLent, garbleOwned, garbleAsked, garbleChecked, garbleRows, garbleInputMasks, garbleOutputMasks, garbleMeter};
+ghost use Rattle.row_calls.specs.Garbled.{Draws};
+use checks::Answer;
+use checks::followed;
+use circuit::Circuit;
+use circuit::Reading;
+use circuit::read;
+use contribution::contribution_size;
+use contribution::contributions_checked;
+use contribution::offsets_checked;
+use meter::meter_checked;
+use meter::raised;
+use party_calls::counted;
+use session::length_checked;
+use session::owners_checked;
+use session::session_checked;
+
+// The answer, and what the row meter then holds.
+pub struct Metered {
+    pub answer: Answer,
+    pub meter: u32,
+}
+
+// How many bytes are lent for the rows, the input masks and the output masks.
+struct Lent {
+    rows: usize,
+    inputs: usize,
+    outputs: usize,
+}
+
+// The bytes, where their number is right: the contributions, then their offsets.
+fn draws_checked(circuit: Circuit, n: usize, k: usize, contributions: &[u8]) -> Answer
+    requires { ⌜ Draws circuit n k (now contributions) ⌝ }
+    ensures { λ r. ⌜ Meets (garbleBytes n k (wiresIn circuit) (now (contributions .entry))) r ⌝ }
+{
+    let bytes = contributions_checked(circuit, n, k, contributions);
+    let offsets = offsets_checked(circuit, n, k, contributions);
+    followed(bytes, offsets)
+}
+
+// The lengths of what is lent, and where they are right the bytes.
+fn buffers_checked(circuit: Circuit, n: u32, k: u32, contributions: &[u8], lent: Lent) -> Answer
+    requires { ⌜ Held circuit × ((n ≤ 8) × (k ≤ 128)) ⌝ }
+    ensures { λ r. ⌜ Meets (garbleLent n k (wiresIn circuit) (outputsIn circuit) (now (contributions .entry)) (lent .rows) (lent .inputs) (lent .outputs)) r ⌝ }
+{
+    let parties = counted(n);
+    let long = counted(k);
+    let size = contribution_size(circuit, long);
+    let count = counted(counts::rows(circuit));
+    let all = parties * size;
+    let width = parties * long;
+    let bytes = count * width;
+    let drawn = length_checked(contributions.len(), all);
+    let lines = length_checked(lent.rows, bytes);
+    let masks = length_checked(lent.inputs, circuit.inputs);
+    let results = length_checked(lent.outputs, circuit.given);
+    let lengths = followed(drawn, followed(lines, followed(masks, results)));
+    match lengths {
+        Answer::Accepted => draws_checked(circuit, parties, long, contributions),
+        Answer::Refused(reason, place) => Answer::Refused(reason, place),
+    }
+}
+
+// The owners, and then what is lent.
+fn garble_owned(circuit: Circuit, n: u32, k: u32, contributions: &[u8], lent: Lent) -> Answer
+    requires { ⌜ Held circuit × ((n ≤ 8) × (k ≤ 128)) ⌝ }
+    ensures { λ r. ⌜ Meets (garbleOwned n k (wiresIn circuit) (outputsIn circuit) (now (contributions .entry)) (lent .rows) (lent .inputs) (lent .outputs)) r ⌝ }
+{
+    let owners = owners_checked(circuit, n);
+    let buffers = buffers_checked(circuit, n, k, contributions, lent);
+    followed(owners, buffers)
+}
+
+// The session, and where it is in range the rest.
+fn garble_asked(circuit: Circuit, n: u32, k: u32, contributions: &[u8], lent: Lent) -> Answer
+    requires { ⌜ Held circuit ⌝ }
+    ensures { λ r. ⌜ Meets (garbleAsked n k (wiresIn circuit) (outputsIn circuit) (now (contributions .entry)) (lent .rows) (lent .inputs) (lent .outputs)) r ⌝ }
+{
+    let session = session_checked(n, k);
+    match session {
+        Answer::Accepted => garble_owned(circuit, n, k, contributions, lent),
+        Answer::Refused(reason, place) => Answer::Refused(reason, place),
+    }
+}
+
+// The call, once the file is read.
+fn garble_read(
+    reading: Reading,
+    file: &[u8],
+    n: u32,
+    k: u32,
+    contributions: &[u8],
+    rows: &mut [u8],
+    inputs: &mut [u8],
+    outputs: &mut [u8],
+    meter: u32,
+) -> Metered
+    requires { ⌜ Holds reading (readFile (now file)) ⌝ }
+    ensures { λ r. ⌜ Meets (garbleChecked (now (file .entry)) n k (now (contributions .entry)) (now (rows .entry)) (now (inputs .entry)) (now (outputs .entry)) meter) (r .answer)
+        × (now (rows .exit) ≡ garbleRows shakePad (now (file .entry)) n k (now (contributions .entry)) (now (rows .entry)) (now (inputs .entry)) (now (outputs .entry)) meter)
+        × (now (inputs .exit) ≡ garbleInputMasks (now (file .entry)) n k (now (contributions .entry)) (now (rows .entry)) (now (inputs .entry)) (now (outputs .entry)) meter)
+        × (now (outputs .exit) ≡ garbleOutputMasks (now (file .entry)) n k (now (contributions .entry)) (now (rows .entry)) (now (inputs .entry)) (now (outputs .entry)) meter)
+        × (r .meter ≡ garbleMeter (now (file .entry)) n k (now (contributions .entry)) (now (rows .entry)) (now (inputs .entry)) (now (outputs .entry)) meter) ⌝ }
+{
+    let read = reading.answer;
+    let circuit = reading.circuit;
+    let unraised = meter;
+    let lent = Lent {
+        rows: rows.len(),
+        inputs: inputs.len(),
+        outputs: outputs.len(),
+    };
+    let asked = garble_asked(circuit, n, k, contributions, lent);
+    let earlier = followed(read, asked);
+    let count = counts::rows(circuit);
+    let answer = followed(earlier, meter_checked(meter, count));
+    match answer {
+        Answer::Accepted => {
+            let parties = counted(n);
+            let long = counted(k);
+            let size = contribution_size(circuit, long);
+            garbling::garble(
+                circuit,
+                file,
+                parties,
+                long,
+                size,
+                contributions,
+                rows,
+                inputs,
+                outputs,
+            );
+            Metered {
+                answer: Answer::Accepted,
+                meter: raised(meter, count),
+            }
+        }
+        Answer::Refused(reason, place) => Metered {
+            answer: Answer::Refused(reason, place),
+            meter: unraised,
+        },
+    }
+}
+
+// Garbles a circuit. Refused or not, the contract gives the answer, every byte of the three buffers lent, and the meter.
+pub fn garble(
+    file: &[u8],
+    n: u32,
+    k: u32,
+    contributions: &[u8],
+    rows: &mut [u8],
+    inputs: &mut [u8],
+    outputs: &mut [u8],
+    meter: u32,
+) -> Metered
+    ensures { λ r. ⌜ Meets (garbleChecked (now (file .entry)) n k (now (contributions .entry)) (now (rows .entry)) (now (inputs .entry)) (now (outputs .entry)) meter) (r .answer)
+        × (now (rows .exit) ≡ garbleRows shakePad (now (file .entry)) n k (now (contributions .entry)) (now (rows .entry)) (now (inputs .entry)) (now (outputs .entry)) meter)
+        × (now (inputs .exit) ≡ garbleInputMasks (now (file .entry)) n k (now (contributions .entry)) (now (rows .entry)) (now (inputs .entry)) (now (outputs .entry)) meter)
+        × (now (outputs .exit) ≡ garbleOutputMasks (now (file .entry)) n k (now (contributions .entry)) (now (rows .entry)) (now (inputs .entry)) (now (outputs .entry)) meter)
+        × (r .meter ≡ garbleMeter (now (file .entry)) n k (now (contributions .entry)) (now (rows .entry)) (now (inputs .entry)) (now (outputs .entry)) meter) ⌝ }
+{
+    let reading = read(file);
+    garble_read(
+        reading,
+        file,
+        n,
+        k,
+        contributions,
+        rows,
+        inputs,
+        outputs,
+        meter,
+    )
+}

@@ -1,0 +1,72 @@
+-- The checks of values and bytes against their moduli, 15, 16 and 18, pass exactly if each entry is below its modulus.
+-- Assumes nothing.
+use mathlib.Core.Path.{_≡_}
+use mathlib.Core.Bool.{Bool, false, _||_}
+use mathlib.Core.List.{List}
+use Prim.Native.Nat.{ℕ, _*_, _<_}
+use lib.ListN.{length, getD}
+use borrow.Author.Tests.{leb-false, lt-leb}
+use Rattle.lists.specs.Blocks.{blocks, runs}
+use Rattle.residue.specs.Vector.{AllBelow}
+use Rattle.checks.specs.declared.Refusal.{Refusal}
+use Rattle.checks.specs.declared.Refusal.the-variants.{ValueTooLarge, KeyOrRowTooLarge}
+use Rattle.checks.specs.Checked.Checked.{passed}
+use Rattle.checks.proofs.Passed.{noneBad-passed, somewhere-passed, somewhere-none}
+use Rattle.words.specs.declared.gate.Wire.{Wire}
+use Rattle.circuit.specs.Wires.{modulusAt, inputsIn}
+use Rattle.counts.specs.Counts.{rowsOf}
+use Rattle.scheme.proofs.EachBelow.{runs-each}
+use Rattle.session.specs.Session.{tooLarge, valuesChecked}
+use Rattle.scheme.specs.Bytes.{bytesChecked, keysChecked, rowsChecked}
+
+-- ---- one entry
+
+pub tooLarge-below : (xs : List ℕ) (modulus : ℕ → ℕ) (i : ℕ) → tooLarge xs modulus i ≡ false → getD xs i 0 < modulus i
+tooLarge-below xs modulus i e = leb-false (modulus i) (getD xs i 0) e
+
+pub below-tooLarge : (xs : List ℕ) (modulus : ℕ → ℕ) (i : ℕ) → getD xs i 0 < modulus i → tooLarge xs modulus i ≡ false
+below-tooLarge xs modulus i h = lt-leb (modulus i) (getD xs i 0) h
+
+-- two buffers at once
+pub either-fine : {a b : Bool} → a ≡ false → b ≡ false → (a || b) ≡ false
+either-fine e f = rw (e, f)
+
+-- ---- 15
+
+module _ (xs : List ℕ) (modulus : ℕ → ℕ) where
+  pub values-passed : ((i : ℕ) → i < length xs → getD xs i 0 < modulus i) → valuesChecked xs modulus ≡ passed
+  unfolding valuesChecked
+  values-passed below = noneBad-passed (length xs) (tooLarge xs modulus) ValueTooLarge (λ i h. below-tooLarge xs modulus i (below i h))
+
+-- ---- 16 and 18
+
+module _ (xs moduli : List ℕ) (reason : Refusal) where
+  pub bytes-passed : ((i : ℕ) → i < length xs → getD xs i 0 < getD moduli i 0) → bytesChecked xs moduli reason ≡ passed
+  unfolding bytesChecked
+  bytes-passed below =
+      somewhere-passed (length xs) (tooLarge xs (λ i. getD moduli i 0)) reason (λ i h. below-tooLarge xs (λ i. getD moduli i 0) i (below i h))
+
+  pub bytes-below : bytesChecked xs moduli reason ≡ passed → (i : ℕ) → i < length xs → getD xs i 0 < getD moduli i 0
+  unfolding bytesChecked
+  bytes-below e i h =
+      tooLarge-below xs (λ i. getD moduli i 0) i (somewhere-none (length xs) (tooLarge xs (λ i. getD moduli i 0)) reason e i h)
+
+-- keys of all inputs, one after another, each of n times K residues
+pub keys-passed : (n K : ℕ) (wires : List Wire) (f : ℕ → List ℕ)
+    → ((w : ℕ) → w < inputsIn wires → length (f w) ≡ n * K)
+    → ((w : ℕ) → w < inputsIn wires → AllBelow (modulusAt wires w) (f w))
+    → keysChecked n K wires (blocks (inputsIn wires) f) ≡ passed
+unfolding keysChecked
+keys-passed n K wires f e b =
+    bytes-passed (blocks (inputsIn wires) f) (runs (inputsIn wires) (λ w. n * K) (modulusAt wires)) KeyOrRowTooLarge
+    (runs-each (inputsIn wires) f (λ w. n * K) (modulusAt wires) e b .entry)
+
+-- rows of all wires, one wire after another
+pub rows-passed : (n K : ℕ) (wires : List Wire) (f : ℕ → List ℕ)
+    → ((w : ℕ) → w < length wires → length (f w) ≡ rowsOf wires w * (n * K))
+    → ((w : ℕ) → w < length wires → AllBelow (modulusAt wires w) (f w))
+    → rowsChecked n K wires (blocks (length wires) f) ≡ passed
+unfolding rowsChecked
+rows-passed n K wires f e b =
+    bytes-passed (blocks (length wires) f) (runs (length wires) (λ w. rowsOf wires w * (n * K)) (modulusAt wires)) KeyOrRowTooLarge
+    (runs-each (length wires) f (λ w. rowsOf wires w * (n * K)) (modulusAt wires) e b .entry)
