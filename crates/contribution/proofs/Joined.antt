@@ -13,7 +13,9 @@ use Rattle.lists.specs.First.{first}
 use Rattle.lists.proofs.Parts.{length-range}
 use Rattle.lists.proofs.Sums.{sumTo-times}
 use Rattle.lists.proofs.Blocks.{length-runs}
+use Rattle.lists.proofs.First.{first-most}
 use Rattle.lists.proofs.Search.{Looking, looking-start}
+use Rattle.lists.proofs.Windows.{window-on, window-found, window-last}
 use Rattle.words.specs.declared.gate.Wire.{Wire}
 use Rattle.circuit.specs.Wires.{modulusAt}
 use Rattle.counts.specs.Counts.{Counts, mark, recordKeysOf, recordKeysIn}
@@ -21,7 +23,6 @@ use Rattle.counts.specs.Moduli.{used, moduliUsed}
 use Rattle.session.specs.Session.{tooLarge}
 use Rattle.scheme.specs.Contribution.{contributionSize, contributionModuli}
 use Rattle.contribution.specs.Large.{firstLarge}
-use Rattle.contribution.proofs.Windows.{first-most, window-on, window-found, window-last}
 
 module _ (xs ms ns : List ℕ) (split : ℕ) (h : split ≤ length xs) (e : length ms ≡ split) {found : ℕ}
     (f : found ≡ firstLarge (take split xs) (λ i. getD ms i 0)) where

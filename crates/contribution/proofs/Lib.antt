@@ -3,7 +3,6 @@ pub mod Sizes
 pub mod Cursor
 pub mod Once
 pub mod Large
-pub mod Windows
 pub mod Runs
 pub mod Wired
 pub mod Offsets

@@ -1,11 +1,11 @@
 -- Once a vector is the vector, within a sum.
 -- Assumes nothing.
 use mathlib.Core.Path.{_≡_, refl, ap₂}
-use mathlib.Core.List.{List, [], _∷_}
+use mathlib.Core.List.{List, [], _∷_, zipWith}
 use Prim.Native.Nat.{ℕ}
 use native.Mathlib.Nat.{one-mul, add-mod-mod}
 use Rattle.residue.specs.Residue.{add, mul}
-use Rattle.residue.specs.Vector.{zipWith, addV, mulV, keyV}
+use Rattle.residue.specs.Vector.{addV, mulV, keyV}
 
 once : (p x y : ℕ) → add p x (mul p 1 y) ≡ add p x y
 unfolding add mul

@@ -23,9 +23,9 @@ use Rattle.lists.proofs.Parts.{length-range}
 use Rattle.lists.proofs.Sums.{sumTo-next, sumTo-fits}
 use Rattle.lists.proofs.Blocks.{getD-blocks, getD-runs}
 use Rattle.lists.proofs.Search.{Looking, looking-start, looking-none}
+use Rattle.lists.proofs.Windows.{window-on, window-found}
 use Rattle.session.specs.Session.{tooLarge}
 use Rattle.contribution.specs.Large.{firstLarge}
-use Rattle.contribution.proofs.Windows.{window-on, window-found}
 
 -- i of count blocks are searched, up to at, and each byte there is below its modulus
 pub record Searched (xs moduli : List ℕ) (count : ℕ) (size : ℕ → ℕ) (i at : ℕ) : Type 0 where

@@ -1,13 +1,13 @@
 -- Document 01, "Examples": all cases that are marked to be proved come out as printed, in one go.
 -- Assumes nothing.
 use mathlib.Core.Path.{_≡_, refl}
-use mathlib.Core.List.{[], _∷_}
+use mathlib.Core.List.{[], _∷_, zipWith}
 use Rattle.lists.specs.Blocks.{blocks, part, sumTo}
 use Rattle.lists.specs.Grown.{grown, extended}
 use Rattle.lists.specs.First.{first, firstFrom}
 use Rattle.residue.specs.Prime.{isPrime, remaindersBelow}
 use Rattle.residue.specs.Residue.{add, sub, mul}
-use Rattle.residue.specs.Vector.{zipWith, addV, subV, mulV, keyV}
+use Rattle.residue.specs.Vector.{addV, subV, mulV, keyV}
 use Rattle.shake.specs.Numbers.{bytesOf}
 use Rattle.checks.specs.Checked.{answered, andThen, unless, noneBad, afterwards}
 use Rattle.words.specs.Reading.{check, readWord, afterEntry}

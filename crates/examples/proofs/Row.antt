@@ -1,11 +1,12 @@
 -- The garbled row of specs/Row.antt, computed from the definitions, is the bytes that an independent program gives.
 -- Assumes nothing.
 use mathlib.Core.Path.{_≡_, refl}
+use mathlib.Core.List.{zipWith}
 use Rattle.lists.specs.Blocks.{blocks, part, sumTo}
 use Rattle.lists.specs.Grown.{grown, extended}
 use Rattle.residue.specs.Prime.{isPrime, remaindersBelow}
 use Rattle.residue.specs.Residue.{add, sub, mul}
-use Rattle.residue.specs.Vector.{zipWith, addV, mulV, keyV}
+use Rattle.residue.specs.Vector.{addV, mulV, keyV}
 use Rattle.keccak.specs.Keccak.{keccakF, rounds, round}
 use Rattle.keccak.specs.RoundConstants.{addLast, turn, register, rc, constantBit, roundConstant}
 use Rattle.shake.specs.Numbers.{littleEndian, firstNumbers, numbers, bytesOf}

@@ -10,8 +10,8 @@ use native.Mathlib.Omega.{arith}
 use lib.ListN.{length, getD, take, replicate, length-append, length-replicate, getD-replicate}
 use lib.Seq.{take-length, take-all, take-append-le, ext-getD}
 use Rattle.lists.specs.Blocks.{blocks, tab, part, nthPiece, sumTo, runs}
-use Rattle.lists.proofs.Parts.{part-last, part-of-take, take-part, getD-part}
-use Rattle.lists.proofs.Sums.{sumTo-fits, sumTo-const}
+use Rattle.lists.proofs.Parts.{part-left, part-right, part-last, part-of-take, take-part, getD-part}
+use Rattle.lists.proofs.Sums.{times-fits, sumTo-fits, sumTo-const}
 
 module _ {A : Type 0} where
   pub blocks-next : (n : ℕ) (f : ℕ → List A) → blocks (n + 1) f ≡ blocks n f ++ f n
@@ -113,6 +113,15 @@ module _ {A : Type 0} where
       blocks-ext n (λ i. nthPiece xs s i) (λ i. part xs (sumTo i (λ _. s)) s) (λ i _. rw (sumTo-const i s))
       ∙ blocks-parts n (λ _. s) xs
       ∙ take-all (sumTo n (λ _. s)) xs (omega (arith, sumTo-const n s))
+
+  -- pieces of one size of two lists in a row: those of the first, then those of the second
+  pub nth-left : (xs ys : List A) (m s r : ℕ) → length xs ≡ m * s → r < m → nthPiece (xs ++ ys) s r ≡ nthPiece xs s r
+  nth-left xs ys m s r e h = part-left xs ys (r * s) s (omega (arith, times-fits r m s h))
+
+  pub nth-right : (xs ys : List A) (m s r : ℕ) → length xs ≡ m * s → nthPiece (xs ++ ys) s (m + r) ≡ nthPiece ys s r
+  nth-right xs ys m s r e =
+      let place : (m + r) * s ≡ length xs + r * s = omega arith in
+      ap (λ (at : ℕ). part (xs ++ ys) at s) place ∙ part-right xs ys (r * s) s
 
   -- ---- runs of one value
 

@@ -37,6 +37,14 @@ pub first-none : (n : ℕ) (test : ℕ → Bool) → ((j : ℕ) → j < n → te
 unfolding first
 first-none n test fails = from-none n 0 test (λ j l. subst (λ m. test m ≡ false) (sym (zero-add j)) (fails j l)) ∙ zero-add n
 
+-- a number below n that alone meets the test is the first
+pub first-only : (n i : ℕ) (test : ℕ → Bool) → i < n → test i ≡ true → ((j : ℕ) → j < n → test j ≡ true → j ≡ i) → first n test ≡ i
+first-only n i test h here only = first-at n i test h (λ j l. fails j l (test j) refl) here
+  where
+    fails : (j : ℕ) → j < i → (b : Bool) → test j ≡ b → test j ≡ false
+    fails j l true e = absurd (omega (arith, only j (omega arith) e))
+    fails j l false e = e
+
 -- the first is no more than n; tests before it fail; and it holds there, where it is below n
 from-most : (left from : ℕ) (test : ℕ → Bool) → firstFrom from left test ≤ from + left
 unfolding firstFrom

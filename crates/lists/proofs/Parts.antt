@@ -10,7 +10,8 @@ use lib.Seq.{take-all, take-nil, take-at, drop-at, take-take, drop-drop, take-ad
 use Rattle.lists.specs.Blocks.{part}
 
 module _ {A : Type 0} where
-  drop-take : (b m : ℕ) (l : List A) → drop b (take m l) ≡ take (m - b) (drop b l)
+  -- the front of a list, from a place in it on
+  pub drop-take : (b m : ℕ) (l : List A) → drop b (take m l) ≡ take (m - b) (drop b l)
   drop-take zero m l = rw sub-zero
   drop-take (suc b) zero l = rw zero-sub
   drop-take (suc b) (suc m) [] = sym (take-nil (suc m - suc b))

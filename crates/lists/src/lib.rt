@@ -1,12 +1,22 @@
 // Bytes of lent buffers: copied, filled, cut out and put in. Every crate that fills a buffer rests on these functions, on the definitions in
 // `specs/Blocks` (blocks one after another, a table, a part, a list written into another), and on the laws in `proofs/`: of a part (`Parts`), of sums
 // of sizes (`Sums`), of blocks (`Blocks`) and of what was written (`Written`). `Filled`, `Wrote` and `Steps` there are loop invariants with their laws,
-// and each says at its top how a loop that fills a buffer is proved with it. This crate rests on the kit alone.
+// and each says at its top how a loop that fills a buffer is proved with it. Here too stand the functions that widen a number (`numbers`), one set for
+// all crates. This crate rests on the kit alone.
 
 ghost use mathlib.Core.Path.{_≡_};
 ghost use Prim.Native.Nat.{_+_, _*_, _≤_};
 ghost use lib.ListN.{length, replicate};
 ghost use Rattle.lists.specs.Blocks.{part, nthPiece, written};
+
+mod numbers;
+
+pub use numbers::byte_index;
+pub use numbers::byte_number;
+pub use numbers::byte_wide;
+pub use numbers::index_number;
+pub use numbers::number_index;
+pub use numbers::wire_index;
 
 // Copies `from` to `out`, which is as long.
 pub fn copy(out: &mut [u8], from: &[u8])

@@ -2,7 +2,7 @@
 -- Assumes nothing.
 use mathlib.Core.Path.{_≡_, refl, sym, ap, subst, _∙_}
 use mathlib.Core.Bool.{Bool, true, false}
-use mathlib.Core.List.{List, _++_}
+use mathlib.Core.List.{List, _++_, zipWith}
 use Prim.Native.Nat.{ℕ, zero, suc, _+_, _-_, _*_, _≤_, _<_}
 use native.Mathlib.Nat.{le-refl}
 use native.Mathlib.Numerals.{add-one}
@@ -15,7 +15,7 @@ use Rattle.lists.proofs.Steps.{Level, level-place, level-whole, steps-long, ste
 use Rattle.lists.proofs.Sums.{times-fits}
 use Rattle.lists.proofs.Written.{lent}
 use Rattle.lists.proofs.Wrote.{wrote-behind}
-use Rattle.residue.specs.Vector.{zipWith, addV, subV, AllBelow}
+use Rattle.residue.specs.Vector.{addV, subV, AllBelow}
 use Rattle.residue.proofs.Laws.{addV-assoc}
 use Rattle.residue.proofs.Parts.{zip-append, below-take, below-drop}
 use Rattle.residue.proofs.Vectors.{zip-length, zip-below, add-below, sub-below}

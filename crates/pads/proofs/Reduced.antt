@@ -2,11 +2,10 @@
 -- Assumes nothing.
 use mathlib.Core.Path.{_≡_, sym, ap, _∙_}
 use mathlib.Core.Bool.{Bool}
-use mathlib.Core.List.{List, _++_, map}
+use mathlib.Core.List.{List, _++_, map, zipWith}
 use Prim.Native.Nat.{ℕ, _+_, _*_, _%_, _≤_, _<_}
 use lib.ListN.{length, getD, set, take, drop, length-map}
 use lib.Seq.{take-at, length-take-le}
-use Rattle.residue.specs.Vector.{zipWith}
 use Rattle.residue.proofs.InPlace.{Turned, zip-turn}
 use Rattle.residue.proofs.Vectors.{map-at}
 use Rattle.shake.specs.Numbers.{numbers}

@@ -2,11 +2,11 @@
 -- Assumes nothing.
 use mathlib.Core.Path.{_≡_}
 use mathlib.Core.Bool.{Bool, true, false}
-use mathlib.Core.List.{List, map}
+use mathlib.Core.List.{List, map, zipWith}
 use Prim.Native.Nat.{ℕ, _*_, _%_, _≤_, _<_}
 use lib.ListN.{length}
 use Rattle.residue.specs.Residue.{add, sub}
-use Rattle.residue.specs.Vector.{zipWith, AllBelow}
+use Rattle.residue.specs.Vector.{AllBelow}
 
 -- each number modulo q
 unfoldable pub reduced : ℕ → List ℕ → List ℕ

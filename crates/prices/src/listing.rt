@@ -29,13 +29,6 @@ fn kind_of(gate: Gate) -> u64
     }
 }
 
-// A byte, as a number to print.
-fn widened(modulus: u8) -> u64
-    ensures { λ r. ⌜ (r ≡ modulus) × (r < 1000) ⌝ }
-{
-    modulus as u64
-}
-
 // A wire's four numbers on a line.
 fn put_line(out: &mut [u8], at: usize, wire: u64, kind: u64, modulus: u64, rows: u64) -> usize
     requires { ⌜ Narrow wire kind modulus rows × (at + 15 ≤ length (now out)) ⌝ }
@@ -54,7 +47,7 @@ fn put_wire(out: &mut [u8], at: usize, w: usize, wire: Wire, rows: u32) -> usize
 {
     let gate = wire.gate;
     let kind = kind_of(gate);
-    let modulus = widened(wire.modulus);
+    let modulus = lists::byte_wide(wire.modulus);
     put_line(out, at, w as u64, kind, modulus, rows as u64)
 }
 

@@ -12,7 +12,7 @@ use Rattle.residue.proofs.Ring.Expr.{var, _⊖_}
 use Rattle.residue.proofs.VectorRing.{vring}
 use Rattle.residue.proofs.VectorRing.VExpr.{vec, _⊞_, _⊟_, _⊡_}
 
-minus-one : (p : ℕ) → 0 < p → sub p 0 1 ≡ p - 1
+pub minus-one : (p : ℕ) → 0 < p → sub p 0 1 ≡ p - 1
 unfolding sub
 minus-one zero h = absurd (not-suc-le-zero h)
 minus-one (suc zero) h = refl

@@ -1,14 +1,13 @@
 -- A list that a loop turns into another one, entry by entry from the front: before place i it is the target, from i on what it was.
 -- The loops over key vectors have this as their invariant. Assumes nothing.
 use mathlib.Core.Path.{_≡_, refl, _∙_, sym, ap, subst}
-use mathlib.Core.List.{List}
+use mathlib.Core.List.{List, zipWith}
 use mathlib.Core.Logic.{⊎-elim}
 use Prim.Native.Nat.{ℕ, _+_, _≤_, _<_}
 use native.Mathlib.Nat.{not-suc-le-zero, eq-or-lt-of-le, le-refl}
 use native.Mathlib.Omega.{arith}
 use lib.ListN.{length, getD, set, length-set}
 use lib.Seq.{getD-set-same, getD-set-other, ext-getD}
-use Rattle.residue.specs.Vector.{zipWith}
 use Rattle.residue.proofs.Vectors.{zip-at}
 
 pub record Turned (target start : List ℕ) (i : ℕ) (out : List ℕ) : Type 0 where

@@ -135,11 +135,7 @@ ascending {xs} {i} {j} t l h =
     let not-below : getD xs j 0 ≤ getD xs i 0 → ⊥ = λ w. omega (arith, entry-from left w, t .entry j h .place) in
     omega arith
 
--- the entry at the place of x is the smallest prime at least x, and up to 251 there is one
-pub first-inside : {x : ℕ} → x ≤ 251 → primesBelow x < 54
-unfolding isPrime remaindersBelow
-first-inside h = omega (arith, primesBelow-mono h, prime-place {p = 251} refl (omega arith))
-
+-- the entry at the place of x is the smallest prime at least x
 pub first-reaches : {x r : ℕ} → PrimeAt (primesBelow x) r → x ≤ r
 first-reaches {x} {r} a =
     let not-below : r < x → ⊥ = λ w. omega (arith, entry-below a w) in
@@ -180,6 +176,28 @@ none-first x {i} e h = within-none (256 - x) x (λ q k l. go q k (omega arith) (
     go : (q : ℕ) → x ≤ q → q < 256 → (b : Bool) → isPrime q ≡ b → isPrime q ≡ false
     go q k l true w = absurd (omega (arith, prime-place w l, primesBelow-mono k))
     go q k l false w = w
+
+-- whatever prime byte lies from x on, the smallest is reached: it is prime, at least x, and no larger
+pub record Reached (x q r : ℕ) : Type 0 where
+  pub prime : isPrime r ≡ true
+  pub from : x ≤ r
+  pub most : r ≤ q
+
+within-reaches : {q : ℕ} → isPrime q ≡ true → (left x : ℕ) → x ≤ q → q < x + left → Reached x q (primeWithin x left)
+unfolding primeWithin
+within-reaches p zero x h l = absurd (omega arith)
+within-reaches {q} p (suc left) x h l = go (isPrime x) refl (λ w. within-reaches p left (suc x) w (omega arith))
+  where
+    go : (b : Bool) → isPrime x ≡ b → (x < q → Reached (suc x) q (primeWithin (suc x) left)) → Reached x q (cond b x (primeWithin (suc x) left))
+    go true e later = record { prime = e; from = le-refl x; most = h }
+    go false e later = ⊎-elim
+        (λ (w : x ≡ q). absurd (true≢false (sym p ∙ ap isPrime (sym w) ∙ e)))
+        (λ (w : x < q). (let r = later w in record { prime = r .prime; from = le-of-lt (r .from); most = r .most }))
+        (eq-or-lt-of-le h)
+
+pub primeFrom-reaches : {x q : ℕ} → isPrime q ≡ true → x ≤ q → q < 256 → Reached x q (primeFrom x)
+unfolding primeFrom
+primeFrom-reaches {x} e h l = within-reaches e (256 - x) x h (omega arith)
 
 -- so a byte is prime exactly where it is the smallest from itself on
 within-prime : (left x : ℕ) → 0 < primeWithin x left → isPrime (primeWithin x left) ≡ true

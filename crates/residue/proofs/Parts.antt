@@ -1,14 +1,14 @@
 -- Sums, differences, multiples and keys go part by part: of a front, of what is left after it, and of two vectors in a row. So do
 -- their bounds. Assumes nothing.
 use mathlib.Core.Path.{_≡_, refl, _∙_, ap}
-use mathlib.Core.List.{List, [], _∷_, _++_, map}
+use mathlib.Core.List.{List, [], _∷_, _++_, map, zipWith}
 use Prim.Native.Nat.{ℕ, zero, suc, _+_}
 use native.Mathlib.Nat.{suc-inj}
 use native.Mathlib.Omega.{arith}
 use lib.ListN.{length, take, drop, length-take, length-drop}
 use lib.Seq.{getD-take, getD-drop}
 use Rattle.residue.specs.Residue.{add, mul}
-use Rattle.residue.specs.Vector.{zipWith, addV, mulV, keyV, AllBelow}
+use Rattle.residue.specs.Vector.{addV, mulV, keyV, AllBelow}
 
 zip-nil : (f : ℕ → ℕ → ℕ) (xs : List ℕ) → zipWith f xs [] ≡ []
 unfolding zipWith

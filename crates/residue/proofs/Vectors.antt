@@ -1,13 +1,13 @@
 -- Laws of key vectors: the length of a sum, a difference, a multiple and a key, the entry at each place, and that all of
 -- these have entries below p. Assumes nothing.
 use mathlib.Core.Path.{_≡_, refl, _∙_, sym, ap}
-use mathlib.Core.List.{List, [], _∷_, map}
+use mathlib.Core.List.{List, [], _∷_, map, zipWith}
 use Prim.Native.Nat.{ℕ, zero, suc, _+_, _*_, _%_, _<_}
 use native.Mathlib.Nat.{le-of-suc-le-suc, not-suc-le-zero, mod-lt, suc-inj, zero-add}
 use native.Mathlib.Omega.{arith}
 use lib.ListN.{length, getD, length-map}
 use Rattle.residue.specs.Residue.{add, sub, mul}
-use Rattle.residue.specs.Vector.{zipWith, addV, subV, mulV, keyV, AllBelow}
+use Rattle.residue.specs.Vector.{addV, subV, mulV, keyV, AllBelow}
 use Rattle.residue.proofs.Reduced.{add-multiple}
 
 pub zip-length : (f : ℕ → ℕ → ℕ) (xs ys : List ℕ) → length xs ≡ length ys → length (zipWith f xs ys) ≡ length xs
@@ -92,6 +92,9 @@ addV-below {p} h xs ys = record { entry = zip-below (add p) p (add-below h) xs y
 pub subV-below : {p : ℕ} → 0 < p → (xs ys : List ℕ) → AllBelow p (subV p xs ys)
 unfolding subV
 subV-below {p} h xs ys = record { entry = zip-below (sub p) p (sub-below h) xs ys }
+
+pub mulV-below : {p : ℕ} → 0 < p → (c : ℕ) (xs : List ℕ) → AllBelow p (mulV p c xs)
+mulV-below {p} h c xs = record { entry = λ i l. (let size = mulV-length p c xs in rw (mulV-at p c xs i (omega arith)) (mul-below h c _)) }
 
 pub keyV-below : {p : ℕ} → 0 < p → (k : List ℕ) (e : ℕ) (d : List ℕ) → AllBelow p (keyV p k e d)
 unfolding keyV

@@ -1,16 +1,10 @@
 -- Key vectors: lists of residues modulo p, with sums, differences and multiples taken component by component.
 -- Assumes nothing.
 use mathlib.Core.Path.{_≡_}
-use mathlib.Core.List.{List, [], _∷_, map}
+use mathlib.Core.List.{List, map, zipWith}
 use Prim.Native.Nat.{ℕ, _<_}
 use lib.ListN.{length, getD}
 use Rattle.residue.specs.Residue.{add, sub, mul}
-
--- the operation f on the entries of two lists, place by place, as far as the shorter goes
-unfoldable pub zipWith : (ℕ → ℕ → ℕ) → List ℕ → List ℕ → List ℕ
-zipWith f [] ys = []
-zipWith f (x ∷ xs) [] = []
-zipWith f (x ∷ xs) (y ∷ ys) = f x y ∷ zipWith f xs ys
 
 unfoldable pub addV : ℕ → List ℕ → List ℕ → List ℕ
 addV p xs ys = zipWith (add p) xs ys

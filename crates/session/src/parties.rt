@@ -1,9 +1,9 @@
 // How many parties there are, how long their keys, and which of them is asked for.
-ghost use mathlib.Core.Path.{_≡_};
 ghost use Rattle.checks.specs.Checked.{Meets};
 ghost use Rattle.session.specs.Session.{partiesChecked, sessionChecked, partyChecked};
 use checks::Answer;
 use checks::Refusal;
+use lists::number_index;
 
 pub fn parties_checked(n: u32) -> Answer
     ensures { λ r. ⌜ Meets (partiesChecked n) r ⌝ }
@@ -30,18 +30,12 @@ pub fn session_checked(n: u32, k: u32) -> Answer
     parties_checked(n)
 }
 
-fn place_of(party: u32) -> usize
-    ensures { λ r. ⌜ r ≡ party ⌝ }
-{
-    party as usize
-}
-
 pub fn party_checked(n: u32, party: u32) -> Answer
     ensures { λ r. ⌜ Meets (partyChecked n party) r ⌝ }
 {
     if party < n {
         return Answer::Accepted;
     }
-    let place = place_of(party);
+    let place = number_index(party);
     Answer::Refused(Refusal::NoSuchParty, place)
 }

@@ -1,7 +1,7 @@
 // SHAKE256 of FIPS 202: a sponge that takes a message in, field by field, and gives as many bytes or 8-byte numbers as one likes.
 // `shake256` is the function on plain slices; `absorb` takes one field into a sponge that is lent, and `finished` and `squeeze_numbers`
 // give the numbers. Each equals the definition on bits and blocks in specs/, for every message and every length of output.
-// Rests on the permutation of the crate keccak.
+// Rests on the permutation of the crate keccak, and on lists.
 
 ghost use mathlib.Core.Path.{_≡_};
 ghost use Prim.Native.Nat.{_*_, _<_};
@@ -31,13 +31,6 @@ pub fn start() -> Sponge
     }
 }
 
-// A byte as a number of the lanes' width.
-fn wide(b: u8) -> u64
-    ensures { λ r. ⌜ r ≡ b ⌝ }
-{
-    b as u64
-}
-
 // The sponge with the bytes of a field taken in. The lanes stay in one local: they are copied at the permutations alone.
 pub fn absorbed(sponge: Sponge, field: &[u8]) -> Sponge
     requires { ⌜ sponge .at < 136 ⌝ }
@@ -49,7 +42,7 @@ pub fn absorbed(sponge: Sponge, field: &[u8]) -> Sponge
     while i < field.len() {
         let lane = at / 8;
         let shift = 8 * (at % 8);
-        let b = wide(field[i]);
+        let b = lists::byte_wide(field[i]);
         lanes[lane] = lanes[lane] ^ (b << shift);
         at += 1;
         if at == RATE {

@@ -36,7 +36,7 @@ absorbed-spec = tie.close (tie.spec Inv-loop μ-loop
     let l = c .before .before .before .before .loop in let x = c .before .before .before .before .before .before .before in
     again (l .lanes) (l .at) (c .if1 .lanes) (c .if1 .at) (x .args .field .now) (l .i) (x .args .sponge) (omega arith) (l .inv .1) (l .inv .2) (l .inv .3)
     (⊎-elim
-    (λ t. full (l .lanes) (l .at) (getD (x .args .field .now) (l .i) 0) (c .before .wide .result) (c .if1 .lanes) (c .if1 .at) (c .before .wide .ensures) (omega (arith, c .before .before .shared-slice-known2 .given (l .i))) (t .1 .result) (t .0 .taken) (t .1 .ensures) (t .2) (t .3))
-    (λ t. within (l .lanes) (l .at) (getD (x .args .field .now) (l .i) 0) (c .before .wide .result) (c .if1 .lanes) (c .if1 .at) (c .before .wide .ensures) (omega (arith, c .before .before .shared-slice-known2 .given (l .i))) (t .0 .left) (t .1) (t .2))
+    (λ t. full (l .lanes) (l .at) (getD (x .args .field .now) (l .i) 0) (c .before .byte-wide .result) (c .if1 .lanes) (c .if1 .at) (c .before .byte-wide .ensures .0) (omega (arith, c .before .before .shared-slice-known2 .given (l .i))) (t .1 .result) (t .0 .taken) (t .1 .ensures) (t .2) (t .3))
+    (λ t. within (l .lanes) (l .at) (getD (x .args .field .now) (l .i) 0) (c .before .byte-wide .result) (c .if1 .lanes) (c .if1 .at) (c .before .byte-wide .ensures .0) (omega (arith, c .before .before .shared-slice-known2 .given (l .i))) (t .0 .left) (t .1) (t .2))
     (c .if1 .came)))
     (λ c. ended _ _ (c .before .before .before .before .args .field .now) (c .before .loop .i) (c .loop-test .left) (c .before .loop .inv .3)))

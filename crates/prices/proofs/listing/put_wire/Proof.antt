@@ -15,4 +15,4 @@ put-wire-spec =
     (λ c κs. search needs)
     (λ c κs. search needs)
     (λ c. search needs)
-    (λ c. within-as (c .before .before .put-line .ensures) (ap₂ (λ (k p : ℕ). lineOf (c .before .before .before .before .before .before .before .args .w) k p (c .before .before .before .before .before .before .before .args .rows)) (c .before .before .before .before .before .kind-of .ensures .0) (c .before .before .before .before .widened .ensures .0))))
+    (λ c. within-as (c .before .before .put-line .ensures) (ap₂ (λ (k p : ℕ). lineOf (c .before .before .before .before .before .before .before .args .w) k p (c .before .before .before .before .before .before .before .args .rows)) (c .before .before .before .before .before .kind-of .ensures .0) (c .before .before .before .before .byte-wide .ensures .0))))

@@ -9,4 +9,4 @@ party-checked-spec =
     (tie.spec
     (λ c. party-met (c .if1 .taken))
     (λ c κs. tt)
-    (λ c. party-absent (c .before .if1 .left) (c .place-of .ensures)))
+    (λ c. party-absent (c .before .if1 .left) (c .number-index .ensures)))
