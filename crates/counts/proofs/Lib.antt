@@ -2,4 +2,5 @@
 pub mod Wires
 pub mod Counting
 pub mod Marked
+pub mod Formula
 pub mod Examples

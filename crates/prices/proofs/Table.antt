@@ -17,9 +17,10 @@ use Rattle.circuit.specs.File.{Read}
 use Rattle.circuit.specs.Wires.{wireAt, modulusAt}
 use Rattle.circuit.specs.Held.{wiresIn, Holds}
 use Rattle.counts.specs.Counts.{rowsOf, rowsIn}
+use Rattle.counts.specs.Kinds.{kindOf}
 use Rattle.counts.proofs.Wires.{wire-at}
 use Rattle.prices.specs.Characters.{refusedText, atText, headText, totalText}
-use Rattle.prices.specs.Prices.{kindOf, numberAnd, lineOf, wireLine, wireLines, listing, refusal, listed, printed, priceList}
+use Rattle.prices.specs.Prices.{numberAnd, lineOf, wireLine, wireLines, listing, refusal, listed, printed, priceList}
 use Rattle.prices.specs.Lines.{linesOf}
 use Rattle.prices.specs.Found.{comesTo, bytesFound, Finds}
 use Rattle.prices.specs.declared.lines.Found.{Found}

@@ -7,25 +7,15 @@ use Rattle.lists.specs.Blocks.{blocks}
 use Rattle.checks.specs.Answer.{numberOf}
 use Rattle.checks.specs.declared.Answer.{Answer}
 use Rattle.checks.specs.declared.Answer.the-variants.{Accepted, Refused}
-use Rattle.words.specs.declared.gate.Gate.{Gate}
-use Rattle.words.specs.declared.gate.Gate.the-variants.{Input, Add, Scale, Multiply, Project, Select}
 use Rattle.words.specs.declared.gate.Wire.{Wire}
 use Rattle.circuit.specs.Wires.{wireAt, modulusAt}
 use Rattle.circuit.specs.File.{readFile}
 use Rattle.counts.specs.Counts.{rowsOf, rowsIn}
+use Rattle.counts.specs.Kinds.{kindOf}
 use Rattle.prices.specs.Characters.{newline, space, tooLongText, badLineText, refusedText, atText, headText, totalText}
 use Rattle.prices.specs.Decimal.{decimal}
 use Rattle.prices.specs.Lines.{Lines, linesOf}
 use Rattle.prices.specs.Lines.Lines.{file, badLine, tooLong}
-
--- a gate's kind is that of its first word
-abbrev pub kindOf : Gate → ℕ
-kindOf (Input gate) = 2
-kindOf (Add gate) = 3
-kindOf (Scale gate) = 4
-kindOf (Multiply gate) = 5
-kindOf (Project gate) = 6
-kindOf (Select gate) = 8
 
 -- a number in decimal, and the character behind it
 abbrev pub numberAnd : ℕ → ℕ → List ℕ
