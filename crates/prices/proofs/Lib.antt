@@ -4,3 +4,4 @@ pub mod Texts
 pub mod Hex
 pub mod Words
 pub mod Table
+pub mod Enough

@@ -33,7 +33,8 @@ fn no_bytes() -> [u8; 65536]
     [0; 65536]
 }
 
-// Prints the price list of a text at the front of `out`, and answers with its length. The longest has 15,396 bytes.
+// Prints the price list of a text at the front of `out`, and answers with its length. None has more than 15,396 bytes,
+// which is a bound: a head, 1,024 lines of at most 15 and a total of at most 13. It fits the 16,384 that are asked.
 pub fn price_list(text: &[u8], out: &mut [u8]) -> usize
     requires { ⌜ 16384 ≤ length (now out) ⌝ }
     ensures { λ r. ⌜ Placed (now (out .entry)) 0 (priceList (now (text .entry))) r (now (out .exit)) ⌝ }
