@@ -1,4 +1,5 @@
--- Document 01's row counts, and the counts of a small circuit with a gate of each kind, computed from the definitions.
+-- The counts of a small circuit with a gate of each kind, computed from the definitions, and a table's rows. Document 01's row counts stand
+-- with the other marked cases, in the crate examples.
 -- Assumes nothing.
 use mathlib.Core.Path.{_≡_, refl}
 use mathlib.Core.List.{List, [], _∷_}
@@ -16,17 +17,7 @@ wire gate modulus = record { gate = gate; modulus = modulus }
 input : ℕ → ℕ → Wire
 input owner modulus = wire (Input (record { owner = owner })) modulus
 
--- multiply at modulus 251: 502 rows
-multiply-rows : rowsOf (input 0 251 ∷ wire (Multiply (record { a = 0; b = 0 })) 251 ∷ []) 1 ≡ 502
-unfolding wire input
-multiply-rows = refl
-
--- select at modulus 2: 6 rows
-select-rows : rowsOf (input 0 2 ∷ wire (Select (record { bit = 0; a = 0; b = 0 })) 2 ∷ []) 1 ≡ 6
-unfolding wire input
-select-rows = refl
-
--- project from modulus 2, here to 5: 2 rows
+-- project from modulus 2 to 5: 2 rows, those of the modulus that the table is over
 project-rows : rowsOf (input 0 2 ∷ wire (Project (record { a = 0; table = 3 })) 5 ∷ []) 1 ≡ 2
 unfolding wire input
 project-rows = refl

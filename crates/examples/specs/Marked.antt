@@ -135,7 +135,7 @@ select bit =
     let h : List ℕ = subV 5 (getD (choiceKeys bit) 3 0 ∷ []) (getD (choiceKeys bit) 1 0 ∷ []) in
     found 1 0 choiceWires choiceDraw 3 h ∷ getD (choiceExternals bit) 3 0 ∷ choiceDecoded bit
 
--- ---- rows: multiply 251, select 2, project 2; and project 2 to 5, whose rows are those of the modulus 2
+-- ---- rows: multiply 251, select 2, project 2
 
 unfoldable pub input : ℕ → Wire
 input p = record { gate = Input (record { owner = 0 }); modulus = p }
@@ -145,7 +145,6 @@ counts =
     rowsIn (input 251 ∷ record { gate = Multiply (record { a = 0; b = 0 }); modulus = 251 } ∷ [])
     ∷ rowsIn (input 2 ∷ record { gate = Select (record { bit = 0; a = 0; b = 0 }); modulus = 2 } ∷ [])
     ∷ rowsIn (input 2 ∷ record { gate = Project (record { a = 0; table = 3 }); modulus = 2 } ∷ [])
-    ∷ rowsIn (input 2 ∷ record { gate = Project (record { a = 0; table = 3 }); modulus = 5 } ∷ [])
     ∷ []
 
 -- ---- the table
@@ -169,5 +168,5 @@ printed =
     -- bit 0 gives e_h 0, e_z 3, decoded 2
     ∷ (0 ∷ 3 ∷ 2 ∷ [])
     -- rows: multiply 251, 502; select 2, 6; project 2, 2
-    ∷ (502 ∷ 6 ∷ 2 ∷ 2 ∷ [])
+    ∷ (502 ∷ 6 ∷ 2 ∷ [])
     ∷ []
