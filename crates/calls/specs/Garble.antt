@@ -4,7 +4,7 @@ use mathlib.Core.List.{List, [], _∷_}
 use Prim.Native.Nat.{ℕ, _*_}
 use lib.ListN.{length}
 use Rattle.checks.specs.Checked.{Checked, andThen, afterwards}
-use Rattle.meter.specs.Meter.{meterChecked, raised}
+use Rattle.meter.specs.Meter.{meterChecked, charged}
 use Rattle.words.specs.declared.gate.Wire.{Wire}
 use Rattle.circuit.specs.Wires.{inputsIn}
 use Rattle.circuit.specs.File.{readFile}
@@ -63,7 +63,7 @@ module _ (file : List ℕ) (n K : ℕ) (contributions rows masks outs : List ℕ
   garbleOutputMasks = afterwards garbleChecked (outputMasks wires outputs draw) outs
 
   unfoldable pub garbleMeter : ℕ
-  garbleMeter = afterwards garbleChecked (raised meter (rowsIn wires)) meter
+  garbleMeter = afterwards garbleChecked (charged meter (rowsIn wires)) meter
 
 module _ (pad : Pad) (file : List ℕ) (n K : ℕ) (contributions rows masks outs : List ℕ) (meter : ℕ) where
   unfoldable pub garbleRows : List ℕ

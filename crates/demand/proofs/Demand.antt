@@ -15,7 +15,7 @@ use Rattle.words.specs.declared.gate.Wire.{Wire}
 use Rattle.circuit.specs.Wires.{inputsIn}
 use Rattle.circuit.specs.File.{readFile}
 use Rattle.counts.specs.Counts.{rowsIn}
-use Rattle.meter.specs.Meter.{raised}
+use Rattle.meter.specs.Meter.{charged}
 use Rattle.pads.specs.Pad.{shakePad}
 use Rattle.calls.specs.Garble.{garbleMeter}
 use Rattle.calls.specs.Externals.{externalsAfter}
@@ -119,9 +119,9 @@ module _ (file : List ℕ) (n K : ℕ) (contributions values : List ℕ) (meter 
   unfolding round.plainly
   evaluates = zero-of (played .plainAnswer) (promise .evaluates)
 
-  counted : r .meter ≡ raised meter (rowsIn wires)
+  counted : r .meter ≡ charged meter (rowsIn wires)
   unfolding garbleMeter round.garbling
-  counted = played .garbleMeterIs ∙ afterwards-passed (promise .garbles) (raised meter (rowsIn wires)) meter
+  counted = played .garbleMeterIs ∙ afterwards-passed (promise .garbles) (charged meter (rowsIn wires)) meter
 
   plain-is : r .plain ≡ round.plainFigures shakePad file n K contributions values meter lent
   unfolding round.plainFigures

@@ -9,7 +9,7 @@ use Rattle.words.specs.declared.gate.Wire.{Wire}
 use Rattle.circuit.specs.Wires.{inputsIn}
 use Rattle.circuit.specs.File.{readFile}
 use Rattle.counts.specs.Counts.{rowsIn}
-use Rattle.meter.specs.Meter.{raised}
+use Rattle.meter.specs.Meter.{charged}
 use Rattle.pads.specs.Pad.{shakePad}
 use Rattle.plain.specs.Call.{plainChecked, plainAfter}
 use Rattle.calls.specs.Garble.{garbleChecked, garbleRows, garbleInputMasks, garbleOutputMasks, garbleMeter}
@@ -107,6 +107,6 @@ module _ (file : List ℕ) (n K : ℕ) (contributions values : List ℕ) (meter 
     pub decodes : (party : ℕ) → party < n → r .decodeNumber party ≡ 0
     pub evaluates : r .plainNumber ≡ 0
     -- the meter holds the rows of this circuit besides
-    pub counted : r .meter ≡ raised meter (rowsIn wires)
+    pub counted : r .meter ≡ charged meter (rowsIn wires)
     -- and what the rest of it says of what they left
     pub delivers : Delivered file n K contributions values (r .wireKeys) (r .wireExternals) (r .figures) (r .plain)

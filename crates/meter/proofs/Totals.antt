@@ -12,7 +12,7 @@ use Rattle.checks.specs.Checked.{Checked, Meets, afterwards}
 use Rattle.checks.specs.Checked.Checked.{passed, refused}
 use Rattle.checks.proofs.Passed.{andThen-right, unless-passed, unless-true}
 use Rattle.checks.proofs.Answers.{unless-met, unless-named}
-use Rattle.meter.specs.Meter.{meterLimit, HasSpace, meterChecked, raised, Garbling, checksAt, handedBack, meterAfter, total}
+use Rattle.meter.specs.Meter.{meterLimit, HasSpace, meterChecked, charged, Garbling, checksAt, handedBack, meterAfter, total}
 
 module _ (meter rows : ℕ) where
   pub space-passed : HasSpace meter rows → meterChecked meter rows ≡ passed
@@ -39,7 +39,7 @@ module _ (meter : ℕ) (garbling : Garbling) where
   unfolding handedBack afterwards
   back-is = go (checksAt meter garbling)
     where
-      go : (checks : Checked) → afterwards checks (raised meter (garbling .rows)) meter ≡ meter + afterwards checks (garbling .rows) 0
+      go : (checks : Checked) → afterwards checks (charged meter (garbling .rows)) meter ≡ meter + afterwards checks (garbling .rows) 0
       go passed = refl
       go (refused reason place) = omega arith
 
@@ -47,7 +47,7 @@ module _ (meter : ℕ) (garbling : Garbling) where
   unfolding handedBack afterwards checksAt
   back-fits h = go (checksAt meter garbling) refl
     where
-      go : (checks : Checked) → checksAt meter garbling ≡ checks → afterwards checks (raised meter (garbling .rows)) meter ≤ meterLimit
+      go : (checks : Checked) → checksAt meter garbling ≡ checks → afterwards checks (charged meter (garbling .rows)) meter ≤ meterLimit
       go passed e = passed-space meter (garbling .rows) (andThen-right (garbling .earlier) (meterChecked meter (garbling .rows)) e)
       go (refused reason place) e = h
 

@@ -19,8 +19,8 @@ unfoldable pub meterChecked : ℕ → ℕ → Checked
 meterChecked meter rows = unless (leb (meter + rows) meterLimit) MeterFull 0
 
 -- the meter after a garbling of so many rows that was accepted
-abbrev pub raised : ℕ → ℕ → ℕ
-raised meter rows = meter + rows
+abbrev pub charged : ℕ → ℕ → ℕ
+charged meter rows = meter + rows
 
 -- a garbling, as the meter sees it: what all checks before the meter's come to, and the circuit's rows
 pub record Garbling : Type 0 where
@@ -32,7 +32,7 @@ unfoldable pub checksAt : ℕ → Garbling → Checked
 checksAt meter garbling = andThen (garbling .earlier) (meterChecked meter (garbling .rows))
 
 unfoldable pub handedBack : ℕ → Garbling → ℕ
-handedBack meter garbling = afterwards (checksAt meter garbling) (raised meter (garbling .rows)) meter
+handedBack meter garbling = afterwards (checksAt meter garbling) (charged meter (garbling .rows)) meter
 
 -- the meter after garblings, each of which takes what the one before handed back
 unfoldable pub meterAfter : ℕ → List Garbling → ℕ

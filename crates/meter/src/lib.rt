@@ -2,7 +2,7 @@
 // meter holds after any number of garblings. Rests on `checks` for answers.
 ghost use mathlib.Core.Path.{_≡_};
 ghost use Rattle.checks.specs.Checked.{Meets};
-ghost use Rattle.meter.specs.Meter.{HasSpace, meterChecked, raised};
+ghost use Rattle.meter.specs.Meter.{HasSpace, meterChecked, charged};
 use checks::Answer;
 use checks::Refusal;
 
@@ -19,9 +19,9 @@ pub fn meter_checked(meter: u32, rows: u32) -> Answer
 }
 
 // The meter after so many rows for which it had space.
-pub fn raised(meter: u32, rows: u32) -> u32
+pub fn charged(meter: u32, rows: u32) -> u32
     requires { ⌜ HasSpace meter rows ⌝ }
-    ensures { λ r. ⌜ r ≡ raised meter rows ⌝ }
+    ensures { λ r. ⌜ r ≡ charged meter rows ⌝ }
 {
     meter + rows
 }

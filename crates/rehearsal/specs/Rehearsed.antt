@@ -13,7 +13,7 @@ use Rattle.counts.specs.Counts.{rowsIn}
 use Rattle.scheme.specs.Contribution.{contributionSize}
 use Rattle.scheme.specs.Draw.{drawn}
 use Rattle.scheme.specs.Rows.{garbledRows, inputMasks, outputMasks}
-use Rattle.meter.specs.Meter.{raised}
+use Rattle.meter.specs.Meter.{charged}
 use Rattle.pads.specs.Pad.{shakePad}
 use Rattle.calls.specs.Externals.{ownInputs}
 use Rattle.calls.specs.InputKeys.{inputKey}
@@ -66,7 +66,7 @@ module _ (file : List ℕ) (n K : ℕ) where
     -- "every call of the round in document 01 accepts"
     pub accepts : number ≡ 0
     -- the meter holds the rows of this circuit besides
-    pub counted : total ≡ raised meter (rowsIn wires)
+    pub counted : total ≡ charged meter (rowsIn wires)
     -- what garbling wrote, from what all parties drew
     pub rowsAre : rows ≡ garbledRows shakePad n K file wires (drawn n K wires contributions)
     pub masksAre : masks ≡ inputMasks wires (drawn n K wires contributions)

@@ -27,7 +27,7 @@ use Rattle.scheme.specs.Rows.{garbledRows, inputMasks, outputMasks}
 use Rattle.session.specs.Session.{sessionChecked, ownersChecked, lengthsChecked}
 use Rattle.session.proofs.Sessions.{SessionFits, session-fits}
 use Rattle.session.proofs.Circuits.{held-of, given-is}
-use Rattle.meter.specs.Meter.{HasSpace, meterChecked, raised}
+use Rattle.meter.specs.Meter.{HasSpace, meterChecked, charged}
 use Rattle.meter.proofs.Totals.{passed-space}
 use Rattle.calls.specs.Garble.{garbleBytes, garbleLengths, garbleLent, garbleOwned, garbleAsked, garbleChecked, garbleRows, garbleInputMasks, garbleOutputMasks, garbleMeter}
 use Rattle.row_calls.specs.Garbled.{Draws}
@@ -188,7 +188,7 @@ module _ {reading : Reading} (file : List ℕ) (n K : ℕ) (contributions rows m
           → (rows′ ≡ garbledRows shakePad parties long file (wiresIn (reading .circuit)) (drawnIn (reading .circuit) parties long contributions))
           × ((masks′ ≡ inputMasks (wiresIn (reading .circuit)) (drawnIn (reading .circuit) parties long contributions))
           × (outs′ ≡ outputMasks (wiresIn (reading .circuit)) (outputsIn (reading .circuit)) (drawnIn (reading .circuit) parties long contributions)))
-          → meter′ ≡ raised meter count → Ends Accepted rows′ masks′ outs′ meter′
+          → meter′ ≡ charged meter count → Ends Accepted rows′ masks′ outs′ meter′
       unfolding garbleRows garbleInputMasks garbleOutputMasks garbleMeter
       garble-written {rows′} {masks′} {outs′} {meter′} w r =
           let a : Meets fate Accepted = subst (Meets fate) e met in (
@@ -202,5 +202,5 @@ module _ {reading : Reading} (file : List ℕ) (n K : ℕ) (contributions rows m
                 ∙ ap (λ (o : List ℕ). outputMasks wires o (drawnIn circuit parties long contributions)) (h .outputs)
                 ∙ ap₂ (λ (v : List Wire) (d : Draw). outputMasks v (readFile file .outputs) d) (h .wires) drawn-is
                 ∙ afterwards-accepted a _ outs,
-            r ∙ ap (raised meter) rows-are ∙ afterwards-accepted a _ meter,
+            r ∙ ap (charged meter) rows-are ∙ afterwards-accepted a _ meter,
           )

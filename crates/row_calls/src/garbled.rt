@@ -15,8 +15,8 @@ use circuit::read;
 use contribution::contribution_size;
 use contribution::contributions_checked;
 use contribution::offsets_checked;
+use meter::charged;
 use meter::meter_checked;
-use meter::raised;
 use party_calls::counted;
 use session::length_checked;
 use session::owners_checked;
@@ -139,7 +139,7 @@ fn garble_read(
             );
             Metered {
                 answer: Answer::Accepted,
-                meter: raised(meter, count),
+                meter: charged(meter, count),
             }
         }
         Answer::Refused(reason, place) => Metered {

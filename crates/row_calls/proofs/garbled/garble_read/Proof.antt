@@ -25,5 +25,5 @@ garble-read-spec =
     (λ c. search needs)
     (λ c. search needs)
     (λ c. search needs)
-    (λ c. let s = c .before .before .before .before .before .before .before .before .before .before .before .before .before .before .before .before .before .before .before .before .before .before .before .before .before .before .before in garble-written (s .args .file .now) (s .args .n) (s .args .k) (s .args .contributions .now) (s .args .rows .now) (s .args .inputs .now) (s .args .outputs .now) (s .args .meter) (s .pre) (c .before .before .before .before .before .before .before .before .before .before .before .before .before .before .before .before .before .before .before .before .garble-asked .ensures) (c .before .before .before .before .before .before .before .before .before .before .before .before .before .before .before .before .before .before .before .followed .ensures) (c .before .before .before .before .before .before .before .before .before .before .before .before .before .before .before .before .before .before .rows .ensures) (c .before .before .before .before .before .before .before .before .before .before .before .before .before .before .before .before .before .meter-checked .ensures) (c .before .before .before .before .before .before .before .before .before .before .before .before .before .before .before .before .followed2 .ensures) (c .before .before .before .before .before .before .before .before .before .before .before .before .before .before .enum-told .given .1) (c .before .before .before .before .before .before .before .before .before .before .before .before .before .counted .ensures) (c .before .before .before .before .before .before .before .before .before .before .before .before .counted2 .ensures) (c .before .before .before .before .before .before .before .garble .ensures) (c .raised .ensures))
+    (λ c. let s = c .before .before .before .before .before .before .before .before .before .before .before .before .before .before .before .before .before .before .before .before .before .before .before .before .before .before .before in garble-written (s .args .file .now) (s .args .n) (s .args .k) (s .args .contributions .now) (s .args .rows .now) (s .args .inputs .now) (s .args .outputs .now) (s .args .meter) (s .pre) (c .before .before .before .before .before .before .before .before .before .before .before .before .before .before .before .before .before .before .before .before .garble-asked .ensures) (c .before .before .before .before .before .before .before .before .before .before .before .before .before .before .before .before .before .before .before .followed .ensures) (c .before .before .before .before .before .before .before .before .before .before .before .before .before .before .before .before .before .before .rows .ensures) (c .before .before .before .before .before .before .before .before .before .before .before .before .before .before .before .before .before .meter-checked .ensures) (c .before .before .before .before .before .before .before .before .before .before .before .before .before .before .before .before .followed2 .ensures) (c .before .before .before .before .before .before .before .before .before .before .before .before .before .before .enum-told .given .1) (c .before .before .before .before .before .before .before .before .before .before .before .before .before .counted .ensures) (c .before .before .before .before .before .before .before .before .before .before .before .before .counted2 .ensures) (c .before .before .before .before .before .before .before .garble .ensures) (c .charged .ensures))
     (λ c. let s = c .before .before .before .before .before .before .before .before .before .before .before .before .before .before in garble-refused (s .args .file .now) (s .args .n) (s .args .k) (s .args .contributions .now) (s .args .rows .now) (s .args .inputs .now) (s .args .outputs .now) (s .args .meter) (s .pre) (c .before .before .before .before .before .before .before .garble-asked .ensures) (c .before .before .before .before .before .before .followed .ensures) (c .before .before .before .before .before .rows .ensures) (c .before .before .before .before .meter-checked .ensures) (c .before .before .before .followed2 .ensures) (c .before .answer .given .1)))
