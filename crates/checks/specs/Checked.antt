@@ -47,13 +47,13 @@ unlessFree false bad reason = refused reason (free bad)
 unfoldable pub noneBadFree : ℕ → (ℕ → Bool) → Refusal → Checked
 noneBadFree n bad reason = unlessFree (leb n (first n bad)) (λ i. ltb i n && bad i) reason
 
--- what an answer must be
+-- what an answer of the code must be: functions beneath the C calls promise this
 pub data Meets : Checked → Answer → Type 0 where
   accepts : Meets passed Accepted
   names : {reason : Refusal} {place : ℕ} → Meets (refused reason (at place)) (Refused reason place)
   namesSome : {reason : Refusal} {test : ℕ → Bool} {place : ℕ} → test place ≡ true → Meets (refused reason (free test)) (Refused reason place)
 
--- what number and place must be: those of an answer that is as it must be
+-- what the two numbers of a C call must be: number and place of an answer that is as it must be. The C calls promise this
 pub data Reports : Checked → ℕ → ℕ → Type 0 where
   reports : {checks : Checked} {answer : Answer} → Meets checks answer → Reports checks (numberIn answer) (placeIn answer)
 

@@ -10,7 +10,7 @@ use Rattle.residue.specs.Vector.{addV, mulV, keyV}
 use Rattle.keccak.specs.Keccak.{keccakF, rounds, round}
 use Rattle.keccak.specs.RoundConstants.{addLast, turn, register, rc, constantBit, roundConstant}
 use Rattle.shake.specs.Numbers.{littleEndian, firstNumbers, numbers, bytesOf}
-use Rattle.shake.specs.Padding.{bitsOf, messageBits, number, packed, pad10*1, suffix, suffixed, paddedBits, padded}
+use Rattle.shake.specs.Padding.{bitsOf, messageBits, number, packed, pad10*1, suffix, suffixed, paddedBits, paddedMessage}
 use Rattle.shake.specs.Shake.{xored, absorbBlock, absorbBlocks, zeroState, absorbed, laneBytes, squeezeBlocks, squeezed, shake256}
 use Rattle.words.specs.Reading.{check, readWord, afterEntry}
 use Rattle.circuit.specs.File.{readFile, headed, readFrom, after, ended}
@@ -25,5 +25,5 @@ use Rattle.round.specs.Example.{fileOf}
 use Rattle.examples.specs.Row.{circuit, contributions, rowZero, computed}
 
 pub row-computed : rowZero ≡ computed
-unfolding rowZero computed circuit fileOf contributions readFile headed readFrom after ended readWord check isPrime remaindersBelow afterEntry blocks part sumTo grown extended add sub mul zipWith addV mulV keyV keccakF rounds round addLast turn register rc constantBit roundConstant littleEndian firstNumbers numbers bytesOf bitsOf messageBits number packed pad10*1 suffix suffixed paddedBits padded xored absorbBlock absorbBlocks zeroState absorbed laneBytes squeezeBlocks squeezed shake256 someBelow contributionSize offsetAt recordAt keyAt shareAt drawn zeroKey mask zeroKeysTo masksTo zeroKeyBy maskBy rowpad padInput shakePad padSum padRow projectMessage image row projectRow
+unfolding rowZero computed circuit fileOf contributions readFile headed readFrom after ended readWord check isPrime remaindersBelow afterEntry blocks part sumTo grown extended add sub mul zipWith addV mulV keyV keccakF rounds round addLast turn register rc constantBit roundConstant littleEndian firstNumbers numbers bytesOf bitsOf messageBits number packed pad10*1 suffix suffixed paddedBits paddedMessage xored absorbBlock absorbBlocks zeroState absorbed laneBytes squeezeBlocks squeezed shake256 someBelow contributionSize offsetAt recordAt keyAt shareAt drawn zeroKey mask zeroKeysTo masksTo zeroKeyBy maskBy rowpad padInput shakePad padSum padRow projectMessage image row projectRow
 row-computed = refl

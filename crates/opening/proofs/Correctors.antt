@@ -8,7 +8,7 @@ use native.Mathlib.Omega.{arith}
 use Rattle.lists.specs.Blocks.{part, nthPiece}
 use Rattle.lists.proofs.Parts.{part-of-part}
 use Rattle.lists.proofs.Sums.{times-fits}
-use Rattle.search.specs.Corrector.{named}
+use Rattle.search.specs.Corrector.{namedCorrector}
 
 -- a byte times a vector's length
 pub small : {j m : ℕ} → j ≤ 255 → m ≤ 1024 → j * m ≤ 261120
@@ -30,9 +30,9 @@ within p m α {i} {j} h e f {total} l = rw (l, e, f) (times-fits α p m h)
 pub corrector-at : (rows : List ℕ) (p m bit α : ℕ) {i j : ℕ} {first second row : List ℕ} → bit < 2 → α < p → i ≡ α → j ≡ p
     → first ≡ part rows (2 * m) (j * m)
     → second ≡ part rows (2 * m + j * m) (j * m)
-    → row ≡ part (named bit first second) (i * m) m
+    → row ≡ part (namedCorrector bit first second) (i * m) m
     → row ≡ nthPiece rows m (2 + bit * p + α)
-unfolding named
+unfolding namedCorrector
 corrector-at rows p m zero α {i} {j} h k e f a b r =
     let place : 2 * m + α * m ≡ (2 + 0 * p + α) * m = omega arith in
     r

@@ -27,7 +27,7 @@ use Rattle.circuit.specs.Held.{wiresIn, outputsIn, Held, Holds}
 use Rattle.circuit.proofs.Accepted.{accepted}
 use Rattle.session.specs.Session.{fileChecked, lengthsChecked, tooLarge, valuesChecked}
 use Rattle.session.proofs.Sessions.{file-accepted, lengths-same}
-use Rattle.session.proofs.Lent.{lengths-met}
+use Rattle.session.proofs.LentLengths.{lengths-met}
 use Rattle.session.proofs.Circuits.{held-of, made-is, given-is, inputs-made}
 use Rattle.plain.specs.Plain.{plainTo, plainValues, plainOutputs}
 use Rattle.plain.specs.Call.{fedChecked, plainChecked, plainAfter}

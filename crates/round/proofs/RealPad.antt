@@ -5,7 +5,7 @@ use mathlib.Core.List.{List}
 use Prim.Native.Nat.{ℕ, zero, suc, _*_, _/_, _%_, _<_}
 use lib.ListN.{length, take, drop, length-map}
 use Rattle.shake.specs.Numbers.{numbers}
-use Rattle.shake.specs.Padding.{rate, padded}
+use Rattle.shake.specs.Padding.{rate, paddedMessage}
 use Rattle.shake.specs.Shake.{absorbBlock, absorbBlocks, zeroState, absorbed, shake256}
 use Rattle.shake.proofs.Streamed.{absorbBlock-length}
 use Rattle.shake.proofs.Squeezed.{squeezed-length}
@@ -23,7 +23,7 @@ blocks-lanes (suc n) state bytes e =
 
 absorbed-lanes : (message : List ℕ) → length (absorbed message) ≡ 25
 unfolding absorbed zeroState
-absorbed-lanes message = blocks-lanes (length (padded message) / rate) zeroState (padded message) refl
+absorbed-lanes message = blocks-lanes (length (paddedMessage message) / rate) zeroState (paddedMessage message) refl
 
 pub shakePad-size : (q K : ℕ) (input : List ℕ) → 0 < q → length (shakePad q K input) ≡ K
 unfolding shakePad shake256

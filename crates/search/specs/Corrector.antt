@@ -4,6 +4,6 @@ use mathlib.Core.List.{List}
 use Prim.Native.Nat.{ℕ, zero, suc}
 
 -- of the rows of the two correctors, those that the bit's external value names: the first for 0, else the second
-unfoldable pub named : ℕ → List ℕ → List ℕ → List ℕ
-named zero first second = first
-named (suc bit) first second = second
+unfoldable pub namedCorrector : ℕ → List ℕ → List ℕ → List ℕ
+namedCorrector zero first second = first
+namedCorrector (suc bit) first second = second

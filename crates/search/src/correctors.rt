@@ -3,7 +3,7 @@ ghost use mathlib.Core.Path.{_≡_};
 ghost use Prim.Native.Nat.{_+_, _≤_};
 ghost use lib.ListN.{length};
 ghost use Rattle.lists.specs.Blocks.{part};
-ghost use Rattle.search.specs.Corrector.{named};
+ghost use Rattle.search.specs.Corrector.{namedCorrector};
 use lists::piece;
 
 // The `width` bytes from place `at` on of the corrector that `bit` names: of `first` for 0, else of `second`. The result may be of
@@ -16,7 +16,7 @@ pub fn chosen_corrector<'a>(
     width: usize,
 ) -> &'a [u8]
     requires { ⌜ (at + width ≤ length (now first)) × (at + width ≤ length (now second)) ⌝ }
-    ensures { λ r. ⌜ (now r ≡ part (named bit (now (first .entry)) (now (second .entry))) at width) × (length (now r) ≡ width) ⌝ }
+    ensures { λ r. ⌜ (now r ≡ part (namedCorrector bit (now (first .entry)) (now (second .entry))) at width) × (length (now r) ≡ width) ⌝ }
 {
     if bit == 0 {
         piece(first, at, width)

@@ -1,5 +1,5 @@
 -- Laws of the session's checks: when they pass, and which answers of the code meet them.
 pub mod Sessions
-pub mod Lent
+pub mod LentLengths
 pub mod Circuits
 pub mod Searches

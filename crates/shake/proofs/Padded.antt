@@ -9,7 +9,7 @@ use lib.Dec.{lit<}
 use lib.Pow.{shr-lt}
 use lib.ListN.{length, drop, replicate, length-append, length-replicate, replicate-append-replicate}
 use lib.Seq.{take-at, drop-at}
-use Rattle.shake.specs.Padding.{bitsOf, messageBits, number, packed, pad10*1, suffix, suffixed, paddedBits, padded}
+use Rattle.shake.specs.Padding.{bitsOf, messageBits, number, packed, pad10*1, suffix, suffixed, paddedBits, paddedMessage}
 use Rattle.shake.proofs.Bytes.{Bytes, head-byte, tail-bytes, bytes-append, bytes-cons, bytes-none, bytes-zeros}
 
 bitsOf-length : (n x : ℕ) → length (bitsOf n x) ≡ n
@@ -128,8 +128,8 @@ paddedBits-length m =
     ∙ rw (messageBits-length m, ending-length (8 * (136 - length m % 136) - 6)) (omega arith)
 
 -- the padded message, as bytes
-pub padded-is : (m : List ℕ) → Bytes m → padded m ≡ m ++ tail (136 - length m % 136)
-unfolding padded
+pub padded-is : (m : List ℕ) → Bytes m → paddedMessage m ≡ m ++ tail (136 - length m % 136)
+unfolding paddedMessage
 padded-is m h =
     ap (λ (k : ℕ). packed k (paddedBits m)) (ap (λ (k : ℕ). k / 8) (paddedBits-length m) ∙ mul-div-right (length m + (136 - length m % 136)) {m = 8} (lit< tt))
     ∙ ap (λ (xs : List ℕ). packed (length m + (136 - length m % 136)) xs) (paddedBits-is m)

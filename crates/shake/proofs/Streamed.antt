@@ -17,7 +17,7 @@ use lib.Seq.{take-suc-set, drop-set-lt, drop-cons, set-set, getD-set-same, set-g
 use Rattle.keccak.specs.Keccak.{keccakF}
 use Rattle.keccak.proofs.Fits.{keccakF-length}
 use Rattle.shake.specs.Numbers.{littleEndian, firstNumbers, numbers}
-use Rattle.shake.specs.Padding.{padded}
+use Rattle.shake.specs.Padding.{paddedMessage}
 use Rattle.shake.specs.Shake.{xored, absorbBlock, absorbBlocks, zeroState, absorbed}
 use Rattle.shake.specs.Stream.{mixed, settled, turned, withByte, withField, empty, closed}
 use Rattle.shake.specs.declared.Sponge.{Sponge}
@@ -238,16 +238,16 @@ streamed m h =
     (sym (tail-in (136 - length m % 136) (withField empty m .lanes) (withField empty m .at) (r .lanes25) (rw (field-place empty m (lit< tt)) (places (length m))) (omega arith))
     ∙ fields empty m (tail (136 - length m % 136))
     ∙ ap (λ (xs : List ℕ). withField empty xs) (sym (padded-is m h))
-    ∙ blocks-in (length (padded m) / 136) (padded m) zeroState whole bytes refl)
+    ∙ blocks-in (length (paddedMessage m) / 136) (paddedMessage m) zeroState whole bytes refl)
   where
     places : (n : ℕ) → (0 + n) % 136 + (136 - n % 136) ≡ 136
     places n = omega arith
 
-    long : length (padded m) ≡ length m + (136 - length m % 136)
+    long : length (paddedMessage m) ≡ length m + (136 - length m % 136)
     long = ap length (padded-is m h) ∙ length-append m (tail (136 - length m % 136)) ∙ ap (λ (k : ℕ). length m + k) (tail-length (136 - length m % 136))
 
-    whole : length (padded m) ≡ 136 * (length (padded m) / 136)
+    whole : length (paddedMessage m) ≡ 136 * (length (paddedMessage m) / 136)
     whole = omega (arith, long)
 
-    bytes : Bytes (padded m)
+    bytes : Bytes (paddedMessage m)
     bytes = subst Bytes (sym (padded-is m h)) (bytes-append m (tail (136 - length m % 136)) h (bytes-tail (136 - length m % 136)))

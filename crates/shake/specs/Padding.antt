@@ -47,5 +47,5 @@ unfoldable pub paddedBits : List ℕ → List ℕ
 paddedBits m = suffixed m ++ pad10*1 rateBits (length (suffixed m))
 
 -- the same as bytes
-unfoldable pub padded : List ℕ → List ℕ
-padded m = packed (length (paddedBits m) / 8) (paddedBits m)
+unfoldable pub paddedMessage : List ℕ → List ℕ
+paddedMessage m = packed (length (paddedBits m) / 8) (paddedBits m)

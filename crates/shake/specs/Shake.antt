@@ -7,7 +7,7 @@ use lib.Bits.{bitXor}
 use lib.ListN.{length, take, drop, replicate}
 use Rattle.keccak.specs.Keccak.{keccakF}
 use Rattle.shake.specs.Numbers.{numbers, bytesOf}
-use Rattle.shake.specs.Padding.{rate, padded}
+use Rattle.shake.specs.Padding.{rate, paddedMessage}
 
 -- the first lanes of a state XORed with numbers; lanes past the numbers stay
 unfoldable pub xored : List ℕ → List ℕ → List ℕ
@@ -30,7 +30,7 @@ zeroState = replicate 25 0
 
 -- the state that has taken in all of a message
 unfoldable pub absorbed : List ℕ → List ℕ
-absorbed message = absorbBlocks (length (padded message) / rate) zeroState (padded message)
+absorbed message = absorbBlocks (length (paddedMessage message) / rate) zeroState (paddedMessage message)
 
 -- the bytes of lanes
 unfoldable pub laneBytes : List ℕ → List ℕ

@@ -1,6 +1,6 @@
 -- `party_calls::lent_checked` meets its contract: a wrong length, or what the check of the bytes answers. Assumes nothing.
 use borrow.Author.Needs.{needs}
-use Rattle.session.proofs.Lent.{lengths-met}
+use Rattle.session.proofs.LentLengths.{lengths-met}
 use Rattle.party_calls.proofs.Decodes.{lent-masked, lent-next, lent-refused}
 use Rattle.party_calls.proofs.decoding.lent_checked.Statement.{statement}
 use Rattle.party_calls.proofs.decoding.lent_checked.Tie as tie

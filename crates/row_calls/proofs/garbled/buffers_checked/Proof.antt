@@ -2,7 +2,7 @@
 use Prim.Native.Nat.{_*_}
 use native.Mathlib.Omega.{arith}
 use Rattle.party_calls.proofs.KeyPlaces.{small-product}
-use Rattle.session.proofs.Lent.{lengths-met}
+use Rattle.session.proofs.LentLengths.{lengths-met}
 use Rattle.row_calls.proofs.Garbles.{draws-lent, draws-next, draws-stop}
 use borrow.Author.Needs.{needs}
 use Rattle.row_calls.proofs.garbled.buffers_checked.Statement.{statement}

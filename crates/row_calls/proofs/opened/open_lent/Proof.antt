@@ -3,7 +3,7 @@ use Prim.Native.Nat.{_*_}
 use native.Mathlib.Omega.{arith}
 use Rattle.session.proofs.Circuits.{inputs-made}
 use Rattle.party_calls.proofs.KeyPlaces.{small-product}
-use Rattle.session.proofs.Lent.{lengths-met}
+use Rattle.session.proofs.LentLengths.{lengths-met}
 use Rattle.row_calls.proofs.Opens.{open-sizes, lent-next, lent-stop}
 use borrow.Author.Needs.{needs}
 use Rattle.row_calls.proofs.opened.open_lent.Statement.{statement}

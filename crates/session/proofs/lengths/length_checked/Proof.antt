@@ -1,5 +1,5 @@
 -- `session::length_checked` meets its contract: one law for each way. Assumes nothing.
-use Rattle.session.proofs.Lent.{length-met, length-wrong}
+use Rattle.session.proofs.LentLengths.{length-met, length-wrong}
 use Rattle.session.proofs.lengths.length_checked.Statement.{statement}
 use Rattle.session.proofs.lengths.length_checked.Tie as tie
 
