@@ -40,7 +40,7 @@ struct wire {
 struct circuit {
     uint8_t *file;
     size_t length;
-    uint32_t wires, inputs, outputs, rows, moduli, records; // as lupiknam_read counts them
+    uint32_t wires, inputs, outputs, rows, moduli, record_keys; // as lupiknam_read counts them
     struct wire wire[MOST_WIRES];
     uint32_t output[MOST_OUTPUTS]; // the wire of each
 };
@@ -326,7 +326,7 @@ static uint32_t rows_listed(const struct circuit *c) {
 static double read_circuit(struct circuit *c, const char *path) {
     load(c, path);
     double begun = start("read ");
-    lupiknam_answer answer = lupiknam_read(c->file, c->length, &c->wires, &c->inputs, &c->outputs, &c->rows, &c->moduli, &c->records);
+    lupiknam_answer answer = lupiknam_read(c->file, c->length, &c->wires, &c->inputs, &c->outputs, &c->rows, &c->moduli, &c->record_keys);
     double spent = spent_since(begun);
     must(answer, READ);
     list_wires(c);
@@ -356,7 +356,7 @@ static void check_session(const struct circuit *c, uint32_t n, uint32_t k) {
 
 static void make_room(struct round *r) {
     const struct circuit *c = r->circuit;
-    r->contribution_length = (size_t)r->k * c->moduli + (size_t)(r->k + 1) * c->records;
+    r->contribution_length = (size_t)r->k * c->moduli + (size_t)(r->k + 1) * c->record_keys;
     r->rows_length = (size_t)c->rows * r->n * r->k;
     r->keys_length = (size_t)c->inputs * r->n * r->k;
     r->wire_keys_length = (size_t)c->wires * r->n * r->k;

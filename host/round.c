@@ -158,8 +158,8 @@ static uint8_t *draw(uint8_t *at, const struct wire *wires, size_t count, size_t
 static void play(const uint8_t *file, size_t length, uint32_t n, uint32_t k, int number, uint32_t *meter)
 {
     /* Every party reads the file; the counts give the length of every buffer. */
-    uint32_t wires, inputs, outputs, rows, moduli, records;
-    must(lupiknam_read(file, length, &wires, &inputs, &outputs, &rows, &moduli, &records), "reading");
+    uint32_t wires, inputs, outputs, rows, moduli, record_keys;
+    must(lupiknam_read(file, length, &wires, &inputs, &outputs, &rows, &moduli, &record_keys), "reading");
     if (inputs != INPUTS || outputs != OUTPUTS || rows != ROWS) {
         fprintf(stderr, "reading: the counts differ\n");
         exit(1);
@@ -167,7 +167,7 @@ static void play(const uint8_t *file, size_t length, uint32_t n, uint32_t k, int
     struct wire *wire = (struct wire *)(void *)room(wires * sizeof *wire);
     list_wires(file, length / 4, wire);
 
-    const size_t key = k, row = (size_t)n * k, size = key * moduli + (key + 1) * records;
+    const size_t key = k, row = (size_t)n * k, size = key * moduli + (key + 1) * record_keys;
     uint8_t *contributions = room(n * size), *row_bytes = room(rows * row), *input_masks = room(inputs), *output_masks = room(outputs);
     uint8_t *externals = room(inputs), *own_values = room(inputs), *own_masks = room(inputs), *own_externals = room(inputs);
     uint8_t *keys = room(inputs * row), *own_keys = room(inputs * key);

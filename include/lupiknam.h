@@ -22,7 +22,7 @@
  *   select           zero key, two first-part keys; mask share, two first-part shares (of the product of bit and difference)
  *   add, scale       nothing
  *
- * with k bytes for a key and one for a share, all below the wire's modulus. It has k * moduli + (k + 1) * records bytes, by the counts
+ * with k bytes for a key and one for a share, all below the wire's modulus. It has k * moduli + (k + 1) * record_keys bytes, by the counts
  * that lupiknam_read writes. No offset is zero, that is, each has a byte that is not 0.
  *
  * A round is lupiknam_garble once, from all contributions; then at each party lupiknam_externals for its own inputs, lupiknam_input_keys,
@@ -131,7 +131,7 @@ static inline const char *lupiknam_refusal(uint32_t number)
  *   outputs             written: number of outputs, 1 to 256
  *   rows                written: number of rows that a garbling has; a row is n * K bytes
  *   moduli              written: number of different moduli among the wires
- *   records             written: number of keys in a party's records; a contribution has K * moduli + (K + 1) * records bytes
+ *   record_keys         written: number of keys in a party's records; a contribution has K * moduli + (K + 1) * record_keys bytes
  *
  * Refusals: 1 to 10. Where the file is refused none of the six numbers is written.
  *
@@ -141,7 +141,7 @@ static inline const char *lupiknam_refusal(uint32_t number)
 lupiknam_answer lupiknam_read(
     const uint8_t *file, size_t file_length,
     uint32_t *wires, uint32_t *inputs, uint32_t *outputs,
-    uint32_t *rows, uint32_t *moduli, uint32_t *records);
+    uint32_t *rows, uint32_t *moduli, uint32_t *record_keys);
 
 /*
  * Counts the inputs that a party owns.
@@ -180,7 +180,7 @@ lupiknam_answer lupiknam_plain(
  *
  *   file, file_length                     the circuit file
  *   n, k                                  number of parties, key length
- *   contributions, contributions_length   n * (k * moduli + (k + 1) * records) bytes: all parties' contributions, one after another,
+ *   contributions, contributions_length   n * (k * moduli + (k + 1) * record_keys) bytes: all parties' contributions, one after another,
  *                                         parties ascending
  *   rows, rows_length                     written: rows * n * k bytes, by the count of rows that lupiknam_read writes; by gate, component
  *                                         and row, then a key's length for each receiving party
@@ -229,7 +229,7 @@ lupiknam_answer lupiknam_externals(
  *
  *   file, file_length                   the circuit file
  *   n, k, party                         number of parties, key length, the party
- *   contribution, contribution_length   k * moduli + (k + 1) * records bytes: the party's contribution
+ *   contribution, contribution_length   k * moduli + (k + 1) * record_keys bytes: the party's contribution
  *   externals, externals_length         a byte for each input: the external values of all inputs, in the order of the wires
  *   keys, keys_length                   written: inputs * k bytes, a key for each input, in the order of the wires
  *
@@ -250,7 +250,7 @@ lupiknam_answer lupiknam_input_keys(
  *
  *   file, file_length                       the circuit file
  *   n, k, party                             number of parties, key length, the party that opens
- *   contribution, contribution_length       k * moduli + (k + 1) * records bytes: that party's contribution
+ *   contribution, contribution_length       k * moduli + (k + 1) * record_keys bytes: that party's contribution
  *   externals, externals_length             a byte for each input: the external values of all inputs, in the order of the wires
  *   keys, keys_length                       inputs * n * k bytes: the input keys by input, then by party, so that party j's key on wire w
  *                                           starts at (w * n + j) * k

@@ -5,7 +5,8 @@ ghost use lib.ListN.{length};
 ghost use Rattle.keccak.specs.Keccak.{keccakF};
 ghost use Rattle.shake.specs.Numbers.{numbers};
 ghost use Rattle.shake.specs.Shake.{shake256};
-ghost use Rattle.pads.specs.Pad.{padInput, placed};
+ghost use Rattle.pads.specs.Pad.{padInput, bound, placed};
+use pads::Bound;
 
 // One permutation in place.
 #[no_mangle]
@@ -20,7 +21,12 @@ pub extern "C" fn bench_permutation(state: &mut [u64; 25])
 // The numbers of a pad before they are reduced, for a sender's key; the other fields of its input are 0.
 #[no_mangle]
 pub extern "C" fn bench_numbers(key: &[u8], out: &mut [u64])
-    ensures { λ _. ⌜ now (out .exit) ≡ numbers (shake256 (padInput (placed 0 0 0) 0 (now (key .entry))) (8 * length (now (out .entry)))) ⌝ }
+    ensures { λ _. ⌜ now (out .exit) ≡ numbers (shake256 (padInput (bound (placed 0 0 0) 0 (now (key .entry)))) (8 * length (now (out .entry)))) ⌝ }
 {
-    pads::pad_numbers(0, 0, 0, 0, key, out);
+    let none = Bound {
+        modulus: 0,
+        wire: 0,
+        component: 0,
+    };
+    pads::pad_numbers(none, 0, key, out);
 }

@@ -1,5 +1,6 @@
 -- The call for decoding: e − m modulo the wire's prime for each output, from external values of all wires and output masks (no n, K or party).
 -- Assumes nothing.
+use mathlib.Core.Path.{_≡_}
 use mathlib.Core.Bool.{_&&_, _||_}
 use lib.Dec.{ltb}
 use mathlib.Core.List.{List, [], _∷_}
@@ -8,7 +9,7 @@ use lib.ListN.{length, getD}
 use Rattle.lists.specs.Blocks.{tab}
 use Rattle.residue.specs.Residue.{sub}
 use Rattle.checks.specs.declared.Refusal.the-variants.{ValueTooLarge}
-use Rattle.checks.specs.Checked.{Checked, andThen, noneBad, afterwards}
+use Rattle.checks.specs.Checked.{Checked, Reports, andThen, noneBad, afterwards}
 use Rattle.words.specs.declared.gate.Wire.{Wire}
 use Rattle.circuit.specs.Wires.{modulusAt}
 use Rattle.circuit.specs.File.{readFile}
@@ -48,3 +49,8 @@ module _ (file : List ℕ) (externals masks results : List ℕ) where
 
   unfoldable pub decodeAfter : List ℕ
   decodeAfter = afterwards decodeChecked (decodeMade wires outputs externals masks) results
+
+-- the call's promise: the number and place that it answers, and what the bytes lent for the results hold afterwards
+pub record DecodeCall (file externals masks results₀ : List ℕ) (number place : ℕ) (results : List ℕ) : Type 0 where
+  pub answer : Reports (decodeChecked file externals masks results₀) number place
+  pub resultsIs : results ≡ decodeAfter file externals masks results₀

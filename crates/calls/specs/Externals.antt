@@ -1,5 +1,6 @@
 -- The call for the external values of a party's own inputs, from their values and masks, a byte each per own input (n and party given, no K).
 -- Assumes nothing.
+use mathlib.Core.Path.{_≡_}
 use mathlib.Core.Bool.{_||_, cond}
 use mathlib.Core.List.{List, [], _∷_}
 use Prim.Native.Nat.{ℕ}
@@ -7,7 +8,7 @@ use lib.ListN.{length, getD}
 use Rattle.lists.specs.Blocks.{blocks, tab}
 use Rattle.residue.specs.Residue.{add}
 use Rattle.checks.specs.declared.Refusal.the-variants.{ValueTooLarge}
-use Rattle.checks.specs.Checked.{Checked, andThen, noneBad, afterwards}
+use Rattle.checks.specs.Checked.{Checked, Reports, andThen, noneBad, afterwards}
 use Rattle.words.specs.declared.gate.Wire.{Wire}
 use Rattle.circuit.specs.Wires.{wireAt, modulusAt}
 use Rattle.circuit.specs.File.{readFile}
@@ -54,3 +55,8 @@ module _ (file : List ℕ) (n party : ℕ) (values masks externals : List ℕ) w
 
   unfoldable pub externalsAfter : List ℕ
   externalsAfter = afterwards externalsChecked (externalsMade party wires values masks) externals
+
+-- the call's promise: the number and place that it answers, and what the bytes lent for the external values hold afterwards
+pub record ExternalsCall (file : List ℕ) (n party : ℕ) (values masks externals₀ : List ℕ) (number place : ℕ) (externals : List ℕ) : Type 0 where
+  pub answer : Reports (externalsChecked file n party values masks externals₀) number place
+  pub externalsIs : externals ≡ externalsAfter file n party values masks externals₀

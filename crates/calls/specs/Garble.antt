@@ -1,9 +1,10 @@
 -- The call for garbling: from all n contributions, rows, one mask byte per input and one per output; the row meter in and back.
 -- Assumes nothing.
+use mathlib.Core.Path.{_≡_}
 use mathlib.Core.List.{List, [], _∷_}
 use Prim.Native.Nat.{ℕ, _*_}
 use lib.ListN.{length}
-use Rattle.checks.specs.Checked.{Checked, andThen, afterwards}
+use Rattle.checks.specs.Checked.{Checked, Reports, andThen, afterwards}
 use Rattle.meter.specs.Meter.{meterChecked, charged}
 use Rattle.words.specs.declared.gate.Wire.{Wire}
 use Rattle.circuit.specs.Wires.{inputsIn}
@@ -11,7 +12,7 @@ use Rattle.circuit.specs.File.{readFile}
 use Rattle.counts.specs.Counts.{rowsIn}
 use Rattle.scheme.specs.Contribution.{contributionSize}
 use Rattle.scheme.specs.Draw.{Draw, drawn}
-use Rattle.pads.specs.Pad.{Pad}
+use Rattle.pads.specs.Pad.{Pad, shakePad}
 use Rattle.scheme.specs.Rows.{garbledRows, inputMasks, outputMasks}
 use Rattle.session.specs.Session.{fileChecked, sessionChecked, ownersChecked, lengthsChecked}
 use Rattle.scheme.specs.Bytes.{contributionsChecked, offsetsChecked}
@@ -70,3 +71,13 @@ module _ (pad : Pad) (file : List ℕ) (n K : ℕ) (contributions rows masks out
   garbleRows =
       afterwards (garbleChecked file n K contributions rows masks outs meter)
       (garbledRows pad n K file (readFile file .wires) (drawn n K (readFile file .wires) contributions)) rows
+
+-- the call's promise: the number and place that it answers, and what the bytes lent for the rows, the input masks and the output masks, and the
+-- row meter hold afterwards
+pub record GarbleCall (file : List ℕ) (n K : ℕ) (contributions rows₀ masks₀ outs₀ : List ℕ) (meter₀ : ℕ)
+    (number place : ℕ) (rows masks outs : List ℕ) (meter : ℕ) : Type 0 where
+  pub answer : Reports (garbleChecked file n K contributions rows₀ masks₀ outs₀ meter₀) number place
+  pub rowsIs : rows ≡ garbleRows shakePad file n K contributions rows₀ masks₀ outs₀ meter₀
+  pub inputMasksIs : masks ≡ garbleInputMasks file n K contributions rows₀ masks₀ outs₀ meter₀
+  pub outputMasksIs : outs ≡ garbleOutputMasks file n K contributions rows₀ masks₀ outs₀ meter₀
+  pub meterIs : meter ≡ garbleMeter file n K contributions rows₀ masks₀ outs₀ meter₀

@@ -1,11 +1,12 @@
 -- The call for a party's input keys in wire order, from its contribution and all external inputs (n, K and party given).
 -- Assumes nothing.
+use mathlib.Core.Path.{_≡_}
 use mathlib.Core.List.{List, [], _∷_}
 use Prim.Native.Nat.{ℕ, _*_}
 use lib.ListN.{length, getD}
 use Rattle.lists.specs.Blocks.{blocks}
 use Rattle.residue.specs.Vector.{keyV}
-use Rattle.checks.specs.Checked.{Checked, andThen, afterwards}
+use Rattle.checks.specs.Checked.{Checked, Reports, andThen, afterwards}
 use Rattle.words.specs.declared.gate.Wire.{Wire}
 use Rattle.circuit.specs.Wires.{modulusAt, inputsIn}
 use Rattle.circuit.specs.File.{readFile}
@@ -54,3 +55,8 @@ module _ (file : List ℕ) (n K party : ℕ) (contribution externals keys : List
 
   unfoldable pub inputKeysAfter : List ℕ
   inputKeysAfter = afterwards inputKeysChecked (inputKeysMade K wires contribution externals) keys
+
+-- the call's promise: the number and place that it answers, and what the bytes lent for the keys hold afterwards
+pub record InputKeysCall (file : List ℕ) (n K party : ℕ) (contribution externals keys₀ : List ℕ) (number place : ℕ) (keys : List ℕ) : Type 0 where
+  pub answer : Reports (inputKeysChecked file n K party contribution externals keys₀) number place
+  pub keysIs : keys ≡ inputKeysAfter file n K party contribution externals keys₀

@@ -1,20 +1,21 @@
 -- The call for opening at party s, from its contribution, the external inputs, all input keys and the rows: n·K key
 -- bytes and one external byte per wire. After 20 both written buffers are all zero.
 -- Assumes nothing.
+use mathlib.Core.Path.{_≡_}
 use mathlib.Core.Bool.{Bool, not}
 use mathlib.Core.List.{List, [], _∷_}
 use Prim.Native.Nat.{ℕ, _+_, _*_}
 use lib.ListN.{length, getD, replicate}
 use Rattle.lists.specs.Blocks.{nthPiece}
 use Rattle.checks.specs.declared.Refusal.the-variants.{WrongInputKey, NoMultiplier}
-use Rattle.checks.specs.Checked.{Checked, andThen, noneBad, afterwards}
+use Rattle.checks.specs.Checked.{Checked, Reports, andThen, noneBad, afterwards}
 use Rattle.words.specs.declared.gate.Wire.{Wire}
 use Rattle.circuit.specs.Wires.{modulusAt, inputsIn}
 use Rattle.circuit.specs.File.{readFile}
 use Rattle.counts.specs.Counts.{rowsIn}
 use Rattle.scheme.specs.Contribution.{contributionSize}
 use Rattle.scheme.specs.Draw.{Draw, drawn}
-use Rattle.pads.specs.Pad.{Pad}
+use Rattle.pads.specs.Pad.{Pad, shakePad}
 use Rattle.search.specs.Search.{same}
 use Rattle.scheme.specs.Opening.{opened, wireKeys, wireExternals, nothing}
 use Rattle.session.specs.Session.{fileChecked, sessionChecked, partyChecked, ownersChecked, lengthsChecked, valuesChecked}
@@ -96,3 +97,10 @@ module _ (pad : Pad) (file : List ℕ) (n K party : ℕ) (contribution externals
   unfoldable pub openExternals : List ℕ
   openExternals =
       afterwards before (afterwards gates (wireExternals pad n K party wires own externals keys rows) (replicate (length wexternals) 0)) wexternals
+
+-- the call's promise: the number and place that it answers, and what the bytes lent for the wires' keys and external values hold afterwards
+pub record OpenCall (file : List ℕ) (n K party : ℕ) (contribution externals keys rows wkeys₀ wexternals₀ : List ℕ)
+    (number place : ℕ) (wkeys wexternals : List ℕ) : Type 0 where
+  pub answer : Reports (openChecked shakePad file n K party contribution externals keys rows wkeys₀ wexternals₀) number place
+  pub wireKeysIs : wkeys ≡ openKeys shakePad file n K party contribution externals keys rows wkeys₀ wexternals₀
+  pub wireExternalsIs : wexternals ≡ openExternals shakePad file n K party contribution externals keys rows wkeys₀ wexternals₀

@@ -1,17 +1,20 @@
 -- One turn of the reader's loop. The invariant: the arrays hold the wires, moduli and outputs so far at their fronts, what is true
--- of those is true, and the rest of the computation from here comes to what the whole comes to. One law for each thing that a word
+-- of those is true, and the rest of the computation from here comes to what the file comes to. One law for each thing that a word
 -- can do.
 -- Assumes nothing.
 use mathlib.Core.Path.{_≡_, refl, _∙_, sym, ap, subst}
-use mathlib.Core.Bool.{Bool, true, false, cond, _&&_}
+use mathlib.Core.Bool.{Bool, true, false, cond}
 use mathlib.Core.List.{List, [], _∷_, _++_, map-append}
 use Prim.Native.Nat.{ℕ, suc, _+_, _-_, _*_, _≤_, _<_}
 use native.Mathlib.Numerals.{add-one}
 use native.Mathlib.Omega.{arith}
-use lib.Dec.{ltb}
+use lib.Dec.{eqb, ltb}
 use lib.ListN.{length, take, drop, set, replicate, length-set, length-replicate}
 use lib.Seq.{length-take-le, take-suc-set, drop-set-lt, drop-drop}
-use borrow.Author.Tests.{le-leb, lt-leb, le-ltb, lt-ltb, ne-eqb, eq-eqb}
+use borrow.Author.Tests.{le-leb, lt-leb, le-ltb, lt-ltb, ltb-true}
+use Rattle.residue.proofs.Table.{and-left}
+use Rattle.checks.specs.declared.Answer.{Answer}
+use Rattle.checks.specs.declared.Answer.the-variants.{Accepted}
 use Rattle.checks.specs.declared.Refusal.{Refusal}
 use Rattle.checks.specs.declared.Refusal.the-variants.{NoHead, WrongEnd}
 use Rattle.words.specs.Bits.{wordAt}
@@ -21,14 +24,12 @@ use Rattle.words.specs.declared.gate.Due.{Due}
 use Rattle.words.specs.declared.gate.Due.the-variants.{Inputs, Outputs}
 use Rattle.words.specs.declared.gate.Step.{Step}
 use Rattle.words.specs.declared.gate.Step.the-variants.{Refused, Makes, Goes, Gives, Ends}
+use Rattle.circuit.specs.declared.Circuit.{Circuit}
+use Rattle.circuit.specs.Held.{circuitOf, Holds}
 use Rattle.circuit.specs.Wires.{noWire, moduliOf, isInput, inputsIn}
-use Rattle.circuit.specs.File.{Read, refused, accepted, wordsIn, ended, after, readFrom, headed, readFile}
+use Rattle.circuit.specs.File.{Read, refused, accepted, wordsIn, ended, after, readFrom, hasHead, headed, readFile}
 use Rattle.circuit.proofs.More.{inputs-le, inputs-more, length-more}
 use Rattle.circuit.proofs.State.{State, Next, next, nothing, within}
-
--- what the words after the head come to
-abbrev pub whole : List ℕ → Read
-whole file = readFrom file (wordsIn file - 1) 1 Inputs [] []
 
 pub record Loop (file : List ℕ) (wires : List Wire) (moduli outputs : List ℕ) (made inputs given : ℕ) (due : Due) (at : ℕ) : Type 0 where
   pub wiresRoom : length wires ≡ 1024
@@ -42,12 +43,12 @@ pub record Loop (file : List ℕ) (wires : List Wire) (moduli outputs : List ℕ
   pub count : inputs ≡ inputsIn (take made wires)
   pub wiresBlank : drop made wires ≡ replicate (1024 - made) noWire
   pub outputsBlank : drop given outputs ≡ replicate (256 - given) 0
-  pub rest : readFrom file (wordsIn file - at) at due (take made wires) (take given outputs) ≡ whole file
+  pub rest : readFrom file (wordsIn file - at) at due (take made wires) (take given outputs) ≡ readFile file
 
 -- what a word at an index does
 pub record Turn (file : List ℕ) (at : ℕ) (wires : List Wire) (given : List ℕ) (step : Step) : Type 0 where
   pub inside : at < wordsIn file
-  pub rest : after (readFrom file (wordsIn file - suc at) (suc at)) file at wires given step ≡ whole file
+  pub rest : after (readFrom file (wordsIn file - suc at) (suc at)) file at wires given step ≡ readFile file
   pub next : Next file at wires given step
 
 unrolled :
@@ -126,7 +127,7 @@ module _ {file : List ℕ} {wires : List Wire} {moduli outputs : List ℕ} {made
         next = subst (Next file at (take made wires) (take given outputs)) g (next file at h due (take made wires) (take given outputs) (l .state));
       }
 
-  pub stopped : {reason : Refusal} → Turn file at (take made wires) (take given outputs) (Refused reason) → refused reason at ≡ whole file
+  pub stopped : {reason : Refusal} → Turn file at (take made wires) (take given outputs) (Refused reason) → refused reason at ≡ readFile file
   unfolding after
   stopped t = t .rest
 
@@ -219,21 +220,32 @@ module _ {file : List ℕ} {wires : List Wire} {moduli outputs : List ℕ} {made
   pub ended-well :
       Turn file at (take made wires) (take given outputs) Ends
       → length file ≤ 4 * (at + 1)
-      → accepted (take made wires) (take given outputs) ≡ whole file
+      → accepted (take made wires) (take given outputs) ≡ readFile file
   unfolding after ended
   ended-well t h = (rw (le-leb (length file) (4 * suc at) (omega arith)) at (t .rest))
 
-  pub ended-early : Turn file at (take made wires) (take given outputs) Ends → 4 * (at + 1) < length file → refused WrongEnd (at + 1) ≡ whole file
+  pub ended-early : Turn file at (take made wires) (take given outputs) Ends → 4 * (at + 1) < length file → refused WrongEnd (at + 1) ≡ readFile file
   unfolding after ended
   ended-early t h = ap (refused WrongEnd) (add-one at) ∙ (rw (lt-leb (length file) (4 * suc at) (omega arith)) at (t .rest))
 
-  -- the words ran out
-  pub ran-out : wordsIn file ≤ at → refused WrongEnd at ≡ whole file
-  ran-out h = over file (wordsIn file - at) at due (take made wires) (take given outputs) (omega arith) ∙ l .rest
+  -- what the arrays hold is the circuit of such a file
+  pub holds : {read : Read} → accepted (take made wires) (take given outputs) ≡ read → Holds (record { answer = Accepted; circuit = circuitOf wires outputs made inputs given }) read
+  holds e =
+      subst (Holds _) e
+      (record {
+        answer = refl;
+        wires = refl;
+        made = sym wires-so-far;
+        inputs = l .count;
+        outputs = refl;
+        given = sym outputs-so-far;
+        held = record { room = record { made = l .madeWithin; wires = l .wiresRoom }; inputs = l .count; given = l .givenWithin; outputs = l .outputsRoom };
+        blank = record { wires = l .wiresBlank; outputs = l .outputsBlank };
+      })
 
-and-false : (b : Bool) → (b && false) ≡ false
-and-false true = refl
-and-false false = refl
+  -- the words ran out
+  pub ran-out : wordsIn file ≤ at → refused WrongEnd at ≡ readFile file
+  ran-out h = over file (wordsIn file - at) at due (take made wires) (take given outputs) (omega arith) ∙ l .rest
 
 -- before the first turn
 pub start :
@@ -241,9 +253,9 @@ pub start :
     → wires ≡ replicate 1024 noWire
     → length moduli ≡ 1024
     → outputs ≡ replicate 256 0
-    → 0 < wordsIn file
+    → hasHead file ≡ true
     → Loop file wires moduli outputs 0 0 0 Inputs 1
-unfolding inputsIn
+unfolding inputsIn readFile headed
 start file wires moduli outputs w m o h =
     record {
       wiresRoom = ap length w ∙ length-replicate 1024 noWire;
@@ -251,25 +263,48 @@ start file wires moduli outputs w m o h =
       outputsRoom = ap length o ∙ length-replicate {A = ℕ} 256 0;
       madeWithin = omega arith;
       givenWithin = omega arith;
-      inside = h;
+      inside = ltb-true 0 (wordsIn file) (and-left (ltb 0 (wordsIn file)) _ h);
       state = nothing file;
       same = refl;
       count = refl;
       wiresBlank = w;
       outputsBlank = o;
-      rest = refl;
+      rest = ap (λ (b : Bool). headed b file) (sym h);
     }
+
+-- a refused file's circuit is empty
+pub holds-refused :
+    {reason : Refusal} {place : ℕ} {circuit : Circuit}
+    → circuit ≡ circuitOf (replicate 1024 noWire) (replicate 256 0) 0 0 0
+    → Holds (record { answer = Answer.Refused reason place; circuit = circuit }) (refused reason place)
+unfolding inputsIn
+holds-refused {reason} {place} {circuit} e =
+    subst (λ (c : Circuit). Holds (record { answer = Answer.Refused reason place; circuit = c }) (refused reason place)) (sym e)
+    (record {
+      answer = refl;
+      wires = refl;
+      made = refl;
+      inputs = refl;
+      outputs = refl;
+      given = refl;
+      held =
+          record {
+            room = record { made = omega arith; wires = length-replicate 1024 noWire };
+            inputs = refl;
+            given = omega arith;
+            outputs = length-replicate {A = ℕ} 256 0;
+          };
+      blank = record { wires = refl; outputs = refl };
+    })
 
 -- the first word
 module _ (file : List ℕ) where
-  pub no-word : wordsIn file ≡ 0 → refused NoHead 0 ≡ readFile file
-  unfolding readFile headed
+  pub no-word : wordsIn file ≡ 0 → false ≡ hasHead file
   no-word e = rw (le-ltb 0 (wordsIn file) (omega arith)) refl
 
-  pub no-head : (wordAt file 0 ≡ 0x1000_0000 → ⊥) → refused NoHead 0 ≡ readFile file
-  unfolding readFile headed
-  no-head ne = rw (ne-eqb (wordAt file 0) 0x1000_0000 ne, and-false (ltb 0 (wordsIn file))) refl
+  pub first-word : (wordsIn file ≡ 0 → ⊥) → {w : ℕ} → w ≡ wordAt file 0 → eqb w 0x1000_0000 ≡ hasHead file
+  first-word h e = rw (e, lt-ltb 0 (wordsIn file) (omega arith)) refl
 
-  pub head : 0 < wordsIn file → wordAt file 0 ≡ 0x1000_0000 → whole file ≡ readFile file
+  pub no-head : hasHead file ≡ false → refused NoHead 0 ≡ readFile file
   unfolding readFile headed
-  head h e = rw (lt-ltb 0 (wordsIn file) h, eq-eqb (wordAt file 0) 0x1000_0000 e) refl
+  no-head e = ap (λ (b : Bool). headed b file) (sym e)

@@ -57,9 +57,12 @@ readFrom file (suc left) at due wires outputs =
     (readWord (moduliOf wires) (length outputs) at due (wordAt file at))
 
 -- the first word must be there and be the head; the others follow it, inputs first
+abbrev pub hasHead : List ℕ → Bool
+hasHead file = ltb 0 (wordsIn file) && eqb (wordAt file 0) 0x1000_0000
+
 unfoldable pub headed : Bool → List ℕ → Read
 headed true file = readFrom file (wordsIn file - 1) 1 Inputs [] []
 headed false file = refused NoHead 0
 
 unfoldable pub readFile : List ℕ → Read
-readFile file = headed (ltb 0 (wordsIn file) && eqb (wordAt file 0) 0x1000_0000) file
+readFile file = headed (hasHead file) file

@@ -1,24 +1,28 @@
-// Where nothing is read yet. Each array comes from a function of its own, so that no proof has its elements before it.
+// Where nothing is read yet. The arrays come from functions of their own, so that the reader's proof does not have their elements before it.
 ghost use mathlib.Core.Path.{_≡_};
 ghost use lib.ListN.{length, replicate};
 ghost use Rattle.circuit.specs.Wires.{noWire};
+ghost use Rattle.circuit.specs.Held.{circuitOf};
+use super::Circuit;
 use words::Gate;
 use words::Owned;
 use words::Wire;
 
-pub fn no_wires() -> [Wire; 1024]
-    ensures { λ r. ⌜ r ≡ replicate 1024 noWire ⌝ }
+// A circuit with no wires and no outputs.
+pub fn empty() -> Circuit
+    ensures { λ r. ⌜ r ≡ circuitOf (replicate 1024 noWire) (replicate 256 0) 0 0 0 ⌝ }
 {
-    [Wire {
+    let none = Wire {
         gate: Gate::Input(Owned { owner: 0 }),
         modulus: 0,
-    }; 1024]
-}
-
-pub fn no_outputs() -> [u16; 256]
-    ensures { λ r. ⌜ r ≡ replicate 256 0 ⌝ }
-{
-    [0u16; 256]
+    };
+    Circuit {
+        wires: [none; 1024],
+        outputs: [0u16; 256],
+        made: 0,
+        inputs: 0,
+        given: 0,
+    }
 }
 
 pub fn no_moduli() -> [u8; 1024]

@@ -7,8 +7,6 @@ mod table;
 
 use checks::Answer;
 pub use reader::read;
-pub use table::after_run;
-pub use table::entries_here;
 use words::Wire;
 
 // A circuit that was read: `made` wires, the first `inputs` of them inputs, and `given` outputs.

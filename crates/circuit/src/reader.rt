@@ -1,17 +1,12 @@
 // A whole file: the head, then word after word until the end word, a refusal or the end of the file.
 ghost use mathlib.Core.Path.{_≡_};
 ghost use mathlib.Core.Bool.{cond};
-ghost use mathlib.Core.List.{[]};
-ghost use Prim.Native.Nat.{_-_, _<_};
-ghost use lib.ListN.{take};
 ghost use Rattle.circuit.specs.Wires.{isInput};
-ghost use Rattle.circuit.specs.File.{refused, accepted, wordsIn, readFrom, readFile};
-ghost use Rattle.circuit.specs.Held.{circuitOf, Held, Blank, Holds};
-use super::Circuit;
+ghost use Rattle.circuit.specs.File.{refused, hasHead, readFile};
+ghost use Rattle.circuit.specs.Held.{Holds};
 use super::Reading;
+use super::blank::empty;
 use super::blank::no_moduli;
-use super::blank::no_outputs;
-use super::blank::no_wires;
 use super::table::after_run;
 use super::table::entries_here;
 use checks::Answer;
@@ -19,7 +14,6 @@ use checks::Refusal;
 use words::Due;
 use words::Gate;
 use words::Step;
-use words::Wire;
 use words::read_word;
 use words::word_at;
 
@@ -27,39 +21,9 @@ use words::word_at;
 fn refused(reason: Refusal, place: usize) -> Reading
     ensures { λ r. ⌜ Holds r (refused reason place) ⌝ }
 {
-    let circuit = Circuit {
-        wires: no_wires(),
-        outputs: no_outputs(),
-        made: 0,
-        inputs: 0,
-        given: 0,
-    };
     Reading {
         answer: Answer::Refused(reason, place),
-        circuit,
-    }
-}
-
-// What was read, where the file ends with its end word.
-fn accepted(
-    wires: [Wire; 1024],
-    outputs: [u16; 256],
-    made: usize,
-    inputs: usize,
-    given: usize,
-) -> Reading
-    requires { ⌜ Held (circuitOf wires outputs made inputs given) × Blank (circuitOf wires outputs made inputs given) ⌝ }
-    ensures { λ r. ⌜ Holds r (accepted (take made wires) (take given outputs)) ⌝ }
-{
-    Reading {
-        answer: Answer::Accepted,
-        circuit: Circuit {
-            wires,
-            outputs,
-            made,
-            inputs,
-            given,
-        },
+        circuit: empty(),
     }
 }
 
@@ -77,15 +41,26 @@ fn inputs_of(gate: Gate) -> usize
     }
 }
 
-// The words after the head. Wires, their moduli and outputs fill their arrays from the front.
-fn read_rest(file: &[u8]) -> Reading
-    requires { ⌜ 0 < wordsIn (now file) ⌝ }
-    ensures { λ r. ⌜ Holds r (readFrom (now (file .entry)) (wordsIn (now (file .entry)) - 1) 1 Due.Inputs [] []) ⌝ }
+// The first word is there and is the head.
+fn has_head(file: &[u8]) -> bool
+    ensures { λ r. ⌜ r ≡ hasHead (now (file .entry)) ⌝ }
 {
+    if file.len() / 4 == 0 {
+        return false;
+    }
+    word_at(file, 0) == 0x1000_0000
+}
+
+// What a file comes to. Wires, their moduli and outputs fill their arrays from the front.
+pub fn read(file: &[u8]) -> Reading
+    ensures { λ r. ⌜ Holds r (readFile (now (file .entry))) ⌝ }
+{
+    if !has_head(file) {
+        return refused(Refusal::NoHead, 0);
+    }
     let words = file.len() / 4;
-    let mut wires = no_wires();
+    let mut circuit = empty();
     let mut moduli = no_moduli();
-    let mut outputs = no_outputs();
     let mut made: usize = 0;
     let mut inputs: usize = 0;
     let mut given: usize = 0;
@@ -108,7 +83,7 @@ fn read_rest(file: &[u8]) -> Reading
             Step::Refused(reason) => return refused(reason, at),
             Step::Makes(wire, then) => {
                 let gate = wire.gate;
-                wires[made] = wire;
+                circuit.wires[made] = wire;
                 moduli[made] = wire.modulus;
                 inputs = inputs + inputs_of(gate);
                 made = made + 1;
@@ -120,31 +95,24 @@ fn read_rest(file: &[u8]) -> Reading
                 at = next;
             }
             Step::Gives(wire) => {
-                outputs[given] = wire;
+                circuit.outputs[given] = wire;
                 given = given + 1;
                 due = Due::Outputs;
                 at = next;
             }
             Step::Ends => {
                 if file.len() <= 4 * next {
-                    return accepted(wires, outputs, made, inputs, given);
+                    circuit.made = made;
+                    circuit.inputs = inputs;
+                    circuit.given = given;
+                    return Reading {
+                        answer: Answer::Accepted,
+                        circuit,
+                    };
                 }
                 return refused(Refusal::WrongEnd, next);
             }
         }
     }
     refused(Refusal::WrongEnd, at)
-}
-
-// What a file comes to.
-pub fn read(file: &[u8]) -> Reading
-    ensures { λ r. ⌜ Holds r (readFile (now (file .entry))) ⌝ }
-{
-    if file.len() / 4 == 0 {
-        return refused(Refusal::NoHead, 0);
-    }
-    if word_at(file, 0) != 0x1000_0000 {
-        return refused(Refusal::NoHead, 0);
-    }
-    read_rest(file)
 }

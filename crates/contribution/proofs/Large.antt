@@ -23,7 +23,7 @@ use Rattle.circuit.specs.Wires.{inputsIn, modulusAt}
 use Rattle.counts.specs.Counts.{rowsOf}
 use Rattle.session.specs.Session.{tooLarge}
 use Rattle.scheme.specs.Contribution.{contributionModuli}
-use Rattle.scheme.specs.Bytes.{bytesChecked, contributionsChecked, keysChecked, rowsChecked}
+use Rattle.scheme.specs.Bytes.{bytesChecked, contributionsChecked, keysChecked, rowsChecked, countedRowsChecked}
 use Rattle.contribution.specs.Large.{firstLarge, Bounded}
 
 -- ---- a bound, entry by entry
@@ -70,5 +70,5 @@ module _ (n K : ℕ) (wires : List Wire) (xs : List ℕ) {found : ℕ} {answer :
 
   pub rows-met : found ≡ firstLarge xs (λ i. getD (runs (length wires) (λ w. rowsOf wires w * (n * K)) (modulusAt wires)) i 0) → answer ≡ named (length xs) found KeyOrRowTooLarge
       → Meets (rowsChecked n K wires xs) answer
-  unfolding rowsChecked
+  unfolding countedRowsChecked
   rows-met e f = bytes-met xs (runs (length wires) (λ w. rowsOf wires w * (n * K)) (modulusAt wires)) KeyOrRowTooLarge e f

@@ -12,8 +12,6 @@ ghost use Rattle.scheme.specs.Contribution.{contributionSize, contributionModul
 ghost use Rattle.scheme.specs.Bytes.{contributionsChecked};
 ghost use Rattle.contribution.specs.Large.{firstLarge};
 use super::places::contribution_size;
-use super::places::wide;
-use super::places::wide_byte;
 use super::run::first_at_least;
 use checks::Answer;
 use checks::Refusal;
@@ -22,6 +20,8 @@ use circuit::Circuit;
 use counts::marks;
 use counts::moduli_used;
 use counts::record_count;
+use lists::byte_index;
+use lists::number_index;
 
 // In the offsets of one party.
 fn first_in_offsets(circuit: Circuit, k: usize, bytes: &[u8]) -> usize
@@ -33,7 +33,7 @@ fn first_in_offsets(circuit: Circuit, k: usize, bytes: &[u8]) -> usize
     let mut at = 0;
     let mut p = 0;
     while p < 256 {
-        let size = k * wide_byte(marks[p]);
+        let size = k * byte_index(marks[p]);
         let to = at + size;
         let found = first_at_least(p as u8, &bytes[at..to]);
         if found < size {
@@ -56,7 +56,7 @@ fn first_in_records(circuit: Circuit, k: usize, bytes: &[u8]) -> usize
     let mut w = 0;
     while w < made {
         let wire = circuit.wires[w];
-        let size = (k + 1) * wide(record_count(wire));
+        let size = (k + 1) * number_index(record_count(wire));
         let to = at + size;
         let found = first_at_least(wire.modulus, &bytes[at..to]);
         if found < size {
@@ -74,7 +74,7 @@ fn first_in_contribution(circuit: Circuit, k: usize, bytes: &[u8]) -> usize
     requires { ⌜ length (now bytes) ≡ contributionSize k (wiresIn circuit) ⌝ }
     ensures { λ r. ⌜ r ≡ firstLarge (now (bytes .entry)) (λ i. getD (contributionModuli k (wiresIn circuit)) i 0) ⌝ }
 {
-    let split = k * wide(moduli_used(circuit));
+    let split = k * number_index(moduli_used(circuit));
     let found = first_in_offsets(circuit, k, &bytes[..split]);
     if found < split {
         return found;

@@ -9,7 +9,6 @@ ghost use Rattle.circuit.specs.Held.{wiresIn, Held};
 ghost use Rattle.counts.specs.Counts.{rowsOf, rowsIn};
 ghost use Rattle.scheme.specs.Bytes.{keysChecked, rowsChecked};
 ghost use Rattle.contribution.specs.Large.{firstLarge};
-use super::places::wide;
 use super::run::first_at_least;
 use checks::Answer;
 use checks::Refusal;
@@ -17,6 +16,7 @@ use checks::named;
 use circuit::Circuit;
 use counts::moduli;
 use counts::row_count;
+use lists::number_index;
 
 // In the keys of all inputs, of `width` bytes each.
 fn first_in_keys(circuit: Circuit, width: usize, keys: &[u8]) -> usize
@@ -52,7 +52,7 @@ fn first_in_rows(circuit: Circuit, width: usize, rows: &[u8]) -> usize
     let mut w = 0;
     while w < made {
         let wire = circuit.wires[w];
-        let size = wide(row_count(wire, &table)) * width;
+        let size = number_index(row_count(wire, &table)) * width;
         let to = at + size;
         let found = first_at_least(wire.modulus, &rows[at..to]);
         if found < size {

@@ -13,12 +13,12 @@ ghost use Rattle.scheme.specs.Contribution.{contributionSize};
 ghost use Rattle.scheme.specs.Bytes.{allZero, zeroOffset, offsetsChecked};
 use super::places::contribution_size;
 use super::places::ranks;
-use super::places::wide_byte;
 use checks::Answer;
 use checks::Refusal;
 use checks::named;
 use circuit::Circuit;
 use counts::marks;
+use lists::byte_index;
 
 fn all_zero(bytes: &[u8]) -> bool
     ensures { λ r. ⌜ r ≡ allZero (now (bytes .entry)) ⌝ }
@@ -74,7 +74,7 @@ fn first_zero(circuit: Circuit, n: usize, k: usize, contributions: &[u8]) -> usi
     let size = contribution_size(circuit, k);
     let mut p = 0;
     while p < 256 {
-        let at = k * wide_byte(ranks[p]);
+        let at = k * byte_index(ranks[p]);
         if zero_marked(marks[p], n, size, at, k, contributions) {
             return p;
         }

@@ -13,6 +13,8 @@ use counts::marks;
 use counts::moduli_used;
 use counts::record_count;
 use counts::records;
+use lists::byte_index;
+use lists::number_index;
 use words::Wire;
 
 fn no_ranks() -> [u8; 256]
@@ -37,25 +39,13 @@ pub fn ranks(circuit: Circuit) -> [u8; 256]
     ranks
 }
 
-pub fn wide_byte(x: u8) -> usize
-    ensures { λ r. ⌜ (r ≡ x) × (r ≤ 255) ⌝ }
-{
-    x as usize
-}
-
-pub fn wide(x: u32) -> usize
-    ensures { λ r. ⌜ r ≡ x ⌝ }
-{
-    x as usize
-}
-
 // Where the offset of modulus `p` starts, by its rank.
 pub fn offset_place(ranks: &[u8], p: u8, k: usize) -> usize
     requires { ⌜ (p < length (now ranks)) × (k ≤ 128) ⌝ }
     ensures { λ r. ⌜ r ≡ k * getD (now (ranks .entry)) p 0 ⌝ }
 {
     let at = p as usize;
-    k * wide_byte(ranks[at])
+    k * byte_index(ranks[at])
 }
 
 // K bytes for each modulus in use, and K + 1 for each key of the records.
@@ -63,8 +53,8 @@ pub fn contribution_size(circuit: Circuit, k: usize) -> usize
     requires { ⌜ Room circuit × (k ≤ 128) ⌝ }
     ensures { λ r. ⌜ Counts 429056 (contributionSize k (wiresIn circuit)) r ⌝ }
 {
-    let moduli = wide(moduli_used(circuit));
-    let keys = wide(records(circuit));
+    let moduli = number_index(moduli_used(circuit));
+    let keys = number_index(records(circuit));
     k * moduli + (k + 1) * keys
 }
 
@@ -73,7 +63,7 @@ pub fn first_record(circuit: Circuit, k: usize) -> usize
     requires { ⌜ Room circuit × (k ≤ 128) ⌝ }
     ensures { λ r. ⌜ r ≡ recordAt k (wiresIn circuit) 0 ⌝ }
 {
-    k * wide(moduli_used(circuit))
+    k * number_index(moduli_used(circuit))
 }
 
 // The bytes of a record's keys: its mask shares stand behind them.
@@ -81,7 +71,7 @@ pub fn record_keys(wire: Wire, k: usize) -> usize
     requires { ⌜ k ≤ 128 ⌝ }
     ensures { λ r. ⌜ r ≡ k * recordKeysBy (recipe wire) ⌝ }
 {
-    k * wide(record_count(wire))
+    k * number_index(record_count(wire))
 }
 
 // The bytes of a record: keys, and as many shares. The next wire's record stands behind them.
@@ -89,7 +79,7 @@ pub fn record_size(wire: Wire, k: usize) -> usize
     requires { ⌜ k ≤ 128 ⌝ }
     ensures { λ r. ⌜ r ≡ (k + 1) * recordKeysBy (recipe wire) ⌝ }
 {
-    (k + 1) * wide(record_count(wire))
+    (k + 1) * number_index(record_count(wire))
 }
 
 // Room for the keys of all parties on one wire, which are at most 8 times 128 bytes.

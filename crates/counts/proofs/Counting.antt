@@ -1,6 +1,6 @@
 -- A loop that adds up f 0, f 1, … : the record that it holds to, with the laws that start it, take a turn and say what the total is.
 -- Assumes nothing.
-use mathlib.Core.Path.{_≡_, refl, ap, ap₂, _∙_, sym}
+use mathlib.Core.Path.{_≡_, refl, ap, ap₂, _∙_, sym, subst}
 use mathlib.Core.List.{List, _++_}
 use Prim.Native.Nat.{ℕ, _+_, _*_, _-_, _≤_, _<_}
 use native.Mathlib.Nat.{le-trans, mul-le-mul-right}
@@ -14,7 +14,7 @@ use Rattle.circuit.specs.declared.Circuit.{Circuit}
 use Rattle.circuit.specs.Wires.{wireAt, modulusAt, moduliOf}
 use Rattle.circuit.specs.Held.{wiresIn, Room}
 use Rattle.counts.specs.declared.recipe.Recipe.{Recipe}
-use Rattle.counts.specs.declared.recipe.Recipe.the-variants.{Entered, Free, Table, Product, Choice}
+use Rattle.counts.specs.declared.recipe.Recipe.the-variants.{Entered, Sum, Multiple, Table, Product, Choice}
 use Rattle.counts.specs.Recipe.{recipe}
 use Rattle.counts.specs.Counts.{rowsBy, rowsOf, recordKeysBy, Counts}
 use Rattle.counts.proofs.Wires.{wire-at, padded-modulus}
@@ -50,8 +50,9 @@ summed-done {limit} {f} {circuit} {i} {total} most room r h e =
 -- the count of a wire goes by its recipe, and a table's by one modulus more
 pub rows-same : (how : Recipe) (f g : ℕ → ℕ) (p : ℕ) → ((a : ℕ) → f a ≡ g a) → rowsBy how f p ≡ rowsBy how g p
 rows-same Entered f g p e = refl
-rows-same Free f g p e = refl
-rows-same (Table a) f g p e = e a
+rows-same (Sum pair) f g p e = refl
+rows-same (Multiple scaling) f g p e = refl
+rows-same (Table lookup) f g p e = e (lookup .a)
 rows-same (Product pair) f g p e = refl
 rows-same (Choice choice) f g p e = refl
 
@@ -64,3 +65,10 @@ rows-at wires made w n table h e =
 
 pub records-at : (wires : List Wire) (made w : ℕ) → w < made → recordKeysBy (recipe (wireAt wires w)) ≡ recordKeysBy (recipe (wireAt (take made wires) w))
 records-at wires made w h = ap (λ (wire : Wire). recordKeysBy (recipe wire)) (sym (wire-at wires made w h))
+
+-- where a recipe is known by another name
+pub rows-by : (f : ℕ → ℕ) (p : ℕ) {how how′ : Recipe} {r : ℕ} → how ≡ how′ → Counts 512 (rowsBy how f p) r → Counts 512 (rowsBy how′ f p) r
+rows-by f p {r = r} e h = subst (λ (how : Recipe). Counts 512 (rowsBy how f p) r) e h
+
+pub keys-by : {how how′ : Recipe} {r : ℕ} → how ≡ how′ → Counts 3 (recordKeysBy how) r → Counts 3 (recordKeysBy how′) r
+keys-by {r = r} e h = subst (λ (how : Recipe). Counts 3 (recordKeysBy how) r) e h

@@ -8,6 +8,7 @@ use Rattle.lists.specs.Blocks.{sumTo}
 use Rattle.words.specs.declared.gate.Gate.{Gate}
 use Rattle.words.specs.declared.gate.Gate.the-variants.{Input, Add, Scale, Multiply, Project, Select}
 use Rattle.words.specs.declared.gate.Wire.{Wire}
+use Rattle.counts.specs.Recipe.{recipe}
 use Rattle.counts.specs.Counts.{rowsOf, rowsIn, recordKeysIn, inputsOf}
 use Rattle.counts.specs.Moduli.{someBelow, moduliUsed}
 
@@ -19,7 +20,7 @@ input owner modulus = wire (Input (record { owner = owner })) modulus
 
 -- project from modulus 2 to 5: 2 rows, those of the modulus that the table is over
 project-rows : rowsOf (input 0 2 ∷ wire (Project (record { a = 0; table = 3 })) 5 ∷ []) 1 ≡ 2
-unfolding wire input
+unfolding recipe wire input
 project-rows = refl
 
 -- a bit of party 0 and two residues of party 1; their sum, three times it, a product, a table of the bit, and a choice
@@ -36,17 +37,17 @@ small =
     ∷ []
 
 small-rows : rowsIn small ≡ 24
-unfolding wire input small sumTo
+unfolding recipe wire input small sumTo
 small-rows = refl
 
 small-records : recordKeysIn small ≡ 9
-unfolding wire input small sumTo
+unfolding recipe wire input small sumTo
 small-records = refl
 
 small-inputs : inputsOf 1 small ≡ 2
-unfolding wire input small sumTo
+unfolding recipe wire input small sumTo
 small-inputs = refl
 
 small-moduli : moduliUsed small ≡ 2
-unfolding wire input small sumTo someBelow
+unfolding recipe wire input small sumTo someBelow
 small-moduli = refl

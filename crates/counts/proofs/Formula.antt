@@ -20,6 +20,7 @@ abbrev is : ℕ → Gate → ℕ
 is kind gate = mark (eqb (kindOf gate) kind)
 
 wire-keys : (gate : Gate) (p : ℕ) → recordKeysBy (recipe (record { gate = gate; modulus = p })) ≡ is 2 gate + is 6 gate + 2 * is 5 gate + 3 * is 8 gate
+unfolding recipe
 wire-keys (Input gate) p = refl
 wire-keys (Add gate) p = refl
 wire-keys (Scale gate) p = refl

@@ -1,10 +1,10 @@
 -- Laws of the marks: a table of 0 and 1, one more wire at a time.
 -- Assumes nothing.
-use mathlib.Core.Path.{_≡_, refl, sym, ap, ap₂, _∙_}
+use mathlib.Core.Path.{_≡_, refl, sym, ap, _∙_}
 use mathlib.Core.Bool.{Bool, true, false, _||_}
 use mathlib.Core.List.{List}
-use Prim.Native.Nat.{ℕ, zero, suc, _+_, _≤_, _<_}
-use native.Mathlib.Nat.{mul-one, le-refl}
+use Prim.Native.Nat.{ℕ, _+_, _≤_, _<_}
+use native.Mathlib.Nat.{mul-one}
 use native.Mathlib.Numerals.{add-one}
 use native.Mathlib.Omega.{arith}
 use native.Mathlib.Decide.{ℕ-discrete}
@@ -14,7 +14,7 @@ use lib.ListN.{length, getD, set, replicate, length-set}
 use lib.Seq.{getD-set-same, getD-set-other, length-take-le}
 use Rattle.lists.specs.Blocks.{tab, sumTo}
 use Rattle.lists.proofs.Sums.{sumTo-ext}
-use Rattle.lists.proofs.Blocks.{length-tab, getD-tab, is-tab, replicate-tab, tab-ext}
+use Rattle.lists.proofs.Blocks.{length-tab, getD-tab, is-tab, replicate-tab}
 use Rattle.words.specs.declared.gate.Wire.{Wire}
 use Rattle.circuit.specs.declared.Circuit.{Circuit}
 use Rattle.circuit.specs.Wires.{modulusAt}
@@ -31,17 +31,6 @@ marked n f i = tab n (λ p. mark (someBelow i (λ w. eqb (f w) p)))
 pub marked-none : (n : ℕ) (f : ℕ → ℕ) → replicate n 0 ≡ marked n f 0
 unfolding someBelow
 marked-none n f = replicate-tab n 0
-
-some-ext : (i : ℕ) (f g : ℕ → Bool) → ((w : ℕ) → w < i → f w ≡ g w) → someBelow i f ≡ someBelow i g
-unfolding someBelow
-some-ext zero f g e = refl
-some-ext (suc i) f g e = ap₂ _||_ (some-ext i f g (λ w h. e w (omega arith))) (e i (le-refl (suc i)))
-
--- the values below i alone matter
-pub marked-ext : (n : ℕ) (f g : ℕ → ℕ) (i : ℕ) → ((w : ℕ) → w < i → f w ≡ g w) → marked n f i ≡ marked n g i
-marked-ext n f g i e =
-    tab-ext n (λ p. mark (someBelow i (λ w. eqb (f w) p))) (λ p. mark (someBelow i (λ w. eqb (g w) p)))
-    (λ p _. ap mark (some-ext i (λ w. eqb (f w) p) (λ w. eqb (g w) p) (λ w h. ap (λ (x : ℕ). eqb x p) (e w h))))
 
 same-mark : (b : Bool) → 1 ≡ mark (b || true)
 same-mark true = refl

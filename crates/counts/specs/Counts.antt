@@ -13,15 +13,16 @@ use Rattle.words.specs.declared.gate.Gate.the-variants.{Input, Add, Scale, Mult
 use Rattle.words.specs.declared.gate.Wire.{Wire}
 use Rattle.circuit.specs.Wires.{wireAt, modulusAt}
 use Rattle.counts.specs.declared.recipe.Recipe.{Recipe}
-use Rattle.counts.specs.declared.recipe.Recipe.the-variants.{Entered, Free, Table, Product, Choice}
+use Rattle.counts.specs.declared.recipe.Recipe.the-variants.{Entered, Sum, Multiple, Table, Product, Choice}
 use Rattle.counts.specs.Recipe.{recipe}
 
--- the rows of a wire of modulus p: none where it is entered or free, one for each value of the wire that a table is over, 2p for a
+-- the rows of a wire of modulus p: none where it is entered, a sum or a multiple, one for each value of the wire that a table is over, 2p for a
 -- product, 2p + 2 for a choice
 abbrev pub rowsBy : Recipe → (ℕ → ℕ) → ℕ → ℕ
 rowsBy Entered modulusOf p = 0
-rowsBy Free modulusOf p = 0
-rowsBy (Table a) modulusOf p = modulusOf a
+rowsBy (Sum g) modulusOf p = 0
+rowsBy (Multiple g) modulusOf p = 0
+rowsBy (Table g) modulusOf p = modulusOf (g .a)
 rowsBy (Product g) modulusOf p = 2 * p
 rowsBy (Choice g) modulusOf p = 2 * p + 2
 
@@ -36,8 +37,9 @@ rowsIn wires = sumTo (length wires) (rowsOf wires)
 -- choice those of two first parts. So I + P + 2M + 3S in all
 abbrev pub recordKeysBy : Recipe → ℕ
 recordKeysBy Entered = 1
-recordKeysBy Free = 0
-recordKeysBy (Table a) = 1
+recordKeysBy (Sum g) = 0
+recordKeysBy (Multiple g) = 0
+recordKeysBy (Table g) = 1
 recordKeysBy (Product g) = 2
 recordKeysBy (Choice g) = 3
 

@@ -4,4 +4,4 @@ pub mod Counts
 pub mod Kinds
 pub mod Moduli
 -- what functions promise each other, in the code's terms
-pub mod Tally
+pub mod Images

@@ -1,19 +1,28 @@
--- How a wire's gate is garbled, by document 01's "The gates". Rows, records, garbling and opening all go by this one definition.
+-- How a wire's gate is garbled, by document 01's "The gates": what is computed, of which wires. Rows, records, garbling and opening all go by this one
+-- definition, and none of them looks at the gate.
 -- Assumes nothing.
+use mathlib.Core.List.{List}
+use Prim.Native.Nat.{ℕ, _+_}
+use Rattle.words.specs.Bits.{image, wordAt}
 use Rattle.words.specs.declared.gate.Gate.{Gate}
 use Rattle.words.specs.declared.gate.Gate.the-variants.{Input, Add, Scale, Multiply, Project, Select}
 use Rattle.words.specs.declared.gate.Wire.{Wire}
+use Rattle.counts.specs.declared.recipe.Images.{Images}
 use Rattle.counts.specs.declared.recipe.Recipe.{Recipe}
-use Rattle.counts.specs.declared.recipe.Recipe.the-variants.{Entered, Free, Table, Product, Choice}
+use Rattle.counts.specs.declared.recipe.Recipe.the-variants.{Entered, Sum, Multiple, Table, Product, Choice}
 
--- the recipe of a gate: a table is over the values of the wire that it names
-abbrev pub gateRecipe : Gate → Recipe
-gateRecipe (Input g) = Entered
-gateRecipe (Add g) = Free
-gateRecipe (Scale g) = Free
-gateRecipe (Multiply g) = Product g
-gateRecipe (Project g) = Table (g .a)
-gateRecipe (Select g) = Choice g
+-- the recipe of a gate whose wire has modulus p
+abbrev pub recipeOf : Gate → ℕ → Recipe
+recipeOf (Input g) p = Entered
+recipeOf (Add g) p = Sum g
+recipeOf (Scale g) p = Multiple g
+recipeOf (Multiply g) p = Product g
+recipeOf (Project g) p = Table (record { a = g .a; images = record { table = g .table } })
+recipeOf (Select g) p = Choice g
 
-abbrev pub recipe : Wire → Recipe
-recipe wire = gateRecipe (wire .gate)
+unfoldable pub recipe : Wire → Recipe
+recipe wire = recipeOf (wire .gate) (wire .modulus)
+
+-- the image of v by a table, modulo q: a projection's images of 0, 1, … stand in turn in the file
+unfoldable pub imageOf : List ℕ → Images → ℕ → ℕ → ℕ
+imageOf file images q v = image (wordAt file (images .table + v))

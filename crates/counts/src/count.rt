@@ -6,10 +6,10 @@ ghost use Rattle.circuit.specs.Held.{wiresIn, Room};
 ghost use Rattle.counts.specs.Counts.{rowsBy, rowsIn, recordKeysBy, recordKeysIn, mark, ownedBy, inputsOf, Counts};
 use super::modulus::moduli;
 use super::number::same;
-use super::number::widened;
 use super::recipe::Recipe;
 use super::recipe::recipe_of;
 use circuit::Circuit;
+use lists::byte_number;
 use words::Gate;
 use words::Wire;
 
@@ -19,7 +19,7 @@ fn modulus_of(moduli: &[u8], a: u16) -> u32
 {
     let at = a as usize;
     if at < moduli.len() {
-        widened(moduli[at])
+        byte_number(moduli[at])
     } else {
         0
     }
@@ -30,11 +30,12 @@ pub fn row_count(wire: Wire, moduli: &[u8]) -> u32
     ensures { λ r. ⌜ Counts 512 (rowsBy (recipe wire) (λ a. getD (now (moduli .entry)) a 0) (wire .modulus)) r ⌝ }
 {
     let how = recipe_of(wire);
-    let p = widened(wire.modulus);
+    let p = byte_number(wire.modulus);
     match how {
         Recipe::Entered => 0,
-        Recipe::Free => 0,
-        Recipe::Table(a) => modulus_of(moduli, a),
+        Recipe::Sum(_) => 0,
+        Recipe::Multiple(_) => 0,
+        Recipe::Table(g) => modulus_of(moduli, g.a),
         Recipe::Product(_) => 2 * p,
         Recipe::Choice(_) => 2 * p + 2,
     }
@@ -64,7 +65,8 @@ pub fn record_count(wire: Wire) -> u32
     let how = recipe_of(wire);
     match how {
         Recipe::Entered => 1,
-        Recipe::Free => 0,
+        Recipe::Sum(_) => 0,
+        Recipe::Multiple(_) => 0,
         Recipe::Table(_) => 1,
         Recipe::Product(_) => 2,
         Recipe::Choice(_) => 3,
@@ -92,7 +94,7 @@ pub fn owned(gate: Gate, party: u32) -> u32
     ensures { λ r. ⌜ Counts 1 (mark (ownedBy party gate)) r ⌝ }
 {
     match gate {
-        Gate::Input(input) => same(widened(input.owner), party),
+        Gate::Input(input) => same(byte_number(input.owner), party),
         Gate::Add(_) => 0,
         Gate::Scale(_) => 0,
         Gate::Multiply(_) => 0,

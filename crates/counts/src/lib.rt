@@ -5,7 +5,6 @@ mod count;
 mod modulus;
 mod number;
 mod recipe;
-mod tally;
 
 pub use count::inputs_of;
 pub use count::owned;
@@ -19,8 +18,7 @@ pub use modulus::moduli;
 pub use modulus::moduli_used;
 pub use modulus::no_marks;
 pub use modulus::no_moduli;
-pub use number::place;
+pub use recipe::Images;
+pub use recipe::Lookup;
 pub use recipe::Recipe;
 pub use recipe::recipe_of;
-pub use tally::Tally;
-pub use tally::tallied;

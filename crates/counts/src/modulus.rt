@@ -8,10 +8,10 @@ ghost use Rattle.circuit.specs.Wires.{moduliOf};
 ghost use Rattle.circuit.specs.Held.{wiresIn, Room};
 ghost use Rattle.counts.specs.Counts.{mark, Counts};
 ghost use Rattle.counts.specs.Moduli.{used, moduliUsed, SetMarks};
-use super::number::place;
 use super::number::same;
-use super::number::widened;
 use circuit::Circuit;
+use lists::byte_index;
+use lists::byte_number;
 
 pub fn no_moduli() -> [u8; 1024]
     ensures { λ r. ⌜ r ≡ replicate 1024 0 ⌝ }
@@ -51,7 +51,7 @@ pub fn marks(circuit: Circuit) -> [u8; 256]
     let mut w = 0;
     while w < made {
         let wire = circuit.wires[w];
-        let p = place(wire.modulus);
+        let p = byte_index(wire.modulus);
         marks[p] = 1;
         w += 1;
     }
@@ -65,7 +65,7 @@ pub fn marks_set(marks: [u8; 256]) -> u32
     let mut total = 0;
     let mut p = 0;
     while p < 256 {
-        total += same(widened(marks[p]), 1);
+        total += same(byte_number(marks[p]), 1);
         p += 1;
     }
     total

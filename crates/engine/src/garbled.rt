@@ -1,15 +1,13 @@
 // Garbling, and opening what was garbled.
-ghost use mathlib.Core.Path.{_≡_};
-ghost use Rattle.checks.specs.Checked.{Reports};
-ghost use Rattle.pads.specs.Pad.{shakePad};
-ghost use Rattle.calls.specs.Garble.{garbleChecked, garbleRows, garbleInputMasks, garbleOutputMasks, garbleMeter};
-ghost use Rattle.calls.specs.Open.{openChecked, openKeys, openExternals};
+ghost use Rattle.calls.specs.Garble.{GarbleCall};
+ghost use Rattle.calls.specs.Open.{OpenCall};
 use super::answer::Reported;
 use super::answer::told;
 use row_calls::garble;
 use row_calls::open_rows;
+use session::Asked;
 
-// Rows, input masks and output masks from all contributions, and the row meter raised: 1 to 10, 11, 13, 14, 16, 17, 21.
+// Rows, input masks and output masks from all contributions, and the row meter charged: 1 to 10, 11, 13, 14, 16, 17, 21.
 #[no_mangle]
 pub extern "C" fn lupiknam_garble(
     file: &[u8],
@@ -17,18 +15,24 @@ pub extern "C" fn lupiknam_garble(
     k: u32,
     contributions: &[u8],
     rows: &mut [u8],
-    inputs: &mut [u8],
-    outputs: &mut [u8],
+    input_masks: &mut [u8],
+    output_masks: &mut [u8],
     meter: &mut u32,
 ) -> Reported
-    ensures { λ r. ⌜ Reports (garbleChecked (now (file .entry)) n k (now (contributions .entry)) (now (rows .entry)) (now (inputs .entry)) (now (outputs .entry)) (now (meter .entry))) (r .number) (r .place)
-        × (now (rows .exit) ≡ garbleRows shakePad (now (file .entry)) n k (now (contributions .entry)) (now (rows .entry)) (now (inputs .entry)) (now (outputs .entry)) (now (meter .entry)))
-        × (now (inputs .exit) ≡ garbleInputMasks (now (file .entry)) n k (now (contributions .entry)) (now (rows .entry)) (now (inputs .entry)) (now (outputs .entry)) (now (meter .entry)))
-        × (now (outputs .exit) ≡ garbleOutputMasks (now (file .entry)) n k (now (contributions .entry)) (now (rows .entry)) (now (inputs .entry)) (now (outputs .entry)) (now (meter .entry)))
-        × (now (meter .exit) ≡ garbleMeter (now (file .entry)) n k (now (contributions .entry)) (now (rows .entry)) (now (inputs .entry)) (now (outputs .entry)) (now (meter .entry))) ⌝ }
+    ensures { λ r. ⌜ GarbleCall (now (file .entry)) n k (now (contributions .entry)) (now (rows .entry)) (now («input_masks» .entry)) (now («output_masks» .entry)) (now (meter .entry))
+        (r .number) (r .place) (now (rows .exit)) (now («input_masks» .exit)) (now («output_masks» .exit)) (now (meter .exit)) ⌝ }
 {
     let total = *meter;
-    let done = garble(file, n, k, contributions, rows, inputs, outputs, total);
+    let done = garble(
+        file,
+        n,
+        k,
+        contributions,
+        rows,
+        input_masks,
+        output_masks,
+        total,
+    );
     *meter = done.meter;
     let answer = done.answer;
     told(answer)
@@ -45,24 +49,22 @@ pub extern "C" fn lupiknam_open(
     externals: &[u8],
     keys: &[u8],
     rows: &[u8],
-    wkeys: &mut [u8],
-    wexternals: &mut [u8],
+    wire_keys: &mut [u8],
+    wire_externals: &mut [u8],
 ) -> Reported
-    ensures { λ r. ⌜ Reports (openChecked shakePad (now (file .entry)) n k party (now (contribution .entry)) (now (externals .entry)) (now (keys .entry)) (now (rows .entry)) (now (wkeys .entry)) (now (wexternals .entry))) (r .number) (r .place)
-        × (now (wkeys .exit) ≡ openKeys shakePad (now (file .entry)) n k party (now (contribution .entry)) (now (externals .entry)) (now (keys .entry)) (now (rows .entry)) (now (wkeys .entry)) (now (wexternals .entry)))
-        × (now (wexternals .exit) ≡ openExternals shakePad (now (file .entry)) n k party (now (contribution .entry)) (now (externals .entry)) (now (keys .entry)) (now (rows .entry)) (now (wkeys .entry)) (now (wexternals .entry))) ⌝ }
+    ensures { λ r. ⌜ OpenCall (now (file .entry)) n k party (now (contribution .entry)) (now (externals .entry)) (now (keys .entry)) (now (rows .entry))
+        (now («wire_keys» .entry)) (now («wire_externals» .entry)) (r .number) (r .place) (now («wire_keys» .exit)) (now («wire_externals» .exit)) ⌝ }
 {
+    let asked = Asked { n, k, party };
     let answer = open_rows(
         file,
-        n,
-        k,
-        party,
+        asked,
         contribution,
         externals,
         keys,
         rows,
-        wkeys,
-        wexternals,
+        wire_keys,
+        wire_externals,
     );
     told(answer)
 }

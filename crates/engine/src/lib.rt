@@ -2,17 +2,17 @@
 // answers and every number and byte lent to it. Thin, since a static library proves it again: the calls themselves stand in `read_calls`,
 // `plain`, `party_calls` and `row_calls`.
 mod answer;
-mod evaluate;
 mod garbled;
 mod party;
+mod plain_call;
 mod read;
 
 pub use answer::Reported;
-pub use evaluate::lupiknam_plain;
 pub use garbled::lupiknam_garble;
 pub use garbled::lupiknam_open;
 pub use party::lupiknam_decode;
 pub use party::lupiknam_externals;
 pub use party::lupiknam_input_keys;
+pub use plain_call::lupiknam_plain;
 pub use read::lupiknam_inputs_of;
 pub use read::lupiknam_read;

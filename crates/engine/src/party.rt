@@ -1,13 +1,10 @@
 // The small calls of a round: external values, input keys, decoding.
-ghost use mathlib.Core.Path.{_≡_};
-ghost use Rattle.checks.specs.Checked.{Reports};
-ghost use Rattle.calls.specs.Externals.{externalsChecked, externalsAfter};
-ghost use Rattle.calls.specs.InputKeys.{inputKeysChecked, inputKeysAfter};
-ghost use Rattle.calls.specs.Decode.{decodeChecked, decodeAfter};
+ghost use Rattle.calls.specs.Externals.{ExternalsCall};
+ghost use Rattle.calls.specs.InputKeys.{InputKeysCall};
+ghost use Rattle.calls.specs.Decode.{DecodeCall};
 use super::answer::Reported;
 use super::answer::told;
 use party_calls::decode;
-use party_calls::externals;
 use party_calls::input_keys;
 
 // The external values of a party's own inputs, from their values and masks: 1 to 10, 11 for n, 12 to 15.
@@ -18,12 +15,11 @@ pub extern "C" fn lupiknam_externals(
     party: u32,
     values: &[u8],
     masks: &[u8],
-    results: &mut [u8],
+    externals: &mut [u8],
 ) -> Reported
-    ensures { λ r. ⌜ Reports (externalsChecked (now (file .entry)) n party (now (values .entry)) (now (masks .entry)) (now (results .entry))) (r .number) (r .place)
-        × (now (results .exit) ≡ externalsAfter (now (file .entry)) n party (now (values .entry)) (now (masks .entry)) (now (results .entry))) ⌝ }
+    ensures { λ r. ⌜ ExternalsCall (now (file .entry)) n party (now (values .entry)) (now (masks .entry)) (now (externals .entry)) (r .number) (r .place) (now (externals .exit)) ⌝ }
 {
-    let answer = externals(file, n, party, values, masks, results);
+    let answer = party_calls::externals(file, n, party, values, masks, externals);
     told(answer)
 }
 
@@ -38,8 +34,7 @@ pub extern "C" fn lupiknam_input_keys(
     externals: &[u8],
     keys: &mut [u8],
 ) -> Reported
-    ensures { λ r. ⌜ Reports (inputKeysChecked (now (file .entry)) n k party (now (contribution .entry)) (now (externals .entry)) (now (keys .entry))) (r .number) (r .place)
-        × (now (keys .exit) ≡ inputKeysAfter (now (file .entry)) n k party (now (contribution .entry)) (now (externals .entry)) (now (keys .entry))) ⌝ }
+    ensures { λ r. ⌜ InputKeysCall (now (file .entry)) n k party (now (contribution .entry)) (now (externals .entry)) (now (keys .entry)) (r .number) (r .place) (now (keys .exit)) ⌝ }
 {
     let answer = input_keys(file, n, k, party, contribution, externals, keys);
     told(answer)
@@ -51,11 +46,10 @@ pub extern "C" fn lupiknam_decode(
     file: &[u8],
     externals: &[u8],
     masks: &[u8],
-    results: &mut [u8],
+    outputs: &mut [u8],
 ) -> Reported
-    ensures { λ r. ⌜ Reports (decodeChecked (now (file .entry)) (now (externals .entry)) (now (masks .entry)) (now (results .entry))) (r .number) (r .place)
-        × (now (results .exit) ≡ decodeAfter (now (file .entry)) (now (externals .entry)) (now (masks .entry)) (now (results .entry))) ⌝ }
+    ensures { λ r. ⌜ DecodeCall (now (file .entry)) (now (externals .entry)) (now (masks .entry)) (now (outputs .entry)) (r .number) (r .place) (now (outputs .exit)) ⌝ }
 {
-    let answer = decode(file, externals, masks, results);
+    let answer = decode(file, externals, masks, outputs);
     told(answer)
 }

@@ -1,16 +1,8 @@
 // The calls that read a circuit and count in it.
-ghost use mathlib.Core.Path.{_≡_};
-ghost use lib.ListN.{length};
-ghost use Rattle.checks.specs.Checked.{Reports, afterwards};
-ghost use Rattle.circuit.specs.Wires.{inputsIn};
-ghost use Rattle.circuit.specs.File.{readFile};
-ghost use Rattle.counts.specs.Counts.{rowsIn, recordKeysIn};
-ghost use Rattle.counts.specs.Moduli.{moduliUsed};
-ghost use Rattle.session.specs.Session.{fileChecked};
-ghost use Rattle.read_calls.specs.InputsOf.{inputsOfChecked, inputsOfAfter};
+ghost use Rattle.read_calls.specs.Read.{ReadCall, InputsOfCall};
 use super::answer::Reported;
+use super::answer::told;
 use checks::Answer;
-use checks::number;
 use read_calls::inputs_of;
 use read_calls::summary_of;
 
@@ -23,15 +15,10 @@ pub extern "C" fn lupiknam_read(
     outputs: &mut u32,
     rows: &mut u32,
     moduli: &mut u32,
-    records: &mut u32,
+    record_keys: &mut u32,
 ) -> Reported
-    ensures { λ r. ⌜ Reports (fileChecked (now (file .entry))) (r .number) (r .place)
-        × (now (wires .exit) ≡ afterwards (fileChecked (now (file .entry))) (length (readFile (now (file .entry)) .wires)) (now (wires .entry)))
-        × (now (inputs .exit) ≡ afterwards (fileChecked (now (file .entry))) (inputsIn (readFile (now (file .entry)) .wires)) (now (inputs .entry)))
-        × (now (outputs .exit) ≡ afterwards (fileChecked (now (file .entry))) (length (readFile (now (file .entry)) .outputs)) (now (outputs .entry)))
-        × (now (rows .exit) ≡ afterwards (fileChecked (now (file .entry))) (rowsIn (readFile (now (file .entry)) .wires)) (now (rows .entry)))
-        × (now (moduli .exit) ≡ afterwards (fileChecked (now (file .entry))) (moduliUsed (readFile (now (file .entry)) .wires)) (now (moduli .entry)))
-        × (now (records .exit) ≡ afterwards (fileChecked (now (file .entry))) (recordKeysIn (readFile (now (file .entry)) .wires)) (now (records .entry))) ⌝ }
+    ensures { λ r. ⌜ ReadCall (now (file .entry)) (now (wires .entry)) (now (inputs .entry)) (now (outputs .entry)) (now (rows .entry)) (now (moduli .entry)) (now («record_keys» .entry))
+        (r .number) (r .place) (now (wires .exit)) (now (inputs .exit)) (now (outputs .exit)) (now (rows .exit)) (now (moduli .exit)) (now («record_keys» .exit)) ⌝ }
 {
     let found = summary_of(file);
     let answer = found.answer;
@@ -42,38 +29,25 @@ pub extern "C" fn lupiknam_read(
             *outputs = found.outputs;
             *rows = found.rows;
             *moduli = found.moduli;
-            *records = found.records;
-            Reported {
-                number: 0,
-                place: 0,
-            }
+            *record_keys = found.records;
+            told(Answer::Accepted)
         }
-        Answer::Refused(reason, place) => Reported {
-            number: number(reason),
-            place,
-        },
+        Answer::Refused(reason, place) => told(Answer::Refused(reason, place)),
     }
 }
 
 // How many inputs a party owns: 1 to 10, 11 for n, 12, 13.
 #[no_mangle]
 pub extern "C" fn lupiknam_inputs_of(file: &[u8], n: u32, party: u32, count: &mut u32) -> Reported
-    ensures { λ r. ⌜ Reports (inputsOfChecked (now (file .entry)) n party) (r .number) (r .place)
-        × (now (count .exit) ≡ inputsOfAfter (now (file .entry)) n party (now (count .entry))) ⌝ }
+    ensures { λ r. ⌜ InputsOfCall (now (file .entry)) n party (now (count .entry)) (r .number) (r .place) (now (count .exit)) ⌝ }
 {
     let found = inputs_of(file, n, party);
     let answer = found.answer;
     match answer {
         Answer::Accepted => {
             *count = found.count;
-            Reported {
-                number: 0,
-                place: 0,
-            }
+            told(Answer::Accepted)
         }
-        Answer::Refused(reason, place) => Reported {
-            number: number(reason),
-            place,
-        },
+        Answer::Refused(reason, place) => told(Answer::Refused(reason, place)),
     }
 }

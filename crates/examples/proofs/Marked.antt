@@ -14,10 +14,12 @@ use Rattle.words.specs.Reading.{check, readWord, afterEntry}
 use Rattle.circuit.specs.Wires.{inputsIn}
 use Rattle.circuit.specs.File.{accepted, readFile, headed, readFrom, after, ended}
 use Rattle.pads.specs.Pad.{padSum, padRow}
-use Rattle.scheme.specs.Zero.{freely, freelyV, zeroKeyBy, maskBy, zeroKeysTo, masksTo, zeroKey, mask}
+use Rattle.counts.specs.Recipe.{recipe}
+use Rattle.scheme.specs.Zero.{zeroKeyBy, maskBy, zeroKeysTo, masksTo, zeroKey, mask}
 use Rattle.scheme.specs.Message.{productMessage₀, productMessage₁, chooserMessage₀, chooserMessage₁, correctorMessage₀, correctorMessage₁}
-use Rattle.scheme.specs.Rows.{row, differenceKey, differenceMask, productRow₀, productRow₁, chooserRow, chooserRows, correctorRow₀, correctorRow₁, gateRows, garbledRows, outputMasks}
-use Rattle.scheme.specs.Opening.{openInput, openFree, rowAt, unpadded, chosen, corrector, ownKey, found, searched, openProduct, openChoice, openBy, openedTo, opened, wireKeys, wireExternals}
+use Rattle.scheme.specs.Gate.{row, productRow₀, productRow₁, productRows, chooserRow₀, chooserRow₁, correctorRow₀, correctorRow₁, choiceRows, rowsFrom}
+use Rattle.scheme.specs.Rows.{gateRows, garbledRows, outputMasks}
+use Rattle.scheme.specs.Opening.{chosen, corrector, bared, productKeys as keysOfProduct, choiceKeys as keysOfChoice, searched, added, openFrom, rowAt, ownRows, openInput, multiplierOf, openWire, openedTo, opened, wireKeys, wireExternals}
 use Rattle.search.specs.Search.{same, multiplier}
 use Rattle.session.specs.Session.{fileChecked, sameNumbers, lengthsChecked}
 use Rattle.calls.specs.InputKeys.{inputKey}
@@ -35,5 +37,5 @@ unfolding choiceFile choiceWires fileOf bytesOf readFile headed readFrom after e
 choice-reads = refl
 
 pub table : cases ≡ printed
-unfolding cases printed wire scaled product select productDecoded choiceDecoded counts input productExternals productKeys choiceExternals choiceKeys productWires productDraw choiceWires choiceDraw drew noPad inputs keys rows openedKeys openedExternals inputsIn blocks part sumTo grown extended first firstFrom add sub mul zipWith addV subV mulV keyV freely freelyV zeroKeyBy maskBy zeroKeysTo masksTo zeroKey mask padSum padRow productMessage₀ productMessage₁ chooserMessage₀ chooserMessage₁ correctorMessage₀ correctorMessage₁ row differenceKey differenceMask productRow₀ productRow₁ chooserRow chooserRows correctorRow₀ correctorRow₁ gateRows garbledRows outputMasks openInput openFree rowAt unpadded chosen corrector ownKey found searched openProduct openChoice openBy openedTo opened wireKeys wireExternals same multiplier inputKey decodeChecked decodeAfter answered andThen unless noneBad afterwards fileChecked sameNumbers lengthsChecked productFile choiceFile fileOf bytesOf readFile headed readFrom after ended readWord check afterEntry isPrime remaindersBelow
+unfolding cases printed wire scaled product select productDecoded choiceDecoded counts input productExternals productKeys choiceExternals choiceKeys productWires productDraw choiceWires choiceDraw drew noPad inputs keys rows openedKeys openedExternals inputsIn blocks part sumTo grown extended first firstFrom add sub mul zipWith addV subV mulV keyV recipe zeroKeyBy maskBy zeroKeysTo masksTo zeroKey mask padSum padRow productMessage₀ productMessage₁ chooserMessage₀ chooserMessage₁ correctorMessage₀ correctorMessage₁ row productRow₀ productRow₁ productRows chooserRow₀ chooserRow₁ correctorRow₀ correctorRow₁ choiceRows rowsFrom gateRows garbledRows outputMasks chosen corrector bared keysOfProduct keysOfChoice searched added openFrom rowAt ownRows openInput multiplierOf openWire openedTo opened wireKeys wireExternals same multiplier inputKey decodeChecked decodeAfter answered andThen unless noneBad afterwards fileChecked sameNumbers lengthsChecked productFile choiceFile fileOf bytesOf readFile headed readFrom after ended readWord check afterEntry isPrime remaindersBelow
 table = refl

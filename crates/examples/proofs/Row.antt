@@ -14,16 +14,17 @@ use Rattle.shake.specs.Padding.{bitsOf, messageBits, number, packed, pad10*1, s
 use Rattle.shake.specs.Shake.{xored, absorbBlock, absorbBlocks, zeroState, absorbed, laneBytes, squeezeBlocks, squeezed, shake256}
 use Rattle.words.specs.Reading.{check, readWord, afterEntry}
 use Rattle.circuit.specs.File.{readFile, headed, readFrom, after, ended}
+use Rattle.counts.specs.Recipe.{recipe, imageOf}
 use Rattle.counts.specs.Moduli.{someBelow}
 use Rattle.scheme.specs.Contribution.{contributionSize, offsetAt, recordAt, keyAt, shareAt}
 use Rattle.scheme.specs.Draw.{drawn}
 use Rattle.scheme.specs.Zero.{zeroKey, mask, zeroKeysTo, masksTo, zeroKeyBy, maskBy}
-use Rattle.pads.specs.Pad.{rowpad, padInput, shakePad, padSum, padRow}
+use Rattle.pads.specs.Pad.{rowpad, bound, padInput, shakePad, padSum, padRow}
 use Rattle.scheme.specs.Message.{projectMessage}
-use Rattle.scheme.specs.Rows.{image, row, projectRow}
+use Rattle.scheme.specs.Gate.{row, tableRow}
 use Rattle.round.specs.Example.{fileOf}
 use Rattle.examples.specs.Row.{circuit, contributions, rowZero, computed}
 
 pub row-computed : rowZero ≡ computed
-unfolding rowZero computed circuit fileOf contributions readFile headed readFrom after ended readWord check isPrime remaindersBelow afterEntry blocks part sumTo grown extended add sub mul zipWith addV mulV keyV keccakF rounds round addLast turn register rc constantBit roundConstant littleEndian firstNumbers numbers bytesOf bitsOf messageBits number packed pad10*1 suffix suffixed paddedBits paddedMessage xored absorbBlock absorbBlocks zeroState absorbed laneBytes squeezeBlocks squeezed shake256 someBelow contributionSize offsetAt recordAt keyAt shareAt drawn zeroKey mask zeroKeysTo masksTo zeroKeyBy maskBy rowpad padInput shakePad padSum padRow projectMessage image row projectRow
+unfolding rowZero computed circuit fileOf contributions readFile headed readFrom after ended readWord check isPrime remaindersBelow afterEntry blocks part sumTo grown extended add sub mul zipWith addV mulV keyV keccakF rounds round addLast turn register rc constantBit roundConstant littleEndian firstNumbers numbers bytesOf bitsOf messageBits number packed pad10*1 suffix suffixed paddedBits paddedMessage xored absorbBlock absorbBlocks zeroState absorbed laneBytes squeezeBlocks squeezed shake256 someBelow contributionSize offsetAt recordAt keyAt shareAt drawn zeroKey mask zeroKeysTo masksTo zeroKeyBy maskBy rowpad bound padInput shakePad padSum padRow projectMessage recipe imageOf row tableRow
 row-computed = refl

@@ -16,7 +16,7 @@ use Rattle.pads.specs.Pad.{Pad}
 use Rattle.scheme.specs.Draw.{Draw}
 use Rattle.scheme.specs.Zero.{mask}
 use Rattle.scheme.specs.Rows.{garbledRows, outputMasks}
-use Rattle.scheme.specs.Opening.{found, wireKeys, wireExternals}
+use Rattle.scheme.specs.Opening.{multiplierOf, wireKeys, wireExternals}
 use Rattle.calls.specs.InputKeys.{inputKey}
 use Rattle.calls.specs.Decode.{decodeAfter}
 use Rattle.round.specs.Example.{fileOf}
@@ -133,7 +133,7 @@ choiceDecoded bit = decodeAfter choiceFile (choiceExternals bit) (outputMasks ch
 unfoldable pub select : ℕ → List ℕ
 select bit =
     let h : List ℕ = subV 5 (getD (choiceKeys bit) 3 0 ∷ []) (getD (choiceKeys bit) 1 0 ∷ []) in
-    found 1 0 choiceWires choiceDraw 3 h ∷ getD (choiceExternals bit) 3 0 ∷ choiceDecoded bit
+    multiplierOf 1 0 choiceWires choiceDraw 3 h ∷ getD (choiceExternals bit) 3 0 ∷ choiceDecoded bit
 
 -- ---- rows: multiply 251, select 2, project 2
 

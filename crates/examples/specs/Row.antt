@@ -2,10 +2,13 @@
 -- Assumes nothing.
 use mathlib.Core.List.{List, [], _∷_}
 use Prim.Native.Nat.{ℕ}
+use Rattle.words.specs.declared.gate.Wire.{Wire}
 use Rattle.circuit.specs.File.{readFile}
+use Rattle.counts.specs.Recipe.{imageOf}
 use Rattle.pads.specs.Pad.{shakePad}
 use Rattle.scheme.specs.Draw.{drawn}
-use Rattle.scheme.specs.Rows.{projectRow}
+use Rattle.scheme.specs.Gate.{Source, tableRow}
+use Rattle.scheme.specs.Rows.{sourceOf}
 use Rattle.round.specs.Example.{fileOf}
 
 -- a bit of party 0, projected to 7 and 200 modulo 251
@@ -16,9 +19,12 @@ circuit = fileOf (0x1000_0000 ∷ 0x2000_0002 ∷ 0x6003_EC00 ∷ 0x7000_0007 �
 unfoldable pub contributions : List ℕ
 contributions = 1 ∷ 100 ∷ 1 ∷ 0 ∷ 33 ∷ 17 ∷ 1 ∷ 9 ∷ 0 ∷ 1 ∷ 250 ∷ 90 ∷ []
 
--- row 0 of wire 1, for both receivers
+-- row 0 of wire 1, a table of wire 0 whose images stand from word 3 on, for both receivers
 unfoldable pub rowZero : List ℕ
-rowZero = projectRow shakePad 2 1 circuit (readFile circuit .wires) (drawn 2 1 (readFile circuit .wires) contributions) 1 0 0
+rowZero =
+    let wires : List Wire = readFile circuit .wires in
+    let from : Source = sourceOf wires (drawn 2 1 wires contributions) 1 in
+    tableRow shakePad 2 1 1 (imageOf circuit (record { table = 3 }) 251) 2 (from .wire 0) (from .offset 2) 251 (from .drawn 0) (from .offset 251) 0
 
 -- the two bytes that an independent program gives: compare/row.py, with SHAKE256 of python's hashlib
 unfoldable pub computed : List ℕ

@@ -1,4 +1,4 @@
--- What each arm of the match on a wire's recipe goes by: where the recipe is known, so is what its rows rest on, and which rows they are.
+-- What each arm of the match on a recipe goes by: where the recipe is known, so is what its rows rest on, and which rows they are.
 -- Assumes nothing.
 use mathlib.Core.Path.{_≡_, refl, sym, ap, subst, _∙_}
 use mathlib.Core.List.{List, [], _∷_}
@@ -7,87 +7,79 @@ use native.Mathlib.Nat.{zero-mul}
 use native.Mathlib.Omega.{arith}
 use lib.ListN.{length, getD}
 use Rattle.words.specs.declared.gate.Pair.{Pair}
+use Rattle.words.specs.declared.gate.Scaling.{Scaling}
 use Rattle.words.specs.declared.gate.Choice.{Choice as Chosen}
-use Rattle.words.specs.declared.gate.Wire.{Wire}
+use Rattle.counts.specs.declared.recipe.Lookup.{Lookup}
 use Rattle.counts.specs.declared.recipe.Recipe.{Recipe}
-use Rattle.counts.specs.declared.recipe.Recipe.the-variants.{Entered, Free, Table, Product, Choice}
-use Rattle.counts.specs.Recipe.{recipe}
+use Rattle.counts.specs.declared.recipe.Recipe.the-variants.{Entered, Sum, Multiple, Table, Product, Choice}
 use Rattle.counts.specs.Counts.{recordKeysBy, rowsBy}
-use Rattle.garbling.specs.Source.{tableOf, tableHere, productHere, choiceHere, rowsHere, Own, OverTable, OfPair, OfChoice, OfRecipe, Sourced}
+use Rattle.scheme.specs.Gate.{rowsFrom}
+use Rattle.garbling.specs.declared.turn.Turn.{Turn}
+use Rattle.garbling.specs.Source.{tableHere, productHere, choiceHere, rowsHere, Drawn, OverTable, OfPair, OfChoice, Listed, OfRecipe, Sourced}
 
 none : (xs : List ℕ) → length xs ≡ 0 → xs ≡ []
 none [] e = refl
 none (x ∷ xs) e = absurd (omega arith)
 
-module _ {n K size at : ℕ} {contributions ranks keys masks file moduli : List ℕ} {wire : Wire} {out : List ℕ}
-    (s : Sourced n K size at contributions ranks keys masks file moduli wire out) {how : Recipe} (e : how ≡ recipe wire) where
-  abbrev p : ℕ
-  p = wire .modulus
+module _ {turn : Turn} {contributions ranks moduli keys masks file : List ℕ} {how : Recipe} {out : List ℕ}
+    (s : Sourced turn contributions ranks moduli keys masks file how out) where
+  known : {q : Recipe} → how ≡ q → Sourced turn contributions ranks moduli keys masks file q out
+  known h = subst (λ (q : Recipe). Sourced turn contributions ranks moduli keys masks file q out) h s
 
-  abbrev All : Recipe → Type 0
-  All q = Own n K size at (recordKeysBy q) p contributions ranks × (OfRecipe n K size ranks keys masks file moduli p (wire .gate) q × (length out ≡ rowsBy q (λ a. getD moduli a 0) p * (n * K)))
+  listed : {g : Lookup} → OfRecipe turn ranks moduli keys masks file (Table g) → Listed turn ranks moduli keys masks file g
+  listed (OfRecipe.table o) = o
 
-  known : {q : Recipe} → how ≡ q → All q
-  known {q} h = subst (λ (q : Recipe). All q) (sym e ∙ h) (s .own, (s .operands, s .room))
+  paired : {g : Pair} → OfRecipe turn ranks moduli keys masks file (Product g) → OfPair turn keys masks g
+  paired (OfRecipe.product o) = o
 
-  table-ready : {a : ℕ} → OfRecipe n K size ranks keys masks file moduli p (wire .gate) (Table a)
-      → (a < length moduli) × OverTable n K size ranks keys masks file (tableOf (wire .gate)) a (getD moduli a 0) p
-  table-ready (OfRecipe.table h o) = (h, o)
+  choosing : {g : Chosen} → OfRecipe turn ranks moduli keys masks file (Choice g) → OfChoice turn ranks keys masks g
+  choosing (OfRecipe.choice o) = o
 
-  product-ready : {g : Pair} → OfRecipe n K size ranks keys masks file moduli p (wire .gate) (Product g) → OfPair n K keys masks p g
-  product-ready (OfRecipe.product o) = o
+  pub at-modulus : {g : Lookup} {i : ℕ} → how ≡ Table g → i ≡ g .a → i < length moduli
+  at-modulus {i = i} h f = subst (λ (j : ℕ). j < length moduli) (sym f) (listed (known h .operands) .held)
 
-  choice-ready : {g : Chosen} → OfRecipe n K size ranks keys masks file moduli p (wire .gate) (Choice g) → OfChoice n K size ranks keys masks p g
-  choice-ready (OfRecipe.choice o) = o
-
-  pub at-modulus : {a i : ℕ} → how ≡ Table a → i ≡ a → i < length moduli
-  at-modulus {a} {i} h f = subst (λ (j : ℕ). j < length moduli) (sym f) (table-ready (known h .1 .0) .0)
-
-  pub at-table : {a i t : ℕ} → how ≡ Table a → i ≡ a → t ≡ tableOf (wire .gate)
-      → Own n K size at 1 p contributions ranks × (OverTable n K size ranks keys masks file t i (getD moduli i 0) p × (length out ≡ getD moduli i 0 * (n * K)))
-  at-table {a} {i} {t} h f g = (
-    known h .0,
-    (
-      subst (λ (x : ℕ). OverTable n K size ranks keys masks file x i (getD moduli i 0) p) (sym g)
-          (subst (λ (j : ℕ). OverTable n K size ranks keys masks file (tableOf (wire .gate)) j (getD moduli j 0) p) (sym f) (table-ready (known h .1 .0) .1)),
-      known h .1 .1 ∙ ap (λ (j : ℕ). getD moduli j 0 * (n * K)) (sym f),
-    ),
+  pub at-table : {g : Lookup} {i : ℕ} → how ≡ Table g → i ≡ g .a
+      → (Drawn turn 1 contributions ranks × OverTable turn ranks keys masks file g (getD moduli i 0)) × (length out ≡ getD moduli i 0 * (turn .n * turn .k))
+  at-table {g} {i} h f = (
+    (known h .drawn, subst (λ (j : ℕ). OverTable turn ranks keys masks file g (getD moduli j 0)) (sym f) (listed (known h .operands) .over)),
+    known h .room ∙ ap (λ (j : ℕ). getD moduli j 0 * (turn .n * turn .k)) (sym f),
   )
 
-  pub at-product : {g : Pair} → how ≡ Product g → Own n K size at 2 p contributions ranks × (OfPair n K keys masks p g × (length out ≡ 2 * p * (n * K)))
-  at-product h = (known h .0, (product-ready (known h .1 .0), known h .1 .1))
+  pub at-product : {g : Pair} → how ≡ Product g
+      → (Drawn turn 2 contributions ranks × OfPair turn keys masks g) × (length out ≡ 2 * turn .modulus * (turn .n * turn .k))
+  at-product h = ((known h .drawn, paired (known h .operands)), known h .room)
 
-  pub at-choice : {g : Chosen} → how ≡ Choice g → Own n K size at 3 p contributions ranks × (OfChoice n K size ranks keys masks p g × (length out ≡ (2 * p + 2) * (n * K)))
-  at-choice h = (known h .0, (choice-ready (known h .1 .0), known h .1 .1))
+  pub at-choice : {g : Chosen} → how ≡ Choice g
+      → (Drawn turn 3 contributions ranks × OfChoice turn ranks keys masks g) × (length out ≡ (2 * turn .modulus + 2) * (turn .n * turn .k))
+  at-choice h = ((known h .drawn, choosing (known h .operands)), known h .room)
 
-  module _ (w : ℕ) where
-    abbrev rows : Recipe → List ℕ
-    rows q = rowsHere n K size w at p contributions ranks keys masks file moduli (wire .gate) q
+  abbrev rows : Recipe → List ℕ
+  rows q = rowsHere turn contributions ranks moduli keys masks file q
 
-    so : {q : Recipe} {xs : List ℕ} → how ≡ q → xs ≡ rows q → xs ≡ rows (recipe wire)
-    so {q} {xs} h k = k ∙ ap (λ (q : Recipe). rows q) (sym h ∙ e)
+  so : {q : Recipe} {xs : List ℕ} → how ≡ q → xs ≡ rows q → xs ≡ rows how
+  so h k = k ∙ ap rows (sym h)
 
-    pub drawn-rows : how ≡ Entered → out ≡ rows (recipe wire)
-    unfolding rowsHere
-    drawn-rows h = so h (none out (known h .1 .1 ∙ zero-mul (n * K)))
+  pub entered-rows : how ≡ Entered → out ≡ rows how
+  unfolding rowsFrom
+  entered-rows h = so h (none out (known h .room ∙ zero-mul (turn .n * turn .k)))
 
-    pub free-rows : how ≡ Free → out ≡ rows (recipe wire)
-    unfolding rowsHere
-    free-rows h = so h (none out (known h .1 .1 ∙ zero-mul (n * K)))
+  pub sum-rows : {g : Pair} → how ≡ Sum g → out ≡ rows how
+  unfolding rowsFrom
+  sum-rows h = so h (none out (known h .room ∙ zero-mul (turn .n * turn .k)))
 
-    pub table-rows : {a i t : ℕ} {xs : List ℕ} → how ≡ Table a → i ≡ a → t ≡ tableOf (wire .gate)
-        → xs ≡ tableHere n K size w at p contributions ranks keys masks file t i (getD moduli i 0) → xs ≡ rows (recipe wire)
-    unfolding rowsHere
-    table-rows {a} {i} {t} {xs} h f g k =
-        so h
-        (k
-        ∙ ap (λ (x : ℕ). tableHere n K size w at p contributions ranks keys masks file x i (getD moduli i 0)) g
-        ∙ ap (λ (j : ℕ). tableHere n K size w at p contributions ranks keys masks file (tableOf (wire .gate)) j (getD moduli j 0)) f)
+  pub multiple-rows : {g : Scaling} → how ≡ Multiple g → out ≡ rows how
+  unfolding rowsFrom
+  multiple-rows h = so h (none out (known h .room ∙ zero-mul (turn .n * turn .k)))
 
-    pub product-rows : {g : Pair} {xs : List ℕ} → how ≡ Product g → xs ≡ productHere n K size w at p contributions ranks keys masks g → xs ≡ rows (recipe wire)
-    unfolding rowsHere
-    product-rows h k = so h k
+  pub table-rows : {g : Lookup} {i : ℕ} {xs : List ℕ} → how ≡ Table g → i ≡ g .a
+      → xs ≡ tableHere turn contributions ranks keys masks file g (getD moduli i 0) → xs ≡ rows how
+  unfolding rowsFrom
+  table-rows {g} h f k = so h (k ∙ ap (λ (j : ℕ). tableHere turn contributions ranks keys masks file g (getD moduli j 0)) f)
 
-    pub choice-rows : {g : Chosen} {xs : List ℕ} → how ≡ Choice g → xs ≡ choiceHere n K size w at p contributions ranks keys masks g → xs ≡ rows (recipe wire)
-    unfolding rowsHere
-    choice-rows h k = so h k
+  pub product-rows : {g : Pair} {xs : List ℕ} → how ≡ Product g → xs ≡ productHere turn contributions ranks keys masks g → xs ≡ rows how
+  unfolding rowsFrom
+  product-rows h k = so h k
+
+  pub choice-rows : {g : Chosen} {xs : List ℕ} → how ≡ Choice g → xs ≡ choiceHere turn contributions ranks keys masks g → xs ≡ rows how
+  unfolding rowsFrom
+  choice-rows h k = so h k

@@ -1,6 +1,6 @@
 -- The pass over the wires, the memory that it works in, and the masks that are handed out.
 -- Assumes nothing.
-use mathlib.Core.Path.{_≡_, sym, ap, _∙_}
+use mathlib.Core.Path.{_≡_, sym, ap, ap₂, subst, _∙_}
 use mathlib.Core.List.{List, _++_}
 use Prim.Native.Nat.{ℕ, _-_, _*_, _≤_, _<_}
 use native.Mathlib.Omega.{arith}
@@ -14,7 +14,8 @@ use Rattle.circuit.specs.declared.Circuit.{Circuit}
 use Rattle.circuit.specs.Wires.{wireAt, moduliOf, inputsIn}
 use Rattle.circuit.specs.Held.{wiresIn, outputsIn}
 use Rattle.counts.specs.Recipe.{recipe}
-use Rattle.counts.specs.Counts.{rowsBy, rowsOf, rowsIn, Counts}
+use Rattle.counts.specs.declared.recipe.Recipe.{Recipe}
+use Rattle.counts.specs.Counts.{recordKeysBy, rowsBy, rowsOf, rowsIn, Counts}
 use Rattle.counts.specs.Moduli.{usedBelow}
 use Rattle.session.proofs.Circuits.{made-is, given-is, inputs-made}
 use Rattle.plain.specs.Ready.{Gives}
@@ -25,6 +26,7 @@ use Rattle.scheme.specs.Zero.{mask}
 use Rattle.scheme.specs.Rows.{gateRows, garbledRows, inputMasks, outputMasks}
 use Rattle.session.specs.Sizes.{Sizes}
 use Rattle.zero.specs.Ready.{Contributed, ZeroKeys, Masks, drawnIn}
+use Rattle.garbling.specs.declared.turn.Turn.{Turn}
 use Rattle.garbling.specs.Source.{rowsHere, Sourced}
 use Rattle.contribution.proofs.Sizes.{times-most, vector-fits}
 use Rattle.contribution.proofs.Wired.{sumTo-times-right}
@@ -48,7 +50,7 @@ module _ {file : List ℕ} {circuit : Circuit} {n K size : ℕ} {contributions :
   -- ---- the pass: rows of so many wires stand, and the cursor is at the next record
 
   abbrev pub rowsAt : ℕ → List ℕ
-  rowsAt w = gateRows shakePad n K file wires drew w (recipe (wireAt wires w))
+  rowsAt = gateRows shakePad n K file wires drew
 
   abbrev pub sizeAt : ℕ → ℕ
   sizeAt w = rowsOf wires w * (n * K)
@@ -66,22 +68,25 @@ module _ {file : List ℕ} {circuit : Circuit} {n K size : ℕ} {contributions :
 
   module _ {keys masks : List ℕ} (z : ZeroKeys circuit n K contributions keys) (m : Masks circuit n K contributions masks) where
     module _ {ranks moduli : List ℕ} (er : ranks ≡ tab 256 (usedBelow wires)) (em : moduli ≡ moduliOf wires ++ replicate (1024 - circuit .made) 0)
-        {w at x y : ℕ} (h : w < circuit .made) (here : at ≡ recordAt K wires w)
-        (e : y ≡ x) (c : Counts 512 (rowsBy (recipe (wireAt (circuit .wires) w)) (λ a. getD moduli a 0) (wireAt (circuit .wires) w .modulus)) x) where
-      -- y rows are those of the wire
-      pub turn-size : y * (n * K) ≡ sizeAt w
-      turn-size = ap (λ (i : ℕ). i * (n * K)) (e ∙ c .is ∙ rows-counted r z m er em h here)
+        {w at y b : ℕ} (h : w < circuit .made) (here : at ≡ recordAt K wires w)
+        (e : y ≡ rowsBy (recipe (wireAt (circuit .wires) w)) (λ a. getD moduli a 0) (wireAt (circuit .wires) w .modulus) * b) (f : b ≡ n * K) where
+      -- y bytes are those of the wire's rows
+      pub turn-size : y ≡ sizeAt w
+      turn-size = e ∙ ap₂ _*_ (rows-counted r z m er em h here) f
 
-      pub turn-ready : {out : List ℕ} → length out ≡ sizeAt w → Sourced n K size at contributions ranks keys masks file moduli (wireAt (circuit .wires) w) out
-      turn-ready {out} l = sourced r z m er em h here (l ∙ ap (λ (i : ℕ). i * (n * K)) (sym (rows-counted r z m er em h here)))
+      module _ (number count : ℕ) (en : number ≡ w) (ec : Counts 3 (recordKeysBy (recipe (wireAt (circuit .wires) w))) count) where
+        abbrev turn : Turn
+        turn = record { n = n; k = K; wire = number; modulus = wireAt (circuit .wires) w .modulus; size = size; at = at; count = count }
 
-      pub turn-rows : {v : ℕ} {xs : List ℕ} → v ≡ w
-          → xs ≡ rowsHere n K size v at (wireAt (circuit .wires) w .modulus) contributions ranks keys masks file moduli (wireAt (circuit .wires) w .gate) (recipe (wireAt (circuit .wires) w))
-          → xs ≡ rowsAt w
-      turn-rows {v} {xs} g k =
-          k
-          ∙ ap (λ (i : ℕ). rowsHere n K size i at (wireAt (circuit .wires) w .modulus) contributions ranks keys masks file moduli (wireAt (circuit .wires) w .gate) (recipe (wireAt (circuit .wires) w))) g
-          ∙ rows-are r z m er em h here
+        pub turn-ready : {how : Recipe} {out : List ℕ} → how ≡ recipe (wireAt (circuit .wires) w) → length out ≡ sizeAt w
+            → Sourced turn contributions ranks moduli keys masks file how out
+        turn-ready {out = out} g l =
+            subst (λ (q : Recipe). Sourced turn contributions ranks moduli keys masks file q out) (sym g)
+            (sourced r z m er em h here number count en (ec .is) (ec .most) (l ∙ ap (λ (i : ℕ). i * (n * K)) (sym (rows-counted r z m er em h here))))
+
+        pub turn-rows : {how : Recipe} {xs : List ℕ} → how ≡ recipe (wireAt (circuit .wires) w)
+            → xs ≡ rowsHere turn contributions ranks moduli keys masks file how → xs ≡ rowsAt w
+        turn-rows g k = k ∙ ap (rowsHere turn contributions ranks moduli keys masks file) g ∙ rows-are r z m er em h here number count en (ec .is)
 
   module _ {masks : List ℕ} (m : Masks circuit n K contributions masks) where
     -- ---- the masks that are handed out

@@ -1,6 +1,6 @@
--- The laws of garbling: what a wire's rows are made of, and the pass over all wires.
+-- The laws of garbling.
 pub mod Fronts
-pub mod Alike
 pub mod Looked
+pub mod Called
 pub mod Arms
 pub mod Garbled

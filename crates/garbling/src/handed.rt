@@ -5,8 +5,8 @@ ghost use lib.ListN.{length, getD, take};
 ghost use Rattle.lists.specs.Blocks.{tab};
 ghost use Rattle.circuit.specs.Held.{outputsIn};
 ghost use Rattle.plain.specs.Ready.{Gives};
-use super::gate::index;
 use circuit::Circuit;
+use lists::wire_index;
 
 // Inputs are the first wires.
 pub fn put_input_masks(masks: &[u8], inputs: &mut [u8])
@@ -25,7 +25,7 @@ pub fn put_output_masks(circuit: Circuit, masks: &[u8], outputs: &mut [u8])
     let given = circuit.given;
     let mut i = 0;
     while i < given {
-        let at = index(circuit.outputs[i]);
+        let at = wire_index(circuit.outputs[i]);
         outputs[i] = masks[at];
         i += 1;
     }

@@ -5,5 +5,6 @@ mod gate;
 mod handed;
 mod own;
 mod pass;
+mod turn;
 
 pub use pass::garble;

@@ -1,34 +1,37 @@
 // The rows of all gates, and the masks that garbling hands out.
 ghost use mathlib.Core.Path.{_≡_};
 ghost use Prim.Native.Nat.{_*_, _≤_};
-ghost use lib.ListN.{length};
+ghost use lib.ListN.{length, getD};
 ghost use Rattle.circuit.specs.Wires.{inputsIn};
 ghost use Rattle.circuit.specs.Held.{wiresIn, outputsIn};
-ghost use Rattle.counts.specs.Counts.{rowsIn};
+ghost use Rattle.counts.specs.Recipe.{recipe};
+ghost use Rattle.counts.specs.Counts.{rowsBy, rowsIn};
 ghost use Rattle.pads.specs.Pad.{shakePad};
 ghost use Rattle.scheme.specs.Rows.{garbledRows, inputMasks, outputMasks};
 ghost use Rattle.zero.specs.Ready.{Contributed, ZeroKeys, Masks, drawnIn};
 use super::gate::gate_rows;
 use super::handed::put_input_masks;
 use super::handed::put_output_masks;
+use super::turn::Turn;
 use circuit::Circuit;
 use contribution::first_record;
 use contribution::record_size;
+use counts::recipe_of;
+use counts::record_count;
 use counts::row_count;
+use lists::index_number;
+use lists::number_index;
+use session::Size;
+use words::Wire;
 use zero::wire_masks;
 use zero::zero_keys;
 
-fn wide(x: u32) -> usize
-    ensures { λ r. ⌜ r ≡ x ⌝ }
+// How long the rows of a wire are, of so many bytes each.
+fn row_bytes(wire: Wire, moduli: &[u8], bytes: usize) -> usize
+    requires { ⌜ bytes ≤ 1024 ⌝ }
+    ensures { λ r. ⌜ r ≡ rowsBy (recipe wire) (λ a. getD (now (moduli .entry)) a 0) (wire .modulus) * bytes ⌝ }
 {
-    x as usize
-}
-
-fn narrow(w: usize) -> u32
-    requires { ⌜ w ≤ 1024 ⌝ }
-    ensures { λ r. ⌜ r ≡ w ⌝ }
-{
-    w as u32
+    number_index(row_count(wire, moduli)) * bytes
 }
 
 // All rows, gate after gate.
@@ -57,14 +60,19 @@ pub fn put_rows(
     let mut w = 0;
     while w < made {
         let wire = circuit.wires[w];
-        let to = from + wide(row_count(wire, &moduli)) * bytes;
-        gate_rows(
-            wire,
-            narrow(w),
+        let to = from + row_bytes(wire, &moduli, bytes);
+        let turn = Turn {
             n,
             k,
+            wire: index_number(w),
+            modulus: wire.modulus,
             size,
             at,
+            count: number_index(record_count(wire)),
+        };
+        gate_rows(
+            recipe_of(wire),
+            turn,
             file,
             contributions,
             &ranks,
@@ -83,8 +91,7 @@ pub fn put_rows(
 fn garble_from(
     circuit: Circuit,
     file: &[u8],
-    n: usize,
-    k: usize,
+    sizes: Size,
     size: usize,
     contributions: &[u8],
     keys: &[u8],
@@ -92,15 +99,26 @@ fn garble_from(
     inputs: &mut [u8],
     outputs: &mut [u8],
 )
-    requires { ⌜ Contributed (now file) circuit n k size (now contributions) ⌝ }
-    requires { ⌜ ZeroKeys circuit n k (now contributions) (now keys) ⌝ }
-    requires { ⌜ (length (now rows) ≡ rowsIn (wiresIn circuit) * (n * k)) × ((length (now inputs) ≡ inputsIn (wiresIn circuit)) × (length (now outputs) ≡ length (outputsIn circuit))) ⌝ }
-    ensures { λ _. ⌜ (now (rows .exit) ≡ garbledRows shakePad n k (now (file .entry)) (wiresIn circuit) (drawnIn circuit n k (now (contributions .entry))))
-        × ((now (inputs .exit) ≡ inputMasks (wiresIn circuit) (drawnIn circuit n k (now (contributions .entry))))
-        × (now (outputs .exit) ≡ outputMasks (wiresIn circuit) (outputsIn circuit) (drawnIn circuit n k (now (contributions .entry))))) ⌝ }
+    requires { ⌜ Contributed (now file) circuit (sizes .n) (sizes .k) size (now contributions) ⌝ }
+    requires { ⌜ ZeroKeys circuit (sizes .n) (sizes .k) (now contributions) (now keys) ⌝ }
+    requires { ⌜ (length (now rows) ≡ rowsIn (wiresIn circuit) * (sizes .n * sizes .k))
+        × ((length (now inputs) ≡ inputsIn (wiresIn circuit)) × (length (now outputs) ≡ length (outputsIn circuit))) ⌝ }
+    ensures { λ _. ⌜ (now (rows .exit) ≡ garbledRows shakePad (sizes .n) (sizes .k) (now (file .entry)) (wiresIn circuit) (drawnIn circuit (sizes .n) (sizes .k) (now (contributions .entry))))
+        × ((now (inputs .exit) ≡ inputMasks (wiresIn circuit) (drawnIn circuit (sizes .n) (sizes .k) (now (contributions .entry))))
+        × (now (outputs .exit) ≡ outputMasks (wiresIn circuit) (outputsIn circuit) (drawnIn circuit (sizes .n) (sizes .k) (now (contributions .entry))))) ⌝ }
 {
-    let masks = wire_masks(circuit, file, n, k, size, contributions);
-    put_rows(circuit, file, n, k, size, contributions, keys, &masks, rows);
+    let masks = wire_masks(circuit, file, sizes.n, sizes.k, size, contributions);
+    put_rows(
+        circuit,
+        file,
+        sizes.n,
+        sizes.k,
+        size,
+        contributions,
+        keys,
+        &masks,
+        rows,
+    );
     put_input_masks(&masks, inputs);
     put_output_masks(circuit, &masks, outputs);
 }
@@ -109,8 +127,7 @@ fn garble_from(
 fn garble_in(
     circuit: Circuit,
     file: &[u8],
-    n: usize,
-    k: usize,
+    sizes: Size,
     size: usize,
     contributions: &[u8],
     work: &mut [u8],
@@ -118,20 +135,28 @@ fn garble_in(
     inputs: &mut [u8],
     outputs: &mut [u8],
 )
-    requires { ⌜ Contributed (now file) circuit n k size (now contributions) ⌝ }
+    requires { ⌜ Contributed (now file) circuit (sizes .n) (sizes .k) size (now contributions) ⌝ }
     requires { ⌜ 1048576 ≤ length (now work) ⌝ }
-    requires { ⌜ (length (now rows) ≡ rowsIn (wiresIn circuit) * (n * k)) × ((length (now inputs) ≡ inputsIn (wiresIn circuit)) × (length (now outputs) ≡ length (outputsIn circuit))) ⌝ }
-    ensures { λ _. ⌜ (now (rows .exit) ≡ garbledRows shakePad n k (now (file .entry)) (wiresIn circuit) (drawnIn circuit n k (now (contributions .entry))))
-        × ((now (inputs .exit) ≡ inputMasks (wiresIn circuit) (drawnIn circuit n k (now (contributions .entry))))
-        × (now (outputs .exit) ≡ outputMasks (wiresIn circuit) (outputsIn circuit) (drawnIn circuit n k (now (contributions .entry))))) ⌝ }
+    requires { ⌜ (length (now rows) ≡ rowsIn (wiresIn circuit) * (sizes .n * sizes .k))
+        × ((length (now inputs) ≡ inputsIn (wiresIn circuit)) × (length (now outputs) ≡ length (outputsIn circuit))) ⌝ }
+    ensures { λ _. ⌜ (now (rows .exit) ≡ garbledRows shakePad (sizes .n) (sizes .k) (now (file .entry)) (wiresIn circuit) (drawnIn circuit (sizes .n) (sizes .k) (now (contributions .entry))))
+        × ((now (inputs .exit) ≡ inputMasks (wiresIn circuit) (drawnIn circuit (sizes .n) (sizes .k) (now (contributions .entry))))
+        × (now (outputs .exit) ≡ outputMasks (wiresIn circuit) (outputsIn circuit) (drawnIn circuit (sizes .n) (sizes .k) (now (contributions .entry))))) ⌝ }
 {
-    let bytes = circuit.made * (n * k);
-    zero_keys(circuit, file, n, k, size, contributions, &mut work[..bytes]);
+    let bytes = circuit.made * (sizes.n * sizes.k);
+    zero_keys(
+        circuit,
+        file,
+        sizes.n,
+        sizes.k,
+        size,
+        contributions,
+        &mut work[..bytes],
+    );
     garble_from(
         circuit,
         file,
-        n,
-        k,
+        sizes,
         size,
         contributions,
         &work[..bytes],
@@ -150,26 +175,25 @@ fn zeros() -> [u8; 1048576] {
 pub fn garble(
     circuit: Circuit,
     file: &[u8],
-    n: usize,
-    k: usize,
+    sizes: Size,
     size: usize,
     contributions: &[u8],
     rows: &mut [u8],
     inputs: &mut [u8],
     outputs: &mut [u8],
 )
-    requires { ⌜ Contributed (now file) circuit n k size (now contributions) ⌝ }
-    requires { ⌜ (length (now rows) ≡ rowsIn (wiresIn circuit) * (n * k)) × ((length (now inputs) ≡ inputsIn (wiresIn circuit)) × (length (now outputs) ≡ length (outputsIn circuit))) ⌝ }
-    ensures { λ _. ⌜ (now (rows .exit) ≡ garbledRows shakePad n k (now (file .entry)) (wiresIn circuit) (drawnIn circuit n k (now (contributions .entry))))
-        × ((now (inputs .exit) ≡ inputMasks (wiresIn circuit) (drawnIn circuit n k (now (contributions .entry))))
-        × (now (outputs .exit) ≡ outputMasks (wiresIn circuit) (outputsIn circuit) (drawnIn circuit n k (now (contributions .entry))))) ⌝ }
+    requires { ⌜ Contributed (now file) circuit (sizes .n) (sizes .k) size (now contributions) ⌝ }
+    requires { ⌜ (length (now rows) ≡ rowsIn (wiresIn circuit) * (sizes .n * sizes .k))
+        × ((length (now inputs) ≡ inputsIn (wiresIn circuit)) × (length (now outputs) ≡ length (outputsIn circuit))) ⌝ }
+    ensures { λ _. ⌜ (now (rows .exit) ≡ garbledRows shakePad (sizes .n) (sizes .k) (now (file .entry)) (wiresIn circuit) (drawnIn circuit (sizes .n) (sizes .k) (now (contributions .entry))))
+        × ((now (inputs .exit) ≡ inputMasks (wiresIn circuit) (drawnIn circuit (sizes .n) (sizes .k) (now (contributions .entry))))
+        × (now (outputs .exit) ≡ outputMasks (wiresIn circuit) (outputsIn circuit) (drawnIn circuit (sizes .n) (sizes .k) (now (contributions .entry))))) ⌝ }
 {
     let mut work = zeros();
     garble_in(
         circuit,
         file,
-        n,
-        k,
+        sizes,
         size,
         contributions,
         &mut work,

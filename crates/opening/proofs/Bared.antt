@@ -1,27 +1,25 @@
 -- Rows without their pads, made in place.
 -- Assumes nothing.
-use mathlib.Core.Path.{_≡_, sym, ap, subst, _∙_}
-use mathlib.Core.Bool.{true}
+use mathlib.Core.Path.{_≡_, refl, sym, ap, ap₂, subst, _∙_}
 use mathlib.Core.List.{List}
-use Prim.Native.Nat.{ℕ, _+_, _*_, _≤_, _<_}
+use Prim.Native.Nat.{ℕ, zero, suc, _+_, _*_, _≤_, _<_}
 use native.Mathlib.Omega.{arith}
-use lib.Dec.{eqb}
-use borrow.Author.Tests.{ne-eqb}
 use lib.ListN.{length}
 use Rattle.lists.specs.Blocks.{part, nthPiece}
 use Rattle.lists.proofs.Sums.{times-fits}
 use Rattle.residue.specs.Vector.{addV, subV, mulV, AllBelow}
-use Rattle.residue.proofs.Vectors.{subV-length}
 use Rattle.residue.proofs.Parts.{below-take, below-drop}
 use Rattle.residue.proofs.Ring.Expr.{var}
 use Rattle.residue.proofs.VectorRing.{vring}
 use Rattle.residue.proofs.VectorRing.VExpr.{vec, _⊞_, _⊟_, _⊡_}
+use Rattle.contribution.proofs.Once.{add-once}
 use Rattle.pads.specs.Moved.{Asked, Row}
-use Rattle.pads.specs.Pad.{shakePad, padRow, placed}
+use Rattle.pads.specs.Pad.{Under, shakePad, padRow, placed}
 use Rattle.pads.proofs.Sizes.{shakePad-length, padRow-length}
-use Rattle.opening.specs.Gate.{bared, productKeys, chooserKeys, choiceKeys}
+use Rattle.scheme.specs.Opening.{bared, tableKeys, productKeys, chosen, corrector, choiceKeys}
 use Rattle.session.specs.Sizes.{Sizes, Vector}
 use Rattle.opening.specs.Given.{Rows}
+use Rattle.opening.specs.Step.{held}
 
 -- what pads ask of the buffer that they are taken off
 pub asked : {n K q : ℕ} {xs out : List ℕ} → Sizes n K → 1 < q → AllBelow q xs → out ≡ xs → Asked q K out
@@ -36,32 +34,26 @@ pub below-part : {p : ℕ} {xs : List ℕ} → AllBelow p xs → (at n : ℕ) �
 unfolding part
 below-part {p} {xs} b at n = below-take p n (below-drop p at b)
 
-module _ (n K w : ℕ) (q p component : ℕ) (keys : List ℕ) where
+module _ (n K p : ℕ) (under : Under) (senders : List ℕ) where
   abbrev pads : List ℕ
-  pads = padRow shakePad K q (placed p w component) keys n
+  pads = padRow shakePad K p under senders n
 
-  pub pads-length : length pads ≡ n * K
-  pads-length = padRow-length shakePad K q (shakePad-length q K) (placed p w component) keys n
+  pads-length : length pads ≡ n * K
+  pads-length = padRow-length shakePad K p (shakePad-length p K) under senders n
 
   -- pads taken off a copy
-  pub bare-row : {row out out′ : List ℕ} → out ≡ row → out′ ≡ subV q out pads → out′ ≡ bared n K w q p component keys row
-  unfolding bared
-  bare-row e f = f ∙ ap (λ (xs : List ℕ). subV q xs pads) e
-
-  pub bared-length : {row : List ℕ} → Vector n K row → length (bared n K w q p component keys row) ≡ n * K
-  unfolding bared
-  bared-length {row} v = subV-length q row pads (v .size ∙ sym pads-length) ∙ v .size
+  pub bare-row : {row out out′ : List ℕ} → out ≡ row → out′ ≡ subV p out pads → out′ ≡ subV p row pads
+  bare-row e f = f ∙ ap (λ (xs : List ℕ). subV p xs pads) e
 
   -- a row put on what stands there, and then its pads taken off
-  pub bare-more : (row out₀ : List ℕ) {out out′ : List ℕ} → 1 < q → Vector n K row → length out₀ ≡ n * K
-      → out ≡ addV q out₀ (mulV q 1 row)
-      → out′ ≡ subV q out pads
-      → out′ ≡ addV q out₀ (bared n K w q p component keys row)
-  unfolding bared
+  pub bare-more : (row out₀ : List ℕ) {out out′ : List ℕ} → 1 < p → Vector n K row → length out₀ ≡ n * K
+      → out ≡ addV p out₀ (mulV p 1 row)
+      → out′ ≡ subV p out pads
+      → out′ ≡ addV p out₀ (subV p row pads)
   bare-more row out₀ {out} {out′} h v l e f =
       f
-      ∙ ap (λ (xs : List ℕ). subV q xs pads) e
-      ∙ vring {p = q} (omega arith) (n * K) (vec out₀ ⊞ var 1 ⊡ vec row ⊟ vec pads) (vec out₀ ⊞ (vec row ⊟ vec pads))
+      ∙ ap (λ (xs : List ℕ). subV p xs pads) e
+      ∙ vring {p = p} (omega arith) (n * K) (vec out₀ ⊞ var 1 ⊡ vec row ⊟ vec pads) (vec out₀ ⊞ (vec row ⊟ vec pads))
       ((l, v .size), pads-length) (l, (v .size, pads-length)) tt tt (λ i. omega arith)
 
 -- ---- rows cut out of a gate's rows
@@ -73,66 +65,55 @@ module _ {n K p count : ℕ} {rows : List ℕ} (r : Rows n K p rows count) where
   pub row-below : {row : List ℕ} (j : ℕ) → row ≡ nthPiece rows (n * K) j → AllBelow p row
   row-below {row} j e = subst (λ (xs : List ℕ). AllBelow p xs) (sym e) (below-part (r .below) (j * (n * K)) (n * K))
 
-pub row-at : (m : ℕ) (rows : List ℕ) {row : List ℕ} (i j : ℕ) → row ≡ nthPiece rows m j → j ≡ i → row ≡ nthPiece rows m i
-row-at m rows i j e f = e ∙ ap (λ (i : ℕ). nthPiece rows m i) f
+-- ---- the keys that they give
 
--- ---- the chooser
+module _ (n K w p : ℕ) (rows : List ℕ) where
+  abbrev bareRow : ℕ → ℕ → List ℕ → List ℕ → List ℕ
+  bareRow q component senders row = subV p row (padRow shakePad K p (placed q w component) senders n)
 
-pub zero-is : (bit : ℕ) → bit ≡ 0 → eqb bit 0 ≡ true
-zero-is bit e = ap (λ (b : ℕ). eqb b 0) e
+  -- the row of a place, under another name
+  bared-is : (q component : ℕ) (senders : List ℕ) {row : List ℕ} (r : ℕ) → row ≡ nthPiece rows (n * K) r
+      → bareRow q component senders row ≡ bared shakePad n K w p rows q component senders r
+  unfolding bared
+  bared-is q component senders r e = ap (bareRow q component senders) e
 
-module _ (p bit : ℕ) where
-  pub chooser-zero : {part : List ℕ} (d : List ℕ) {out : List ℕ} → bit ≡ 0 → out ≡ part → out ≡ chooserKeys (eqb bit 0) p part d
-  unfolding chooserKeys
-  chooser-zero {part} d {out} h e = rw (zero-is bit h) e
+  row-at : {row : List ℕ} {i j : ℕ} → row ≡ nthPiece rows (n * K) j → j ≡ i → row ≡ nthPiece rows (n * K) i
+  row-at e f = e ∙ ap (nthPiece rows (n * K)) f
 
-  pub chooser-one : {n K : ℕ} {part : List ℕ} (d : List ℕ) {out out′ : List ℕ} → Vector n K d → 0 < p → (bit ≡ 0 → ⊥) → out ≡ part → length out ≡ n * K
-      → out′ ≡ addV p out (mulV p 1 d)
-      → out′ ≡ chooserKeys (eqb bit 0) p part d
-  unfolding chooserKeys
-  chooser-one {n} {K} {part} d {out} {out′} v h b e l f =
-      rw (ne-eqb bit 0 b)
-      (f ∙ vring h (n * K) (vec out ⊞ var 1 ⊡ vec d) (vec out ⊞ vec d) (l, v .size) (l, v .size) tt tt (λ i. omega arith)
-      ∙ ap (λ (xs : List ℕ). addV p xs d) e)
+  pub table-is : (q : ℕ) (a : List ℕ) (α : ℕ) {i : ℕ} {row out : List ℕ} → row ≡ nthPiece rows (n * K) i → i ≡ α → out ≡ bareRow q 0 a row
+      → out ≡ tableKeys shakePad n K w p rows q (held a α)
+  unfolding tableKeys
+  table-is q a α e f g = g ∙ bared-is q 0 a α (row-at e f)
 
--- ---- a product
-
-module _ (n K w p : ℕ) (a b : List ℕ) (α β : ℕ) (rows : List ℕ) where
-  pub product-is : {row₀ row₁ out₀ out₁ out : List ℕ} {i j : ℕ}
+  pub product-is : (a b : List ℕ) (α β : ℕ) {row₀ row₁ out₀ out₁ out : List ℕ} {i j : ℕ}
       → row₀ ≡ nthPiece rows (n * K) i → i ≡ α
       → row₁ ≡ nthPiece rows (n * K) j → j ≡ p + β
-      → out₀ ≡ bared n K w p p 0 a row₀
-      → out₁ ≡ addV p out₀ (bared n K w p p 1 b row₁)
+      → out₀ ≡ bareRow p 0 a row₀
+      → out₁ ≡ addV p out₀ (bareRow p 1 b row₁)
       → out ≡ addV p out₁ (mulV p β a)
-      → out ≡ productKeys n K w p a b β (nthPiece rows (n * K) α) (nthPiece rows (n * K) (p + β))
+      → out ≡ productKeys shakePad n K w p rows (held a α) (held b β)
   unfolding productKeys
-  product-is e f g h x y z = rw (z, y, x, e, g, f, h)
+  product-is a b α β e f g h x y z =
+      z ∙ ap (λ (xs : List ℕ). addV p xs (mulV p β a))
+      (y ∙ ap₂ (addV p) (x ∙ bared-is p 0 a α (row-at e f)) (bared-is p 1 b (p + β) (row-at g h)))
 
--- ---- a choice
+  -- the chooser
+  pub chooser-zero : (v : List ℕ) (bit : ℕ) (d : List ℕ) {i : ℕ} {row out : List ℕ} → row ≡ nthPiece rows (n * K) i → i ≡ bit → bit ≡ 0
+      → out ≡ bareRow 2 0 v row → out ≡ chosen bit p (bared shakePad n K w p rows 2 0 v bit) d
+  unfolding chosen
+  chooser-zero v zero d e f h x = x ∙ bared-is 2 0 v 0 (row-at e f)
+  chooser-zero v (suc bit) d e f h x = absurd (omega arith)
 
-module _ (n K w p bit : ℕ) (v d : List ℕ) (rows : List ℕ) where
-  pub choice-is : (i₁ : ℕ) {row₀ row₁ out₀ out : List ℕ} {i : ℕ}
-      → row₀ ≡ nthPiece rows (n * K) i → i ≡ bit
-      → row₁ ≡ nthPiece rows (n * K) i₁
-      → out₀ ≡ chooserKeys (eqb bit 0) p (bared n K w p 2 0 v row₀) d
-      → out ≡ addV p out₀ (bared n K w p p (1 + bit) d row₁)
-      → out ≡ choiceKeys n K w p bit v d (nthPiece rows (n * K) bit) (nthPiece rows (n * K) i₁)
+  pub chooser-one : (v : List ℕ) (bit : ℕ) (d : List ℕ) {i : ℕ} {row out out′ : List ℕ} → row ≡ nthPiece rows (n * K) i → i ≡ bit → (bit ≡ 0 → ⊥)
+      → out ≡ bareRow 2 0 v row → out′ ≡ addV p out (mulV p 1 d) → out′ ≡ chosen bit p (bared shakePad n K w p rows 2 0 v bit) d
+  unfolding chosen
+  chooser-one v zero d e f h x y = absurd (h refl)
+  chooser-one v (suc bit) d {out = out} e f h x y =
+      y ∙ add-once p out d ∙ ap (λ (xs : List ℕ). addV p xs d) (x ∙ bared-is 2 0 v (suc bit) (row-at e f))
+
+  pub choice-is : (v : List ℕ) (bit : ℕ) (d : List ℕ) (α : ℕ) {row out₀ out : List ℕ} → row ≡ nthPiece rows (n * K) (corrector p bit α)
+      → out₀ ≡ chosen bit p (bared shakePad n K w p rows 2 0 v bit) d
+      → out ≡ addV p out₀ (bareRow p (1 + bit) d row)
+      → out ≡ choiceKeys shakePad n K w p rows (held v bit) (held d α)
   unfolding choiceKeys
-  choice-is i₁ e f g x y = rw (y, x, e, g, f)
-
--- ---- a number under another name
-
-pub below-as : {x y p : ℕ} → x ≡ y → y < p → x < p
-below-as e h = omega (arith, e, h)
-
-pub choice-as : (n K w p bit : ℕ) (v d rows : List ℕ) {α α′ : ℕ} {out : List ℕ}
-    → out ≡ choiceKeys n K w p bit v d (nthPiece rows (n * K) bit) (nthPiece rows (n * K) (2 + bit * p + α))
-    → α ≡ α′
-    → out ≡ choiceKeys n K w p bit v d (nthPiece rows (n * K) bit) (nthPiece rows (n * K) (2 + bit * p + α′))
-choice-as n K w p bit v d rows {α} {α′} {out} e f = rw (← f) e
-
-pub choice-with : (n K w p bit : ℕ) (v rows : List ℕ) (i : ℕ) {d e out : List ℕ} → d ≡ e
-    → out ≡ choiceKeys n K w p bit v d (nthPiece rows (n * K) bit) (nthPiece rows (n * K) i)
-    → out ≡ choiceKeys n K w p bit v e (nthPiece rows (n * K) bit) (nthPiece rows (n * K) i)
-choice-with n K w p bit v rows i {d} {e} {out} same f =
-    f ∙ ap (λ (xs : List ℕ). choiceKeys n K w p bit v xs (nthPiece rows (n * K) bit) (nthPiece rows (n * K) i)) same
+  choice-is v bit d α e x y = y ∙ ap₂ (addV p) x (bared-is p (1 + bit) d (corrector p bit α) e)

@@ -1,7 +1,6 @@
 -- The laws of opening.
 pub mod Bared
 pub mod Correctors
-pub mod Maps
 pub mod Reached
 pub mod Turns
 pub mod Opens

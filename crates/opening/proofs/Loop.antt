@@ -13,6 +13,7 @@ use Rattle.circuit.specs.declared.Circuit.{Circuit}
 use Rattle.circuit.specs.Wires.{wireAt, modulusAt, moduliOf}
 use Rattle.circuit.specs.Held.{wiresIn}
 use Rattle.circuit.proofs.More.{made}
+use Rattle.counts.specs.declared.recipe.Recipe.{Recipe}
 use Rattle.counts.specs.Recipe.{recipe}
 use Rattle.counts.specs.Counts.{rowsBy, rowsOf, recordKeysBy}
 use Rattle.counts.specs.Moduli.{usedBelow}
@@ -21,19 +22,19 @@ use Rattle.counts.proofs.Counting.{rows-at}
 use Rattle.session.proofs.Circuits.{made-is}
 use Rattle.scheme.specs.Contribution.{recordAt, offsetAt}
 use Rattle.contribution.proofs.Cursor.{records-here, cursor-fits}
-use Rattle.scheme.specs.Opening.{Opened}
+use Rattle.scheme.specs.Opening.{Opened, ownRows}
 use Rattle.opening.specs.declared.turn.Turn.{Turn}
 use Rattle.opening.specs.Given.{Given, OpensAll}
-use Rattle.opening.specs.Step.{lower, wireBy}
+use Rattle.opening.specs.Step.{overBy, openAt}
 use Rattle.opening.specs.Ready.{Seated, Ready}
-use Rattle.opening.specs.Swept.{Put, Swept}
+use Rattle.opening.specs.Swept.{Room, Stored, Swept}
 use Rattle.opening.proofs.Reached.{openedAt, Reached}
-use Rattle.opening.proofs.Opens.{turnAt, ownRows, wire-is}
+use Rattle.opening.proofs.Opens.{over-same, turnAt, wire-is}
 use Rattle.opening.proofs.Prepared.{seated, rows-inside, ready}
 use Rattle.opening.proofs.Sweep.{reached-start, reached-step, swept-short, swept-all, kept-keys, kept-externals}
 
-module _ {file : List ℕ} {circuit : Circuit} {n K party : ℕ} {contribution externals keys rows : List ℕ}
-    (given : Given file circuit n K party contribution externals keys rows) where
+module _ {circuit : Circuit} {n K party : ℕ} {contribution externals keys rows : List ℕ}
+    (given : Given circuit n K party contribution externals keys rows) where
   abbrev wires : List Wire
   wires = wiresIn circuit
 
@@ -76,12 +77,6 @@ module _ {file : List ℕ} {circuit : Circuit} {n K party : ℕ} {contribution e
     wire-same : wireAt wires w ≡ wire
     wire-same = wire-at (circuit .wires) (circuit .made) w h
 
-    pub keys-room : {number : ℕ} → number ≡ w → number * m + m ≤ length wkeys
-    keys-room e = rw e (omega (arith, times-fits w (length wires) m within, r .keysSize))
-
-    pub externals-room : {number : ℕ} → number ≡ w → number < length wexternals
-    externals-room e = omega (arith, within, r .externalsSize)
-
     pub small : w < 1024
     small = omega (arith, within, given .accepted .wiresLimit)
 
@@ -100,18 +95,25 @@ module _ {file : List ℕ} {circuit : Circuit} {n K party : ℕ} {contribution e
         size-here = size-eq ∙ ap (λ (x : ℕ). x * m) (rows-at (circuit .wires) (circuit .made) w (1024 - circuit .made) table h table-is)
 
         pub rows-room : from + size ≤ length rows
-        rows-room = omega (arith, rows-inside given w within, r .fromIs, size-here)
+        rows-room = omega (arith, rows-inside n K wires rows (given .rowsSize) w within, r .fromIs, size-here)
 
-        module _ {places : List ℕ} (places-are : places ≡ tab 256 (usedBelow wires)) {own : List ℕ} (own-is : own ≡ part rows from size) {number offset : ℕ} (number-is : number ≡ w)
-            (offset-is : offset ≡ K * getD places (wire .modulus) 0) where
+        module _ {places : List ℕ} (places-are : places ≡ tab 256 (usedBelow wires)) {how : Recipe} (how-is : how ≡ recipe wire) {own : List ℕ} (own-is : own ≡ part rows from size)
+            {number over offset : ℕ} (number-is : number ≡ w) (over-is : over ≡ overBy how (λ a. getD table a 0)) (offset-is : offset ≡ K * getD places (wire .modulus) 0) where
           abbrev turn : Turn
-          turn = record { n = n; k = K; party = party; wire = number; modulus = wire .modulus; zero = zero; offset = offset }
+          turn = record { n = n; k = K; party = party; wire = number; modulus = wire .modulus; over = over; zero = zero; offset = offset }
 
-          own-same : own ≡ ownRows m wires rows w
+          how-same : how ≡ recipe (wireAt wires w)
+          how-same = how-is ∙ ap recipe (sym wire-same)
+
+          own-same : own ≡ ownRows n K wires rows w
+          unfolding ownRows
           own-same = own-is ∙ ap₂ (part rows) (r .fromIs) size-here
 
           modulus-same : wire .modulus ≡ modulusAt wires w
           modulus-same = ap (λ (x : Wire). x .modulus) (sym wire-same)
+
+          over-there : over ≡ overBy (recipe (wireAt wires w)) (modulusAt wires)
+          over-there = over-is ∙ over-same how (λ a. getD table a 0) (modulusAt wires) moduli-are ∙ ap (λ (h : Recipe). overBy h (modulusAt wires)) how-same
 
           offset-same : offset ≡ offsetAt K wires (modulusAt wires w)
           unfolding offsetAt
@@ -122,48 +124,41 @@ module _ {file : List ℕ} {circuit : Circuit} {n K party : ℕ} {contribution e
               ∙ getD-tab 256 (usedBelow wires) (modulusAt wires w) 0 (given .accepted .fits w within .byte))
 
           turn-same : turn ≡ turnAt n K party wires w
-          turn-same =
-              ap₂ (λ (x q : ℕ). record { n = n; k = K; party = party; wire = x; modulus = q; zero = zero; offset = offset }) number-is modulus-same
-              ∙ ap₂ (λ (z o : ℕ). record { n = n; k = K; party = party; wire = w; modulus = modulusAt wires w; zero = z; offset = o }) (r .zeroIs) offset-same
+          turn-same = rw (number-is, modulus-same, over-there, r .zeroIs, offset-same)
 
           pub turn-seated : Seated turn
           turn-seated = subst (λ (t : Turn). Seated t) (sym turn-same) (seated given w within)
 
-          pub turn-ready : Ready turn table contribution externals keys own wkeys wexternals (wire .gate) (recipe wire)
+          pub turn-ready : Ready turn contribution externals keys own wkeys wexternals how
           turn-ready =
-              subst (λ (t : Turn). Ready t table contribution externals keys own wkeys wexternals (wire .gate) (recipe wire)) (sym turn-same)
-              (subst (λ (l : List ℕ). Ready (turnAt n K party wires w) table contribution externals keys l wkeys wexternals (wire .gate) (recipe wire)) (sym own-same)
-              (subst (λ (x : Wire). Ready (turnAt n K party wires w) table contribution externals keys (ownRows m wires rows w) wkeys wexternals (x .gate) (recipe x)) wire-same
-              (ready given w within table moduli-are (table-long table-is) r)))
+              subst (λ (t : Turn). Ready t contribution externals keys own wkeys wexternals how) (sym turn-same)
+              (subst (λ (l : List ℕ). Ready (turnAt n K party wires w) contribution externals keys l wkeys wexternals how) (sym own-same)
+              (subst (λ (h : Recipe). Ready (turnAt n K party wires w) contribution externals keys (ownRows n K wires rows w) wkeys wexternals h) (sym how-same)
+              (ready given w within r)))
+
+          pub turn-room : Room turn wkeys wexternals
+          turn-room =
+              record {
+                keys = rw number-is (omega (arith, times-fits w (length wires) m within, r .keysSize));
+                external = omega (arith, within, r .externalsSize);
+              }
 
           abbrev final : ℕ → Opened
           final = openedAt n K party wires contribution externals keys rows
 
           -- what the code opens here is what document 01 opens
-          opens : wireBy (turnAt n K party wires w) (λ a. getD table a 0) contribution externals keys (ownRows m wires rows w) (lower m wkeys wexternals) (wireAt wires w .gate) (recipe (wireAt wires w))
-              ≡ final w
-          unfolding lower
+          opens : openAt turn contribution externals keys own wkeys wexternals how ≡ final w
           opens =
-              wire-is n K party wires contribution externals keys rows (given .ownSize) w (given .accepted) within (λ a. getD table a 0) moduli-are
-              (lower m wkeys wexternals) (r .wire) (λ a l. subst (λ (o : Opened). o .external < modulusAt wires a) (r .wire a l) (r .below a l))
+              ap (λ (t : Turn). openAt t contribution externals keys own wkeys wexternals how) turn-same
+              ∙ ap₂ (λ (l : List ℕ) (h : Recipe). openAt (turnAt n K party wires w) contribution externals keys l wkeys wexternals h) own-same how-same
+              ∙ wire-is n K party wires contribution externals keys rows (given .ownSize) w (given .accepted) within wkeys wexternals (r .wire)
 
           module _ {e : ℕ} {wkeys′ wexternals′ : List ℕ}
-              (put : Put turn (wireBy turn (λ a. getD table a 0) contribution externals keys own (lower m wkeys wexternals) (wire .gate) (recipe wire)) wkeys wexternals e wkeys′ wexternals′) where
-            put-same : Put (turnAt n K party wires w) (final w) wkeys wexternals e wkeys′ wexternals′
+              (put : Stored turn (openAt turn contribution externals keys own wkeys wexternals how) wkeys wexternals e wkeys′ wexternals′) where
+            put-same : Stored (turnAt n K party wires w) (final w) wkeys wexternals e wkeys′ wexternals′
             put-same =
-                subst (λ (o : Opened). Put (turnAt n K party wires w) o wkeys wexternals e wkeys′ wexternals′) opens
-                (subst
-                (λ (x : Wire). Put (turnAt n K party wires w)
-                (wireBy (turnAt n K party wires w) (λ a. getD table a 0) contribution externals keys (ownRows m wires rows w) (lower m wkeys wexternals) (x .gate) (recipe x))
-                wkeys wexternals e wkeys′ wexternals′) (sym wire-same)
-                (subst
-                (λ (l : List ℕ). Put (turnAt n K party wires w)
-                (wireBy (turnAt n K party wires w) (λ a. getD table a 0) contribution externals keys l (lower m wkeys wexternals) (wire .gate) (recipe wire))
-                wkeys wexternals e wkeys′ wexternals′) own-same
-                (subst
-                (λ (t : Turn). Put t
-                (wireBy t (λ a. getD table a 0) contribution externals keys own (lower m wkeys wexternals) (wire .gate) (recipe wire))
-                wkeys wexternals e wkeys′ wexternals′) turn-same put)))
+                subst (λ (t : Turn). Stored t (final w) wkeys wexternals e wkeys′ wexternals′) turn-same
+                (subst (λ (o : Opened). Stored turn o wkeys wexternals e wkeys′ wexternals′) opens put)
 
             pub loop-next : {step : ℕ} → e < wire .modulus → step ≡ (K + 1) * recordKeysBy (recipe wire) → Stands (w + 1) (zero + step) (from + size) wkeys′ wexternals′
             loop-next {step} l s =

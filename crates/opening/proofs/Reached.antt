@@ -4,14 +4,12 @@ use mathlib.Core.Path.{_≡_}
 use mathlib.Core.List.{List}
 use Prim.Native.Nat.{ℕ, _*_, _≤_, _<_}
 use lib.ListN.{length, getD}
-use Rattle.lists.specs.Blocks.{sumTo}
 use Rattle.words.specs.declared.gate.Wire.{Wire}
 use Rattle.circuit.specs.Wires.{modulusAt}
-use Rattle.counts.specs.Counts.{rowsOf}
 use Rattle.pads.specs.Pad.{shakePad}
 use Rattle.scheme.specs.Contribution.{recordAt}
 use Rattle.scheme.specs.Draw.{drawn}
-use Rattle.scheme.specs.Opening.{Opened, opened, nothing}
+use Rattle.scheme.specs.Opening.{Opened, opened, nothing, rowAt}
 use Rattle.opening.specs.Step.{lower}
 
 module _ (n K party : ℕ) (wires : List Wire) (contribution externals keys rows : List ℕ) where
@@ -23,7 +21,7 @@ module _ (n K party : ℕ) (wires : List Wire) (contribution externals keys rows
   pub record Reached (w zero from : ℕ) (wkeys wexternals : List ℕ) : Type 0 where
     pub turns : w ≤ length wires
     pub zeroIs : zero ≡ recordAt K wires w
-    pub fromIs : from ≡ sumTo w (λ v. rowsOf wires v * (n * K))
+    pub fromIs : from ≡ rowAt wires w * (n * K)
     pub keysSize : length wkeys ≡ length wires * (n * K)
     pub externalsSize : length wexternals ≡ length wires
     pub wire : (v : ℕ) → v < w → lower (n * K) wkeys wexternals v ≡ openedAt v

@@ -4,11 +4,11 @@ use mathlib.Core.Path.{_≡_, sym, ap, ap₂, _∙_}
 use mathlib.Core.Bool.{Bool, true, false, not}
 use mathlib.Core.List.{List, map}
 use Prim.Native.Nat.{ℕ, _+_, _*_, _≤_, _<_}
-use native.Mathlib.Nat.{not-suc-le-zero}
+use native.Mathlib.Nat.{add-mul, not-suc-le-zero, zero-mul}
 use native.Mathlib.Decide.{decLt}
 use native.Mathlib.Omega.{arith}
 use borrow.Author.Tests.{lt-ltb, le-ltb}
-use lib.ListN.{length, getD, length-set, length-map}
+use lib.ListN.{length, getD, length-set, length-map, List·getD-map}
 use lib.Seq.{getD-set-same, getD-set-other, ext-getD}
 use Rattle.lists.specs.Blocks.{part, nthPiece, written}
 use Rattle.lists.proofs.Sums.{sumTo-next, times-fits}
@@ -23,11 +23,10 @@ use Rattle.pads.specs.Pad.{shakePad}
 use Rattle.scheme.specs.Contribution.{recordAt}
 use Rattle.scheme.specs.Draw.{drawn}
 use Rattle.contribution.proofs.Cursor.{sumTo-none, record-next}
-use Rattle.scheme.specs.Opening.{Opened, nothing, opened, openedTo, wireKeys, wireExternals}
+use Rattle.scheme.specs.Opening.{Opened, nothing, opened, openedTo, wireKeys, wireExternals, rowAt}
 use Rattle.opening.specs.Step.{lower}
-use Rattle.opening.specs.Swept.{Put, Swept}
+use Rattle.opening.specs.Swept.{Stored, Swept}
 use Rattle.opening.proofs.Reached.{openedAt, Reached}
-use Rattle.opening.proofs.Maps.{getD-map}
 use Rattle.opening.proofs.Opens.{turnAt}
 
 -- a wire is its keys, its external value and that it fits
@@ -43,15 +42,16 @@ module _ (n K party : ℕ) (wires : List Wire) (contribution externals keys rows
   final = openedAt n K party wires contribution externals keys rows
 
   abbrev Stands : ℕ → ℕ → ℕ → List ℕ → List ℕ → Type 0
-  Stands w zero from wkeys wexternals = Reached n K party wires contribution externals keys rows w zero from wkeys wexternals
+  Stands w z from wkeys wexternals = Reached n K party wires contribution externals keys rows w z from wkeys wexternals
 
   pub reached-start : {zero : ℕ} {wkeys wexternals : List ℕ} → zero ≡ recordAt K wires 0 → length wkeys ≡ length wires * m → length wexternals ≡ length wires
       → Stands 0 zero 0 wkeys wexternals
+  unfolding rowAt
   reached-start e f g =
       record {
         turns = omega arith;
         zeroIs = e;
-        fromIs = sym (sumTo-none (λ v. rowsOf wires v * m));
+        fromIs = sym (zero-mul m) ∙ ap (λ (x : ℕ). x * m) (sym (sumTo-none (rowsOf wires)));
         keysSize = f;
         externalsSize = g;
         wire = λ v h. absurd (not-suc-le-zero h);
@@ -61,7 +61,7 @@ module _ (n K party : ℕ) (wires : List Wire) (contribution externals keys rows
   -- ---- a turn that found its multiplier
 
   module _ {w zero from : ℕ} {wkeys wexternals : List ℕ} (r : Stands w zero from wkeys wexternals) (made : w < length wires) {e : ℕ} {wkeys′ wexternals′ : List ℕ}
-      (put : Put (turnAt n K party wires w) (final w) wkeys wexternals e wkeys′ wexternals′) where
+      (put : Stored (turnAt n K party wires w) (final w) wkeys wexternals e wkeys′ wexternals′) where
     inside : w * m + length (put .out) ≤ length wkeys
     inside = omega (arith, times-fits w (length wires) m made, r .keysSize, put .size)
 
@@ -88,12 +88,12 @@ module _ (n K party : ℕ) (wires : List Wire) (contribution externals keys rows
 
     pub reached-step : {zero′ from′ : ℕ} → e < modulusAt wires w → zero′ ≡ zero + (K + 1) * recordKeysOf wires w → from′ ≡ from + rowsOf wires w * m
         → Stands (w + 1) zero′ from′ wkeys′ wexternals′
-    unfolding lower
+    unfolding lower rowAt
     reached-step {zero′} {from′} h ez ef =
         record {
           turns = omega arith;
           zeroIs = omega (arith, record-next K wires w, r .zeroIs);
-          fromIs = omega (arith, sumTo-next w (λ v. rowsOf wires v * m), r .fromIs);
+          fromIs = ef ∙ ap (λ (x : ℕ). x + rowsOf wires w * m) (r .fromIs) ∙ sym (add-mul (rowAt wires w) (rowsOf wires w) m) ∙ ap (λ (x : ℕ). x * m) (sym (sumTo-next w (rowsOf wires)));
           keysSize = kept-keys;
           externalsSize = kept-externals;
           wire = λ v l. wire-at v (decLt v w) l;
@@ -152,7 +152,7 @@ module _ (n K party : ℕ) (wires : List Wire) (contribution externals keys rows
         allExternals = λ _. (
             ext-getD 0 wexternals (map (λ (o : Opened). o .external) all)
             (r .externalsSize ∙ sym (length-map all (λ (o : Opened). o .external) ∙ opened-size))
-            (λ v l. ap (λ (o : Opened). o .external) (r .wire v (omega (arith, r .externalsSize))) ∙ sym (getD-map (λ (o : Opened). o .external) all v nothing)));
+            (λ v l. ap (λ (o : Opened). o .external) (r .wire v (omega (arith, r .externalsSize))) ∙ sym (List·getD-map (λ (o : Opened). o .external) all v nothing)));
       }
     where
       all : List Opened

@@ -27,8 +27,9 @@ pub record Rows (n K p : ℕ) (rows : List ℕ) (count : ℕ) : Type 0 where
   pub size : length rows ≡ count * (n * K)
   pub below : AllBelow p rows
 
--- what is lent to an opening of an accepted circuit of the code, once its checks have passed
-pub record Given (file : List ℕ) (circuit : Circuit) (n K party : ℕ) (contribution externals keys rows : List ℕ) : Type 0 where
+-- what is lent to an opening of a circuit of the code that some file was accepted as, once its checks have passed
+pub record Given (circuit : Circuit) (n K party : ℕ) (contribution externals keys rows : List ℕ) : Type 0 where
+  pub file : List ℕ
   pub held : Held circuit
   pub accepted : AcceptedCircuit file (wiresIn circuit) (outputsIn circuit)
   pub sizes : Sizes n K

@@ -1,96 +1,69 @@
--- One turn of the pass: the wire at hand, from what is cut out for it (its record, its modulus' offset, its own rows) and from the wires opened below it. The scheme's `openBy`
--- gives these. Only inner contracts cite this; that of the call cites the scheme's `Opening`.
+-- One turn of the pass: the scheme's `openFrom` at what the code has of the wire at hand (its zero key, its modulus' offset, its own rows) and of the wires
+-- opened below it. Only inner contracts cite this; that of the call cites the scheme's `opened`.
 -- Assumes nothing.
 use mathlib.Core.Path.{_≡_}
 use mathlib.Core.Bool.{true}
 use mathlib.Core.List.{List}
-use Prim.Native.Nat.{ℕ, _+_, _*_, _<_}
+use Prim.Native.Nat.{ℕ, _*_, _<_}
 use lib.Dec.{ltb}
 use lib.ListN.{getD}
 use Rattle.lists.specs.Blocks.{part, nthPiece}
-use Rattle.residue.specs.Residue.{add, sub, mul}
-use Rattle.residue.specs.Vector.{addV, subV, mulV}
 use Rattle.search.specs.Search.{multiplier}
-use Rattle.words.specs.declared.gate.Gate.{Gate}
+use Rattle.words.specs.declared.gate.Choice.{Choice as Chosen}
 use Rattle.counts.specs.declared.recipe.Recipe.{Recipe}
-use Rattle.counts.specs.declared.recipe.Recipe.the-variants.{Entered, Free, Table, Product, Choice}
-use Rattle.scheme.specs.Zero.{freely, freelyV}
-use Rattle.scheme.specs.Opening.{Opened}
+use Rattle.counts.specs.declared.recipe.Recipe.the-variants.{Entered, Sum, Multiple, Table, Product, Choice}
+use Rattle.pads.specs.Pad.{shakePad}
+use Rattle.scheme.specs.Opening.{Opened, bared, choiceKeys, differing, searched, openFrom, openInput}
 use Rattle.opening.specs.declared.turn.Turn.{Turn}
-use Rattle.opening.specs.Gate.{tableKeys, productKeys, choiceKeys}
 
--- what a turn gives: an external value below the modulus p exactly if a multiplier fits, and then the wire's keys and that value
-pub record Made (p : ℕ) (wire : Opened) (out : List ℕ) (r : ℕ) : Type 0 where
-  pub fits : wire .fits ≡ ltb r p
-  pub keys : r < p → out ≡ wire .keys
-  pub external : r < p → r ≡ wire .external
+-- what a turn gives: an external value below the modulus exactly if a multiplier fits, and then the wire's keys and that value
+pub record Made (turn : Turn) (wire : Opened) (out : List ℕ) (r : ℕ) : Type 0 where
+  pub fits : wire .fits ≡ ltb r (turn .modulus)
+  pub keys : r < turn .modulus → out ≡ wire .keys
+  pub external : r < turn .modulus → r ≡ wire .external
+
+-- the modulus of the wire that a table is over, 0 where there is no table
+abbrev pub overBy : Recipe → (ℕ → ℕ) → ℕ
+overBy Entered modulusOf = 0
+overBy (Sum g) modulusOf = 0
+overBy (Multiple g) modulusOf = 0
+overBy (Table g) modulusOf = modulusOf (g .a)
+overBy (Product g) modulusOf = 0
+overBy (Choice g) modulusOf = 0
+
+-- a wire whose keys and external value are at hand
+abbrev pub held : List ℕ → ℕ → Opened
+held keys external = record { keys = keys; external = external; fits = true }
 
 -- a wire below, as the two buffers hold it
 unfoldable pub lower : ℕ → List ℕ → List ℕ → ℕ → Opened
-lower m wkeys wexternals a = record { keys = nthPiece wkeys m a; external = getD wexternals a 0; fits = true }
+lower m wkeys wexternals a = held (nthPiece wkeys m a) (getD wexternals a 0)
 
--- the external value that the party's own key shows, the modulus where none fits
-unfoldable pub shown : Turn → List ℕ → List ℕ → ℕ
-shown turn contribution all =
+-- the multiplier of the party's own key, the modulus where none fits
+unfoldable pub multiplierAt : Turn → List ℕ → List ℕ → ℕ
+multiplierAt turn contribution all =
     multiplier (turn .modulus) (part contribution (turn .zero) (turn .k)) (part contribution (turn .offset) (turn .k))
     (nthPiece all (turn .k) (turn .party))
 
-unfoldable pub sought : Turn → List ℕ → List ℕ → Opened
-sought turn contribution all =
-    record { keys = all; external = shown turn contribution all; fits = ltb (shown turn contribution all) (turn .modulus) }
+-- row r of the wire's own rows without its pads
+abbrev pub baredAt : Turn → List ℕ → ℕ → ℕ → List ℕ → ℕ → List ℕ
+baredAt turn rows q component senders r =
+    bared shakePad (turn .n) (turn .k) (turn .wire) (turn .modulus) rows q component senders r
 
--- an input
-unfoldable pub given : Turn → List ℕ → List ℕ → Opened
-given turn externals keys =
-    record { keys = nthPiece keys (turn .n * turn .k) (turn .wire); external = getD externals (turn .wire) 0; fits = true }
+-- the wire by its recipe; `given` where it is an input
+unfoldable pub openBy : Turn → Opened → List ℕ → List ℕ → List ℕ → List ℕ → Recipe → Opened
+openBy turn given contribution rows wkeys wexternals how =
+    openFrom shakePad (turn .n) (turn .k) (turn .wire) (turn .modulus) (λ _. turn .over) (multiplierAt turn contribution) rows given
+    (lower (turn .n * turn .k) wkeys wexternals) how
 
--- a free gate
-unfoldable pub summed : ℕ → Opened → Opened → Opened
-summed p a b = record { keys = addV p (a .keys) (b .keys); external = add p (a .external) (b .external); fits = true }
+-- .. with what is given on the inputs
+unfoldable pub openAt : Turn → List ℕ → List ℕ → List ℕ → List ℕ → List ℕ → List ℕ → Recipe → Opened
+openAt turn contribution externals keys rows wkeys wexternals how =
+    openBy turn (openInput (turn .n) (turn .k) externals keys (turn .wire)) contribution rows wkeys wexternals how
 
-unfoldable pub multiplied : ℕ → ℕ → Opened → Opened
-multiplied p c a = record { keys = mulV p c (a .keys); external = mul p c (a .external); fits = true }
-
-unfoldable pub openedFree : ℕ → Gate → (ℕ → Opened) → Opened
-openedFree p gate look =
-    record { keys = freelyV p gate (λ a. look a .keys); external = freely p gate (λ a. look a .external); fits = true }
-
--- one wire added to another, where that one fits
-unfoldable pub raised : ℕ → Opened → Opened → Opened
-raised p h a = record { keys = addV p (h .keys) (a .keys); external = add p (h .external) (a .external); fits = h .fits }
-
--- a gate with rows of its own
-module _ (turn : Turn) (contribution rows : List ℕ) where
-  unfoldable pub row : ℕ → List ℕ
-  row r = nthPiece rows (turn .n * turn .k) r
-
-  unfoldable pub byTable : ℕ → Opened → Opened
-  byTable p a =
-      sought turn contribution (tableKeys (turn .n) (turn .k) (turn .wire) (turn .modulus) p (a .keys) (row (a .external)))
-
-  unfoldable pub byProduct : Opened → Opened → Opened
-  byProduct a b =
-      sought turn contribution
-      (productKeys (turn .n) (turn .k) (turn .wire) (turn .modulus) (a .keys) (b .keys) (b .external) (row (a .external))
-      (row (turn .modulus + b .external)))
-
-  -- a choice before the first branch is added: h
-  unfoldable pub heldBack : Opened → Opened → Opened → Opened
-  heldBack bit a b =
-      sought turn contribution
-      (choiceKeys (turn .n) (turn .k) (turn .wire) (turn .modulus) (bit .external) (bit .keys)
-      (subV (turn .modulus) (b .keys) (a .keys)) (row (bit .external))
-      (row (2 + bit .external * turn .modulus + sub (turn .modulus) (b .external) (a .external))))
-
-  unfoldable pub byChoice : Opened → Opened → Opened → Opened
-  byChoice bit a b = raised (turn .modulus) (heldBack bit a b) a
-
--- any wire, by its recipe
-unfoldable pub wireBy : Turn → (ℕ → ℕ) → List ℕ → List ℕ → List ℕ → List ℕ → (ℕ → Opened) → Gate → Recipe → Opened
-wireBy turn modulusOf contribution externals keys rows look gate Entered = given turn externals keys
-wireBy turn modulusOf contribution externals keys rows look gate Free = openedFree (turn .modulus) gate look
-wireBy turn modulusOf contribution externals keys rows look gate (Table a) = byTable turn contribution rows (modulusOf a) (look a)
-wireBy turn modulusOf contribution externals keys rows look gate (Product g) =
-    byProduct turn contribution rows (look (g .a)) (look (g .b))
-wireBy turn modulusOf contribution externals keys rows look gate (Choice g) =
-    byChoice turn contribution rows (look (g .bit)) (look (g .a)) (look (g .b))
+-- a choice before the first branch is added: h
+unfoldable pub heldBack : Turn → List ℕ → List ℕ → List ℕ → List ℕ → Chosen → Opened
+heldBack turn contribution rows wkeys wexternals g =
+    searched (turn .modulus) (multiplierAt turn contribution)
+    (choiceKeys shakePad (turn .n) (turn .k) (turn .wire) (turn .modulus) rows (lower (turn .n * turn .k) wkeys wexternals (g .bit))
+    (differing (turn .modulus) (lower (turn .n * turn .k) wkeys wexternals (g .b)) (lower (turn .n * turn .k) wkeys wexternals (g .a))))

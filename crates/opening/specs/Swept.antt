@@ -3,7 +3,7 @@
 use mathlib.Core.Path.{_≡_}
 use mathlib.Core.Bool.{not}
 use mathlib.Core.List.{List}
-use Prim.Native.Nat.{ℕ, _*_, _≤_}
+use Prim.Native.Nat.{ℕ, _+_, _*_, _≤_, _<_}
 use lib.ListN.{length, getD, set}
 use Rattle.lists.specs.Blocks.{written}
 use Rattle.lists.specs.First.{first}
@@ -14,11 +14,16 @@ use Rattle.scheme.specs.Opening.{Opened, opened, wireKeys, wireExternals, nothi
 use Rattle.opening.specs.declared.turn.Turn.{Turn}
 use Rattle.opening.specs.Step.{Made}
 
+-- the two buffers have a place for the wire at hand
+pub record Room (turn : Turn) (wkeys wexternals : List ℕ) : Type 0 where
+  pub keys : turn .wire * (turn .n * turn .k) + turn .n * turn .k ≤ length wkeys
+  pub external : turn .wire < length wexternals
+
 -- one turn: keys and external value stand at the wire's place
-pub record Put (turn : Turn) (wire : Opened) (wkeys₀ wexternals₀ : List ℕ) (r : ℕ) (wkeys wexternals : List ℕ) : Type 0 where
+pub record Stored (turn : Turn) (wire : Opened) (wkeys₀ wexternals₀ : List ℕ) (r : ℕ) (wkeys wexternals : List ℕ) : Type 0 where
   pub out : List ℕ
   pub size : length out ≡ turn .n * turn .k
-  pub made : Made (turn .modulus) wire out r
+  pub made : Made turn wire out r
   pub keys : wkeys ≡ written wkeys₀ (turn .wire * (turn .n * turn .k)) out
   pub externals : wexternals ≡ set wexternals₀ (turn .wire) r
 

@@ -3,212 +3,115 @@ ghost use mathlib.Core.Path.{_≡_};
 ghost use Prim.Native.Nat.{_+_, _*_, _≤_, _<_};
 ghost use lib.ListN.{length};
 ghost use Rattle.lists.specs.Blocks.{nthPiece};
-ghost use Rattle.residue.specs.Residue.{sub};
-ghost use Rattle.residue.specs.Vector.{addV, subV, AllBelow};
-ghost use Rattle.opening.specs.Gate.{bared, tableKeys, productKeys, chooserKeys, choiceKeys};
-ghost use Rattle.session.specs.Sizes.{Sizes, Vector};
+ghost use Rattle.session.specs.Sizes.{Vector};
+ghost use Rattle.pads.specs.Pad.{shakePad};
+ghost use Rattle.scheme.specs.Opening.{tableKeys, productKeys, chosen, corrector, choiceKeys};
 ghost use Rattle.opening.specs.Given.{Rows};
-ghost use lib.Dec.{eqb};
-use contribution::scratch;
-use lists::copy;
+ghost use Rattle.opening.specs.Step.{held, baredAt};
+ghost use Rattle.opening.specs.Ready.{Seated};
+use super::row::add_bare;
+use super::row::bare;
+use super::turn::Turn;
+use lists::byte_index;
 use lists::nth_piece;
+use lists::piece;
+use pads::Bound;
 use residue::add_multiple;
+use search::chosen_corrector;
 
-// out := a row without its pads
-fn bare(
-    w: u32,
-    component: u8,
-    n: usize,
-    k: usize,
-    q: u8,
-    p: u8,
-    keys: &[u8],
-    row: &[u8],
-    out: &mut [u8],
-)
-    requires { ⌜ Sizes n k × ((1 < q) × AllBelow q (now row)) ⌝ }
-    requires { ⌜ Vector n k (now keys) × (Vector n k (now row) × Vector n k (now out)) ⌝ }
-    ensures { λ _. ⌜ now (out .exit) ≡ bared n k w q p component (now (keys .entry)) (now (row .entry)) ⌝ }
+// A table: the row of a's external value, under a's keys.
+pub fn open_table(turn: Turn, a: &[u8], ea: u8, rows: &[u8], out: &mut [u8])
+    requires { ⌜ Seated turn × (Rows (turn .n) (turn .k) (turn .modulus) (now rows) (turn .over) × (ea < turn .over)) ⌝ }
+    requires { ⌜ Vector (turn .n) (turn .k) (now a) × Vector (turn .n) (turn .k) (now out) ⌝ }
+    ensures { λ _. ⌜ now (out .exit) ≡ tableKeys shakePad (turn .n) (turn .k) (turn .wire) (turn .modulus) (now (rows .entry)) (turn .over) (held (now (a .entry)) ea) ⌝ }
 {
-    copy(&mut *out, row);
-    pads::sub_pad_row(q, p, w, component, n, k, keys, out);
-}
-
-// out := out + a row without its pads
-fn add_bare(
-    w: u32,
-    component: u8,
-    n: usize,
-    k: usize,
-    p: u8,
-    keys: &[u8],
-    row: &[u8],
-    out: &mut [u8],
-)
-    requires { ⌜ Sizes n k × (1 < p) ⌝ }
-    requires { ⌜ Vector n k (now keys) × (Vector n k (now row) × Vector n k (now out)) ⌝ }
-    ensures { λ _. ⌜ now (out .exit) ≡ addV p (now (out .entry)) (bared n k w p p component (now (keys .entry)) (now (row .entry))) ⌝ }
-{
-    add_multiple(p, 1, row, &mut *out);
-    pads::sub_pad_row(p, p, w, component, n, k, keys, out);
-}
-
-fn index(e: u8) -> usize
-    ensures { λ r. ⌜ r ≡ e ⌝ }
-{
-    e as usize
-}
-
-// A projection from modulus `p` to `q`: the row of a's external value, under a's keys.
-pub fn open_table(
-    w: u32,
-    n: usize,
-    k: usize,
-    p: u8,
-    q: u8,
-    a: &[u8],
-    ea: u8,
-    rows: &[u8],
-    out: &mut [u8],
-)
-    requires { ⌜ Sizes n k × (Rows n k q (now rows) p × (ea < p)) ⌝ }
-    requires { ⌜ Vector n k (now a) × Vector n k (now out) ⌝ }
-    ensures { λ _. ⌜ now (out .exit) ≡ tableKeys n k w q p (now (a .entry)) (nthPiece (now (rows .entry)) (n * k) ea) ⌝ }
-{
-    let row = nth_piece(rows, n * k, index(ea));
-    bare(w, 0, n, k, q, p, a, row, out);
+    let n = turn.n;
+    let k = turn.k;
+    let row = nth_piece(rows, n * k, byte_index(ea));
+    let bound = Bound {
+        modulus: turn.over,
+        wire: turn.wire,
+        component: 0,
+    };
+    bare(n, k, turn.modulus, bound, a, row, out);
 }
 
 // A product: a row of each component, under a's keys and b's.
-pub fn open_product(
-    w: u32,
-    n: usize,
-    k: usize,
-    p: u8,
-    a: &[u8],
-    ea: u8,
-    b: &[u8],
-    eb: u8,
-    rows: &[u8],
-    out: &mut [u8],
-)
-    requires { ⌜ Sizes n k × (Rows n k p (now rows) (2 * p) × ((ea < p) × (eb < p))) ⌝ }
-    requires { ⌜ Vector n k (now a) × (Vector n k (now b) × Vector n k (now out)) ⌝ }
-    ensures { λ _. ⌜ now (out .exit) ≡ productKeys n k w p (now (a .entry)) (now (b .entry)) eb (nthPiece (now (rows .entry)) (n * k) ea) (nthPiece (now (rows .entry)) (n * k) (p + eb)) ⌝ }
+pub fn open_product(turn: Turn, a: &[u8], ea: u8, b: &[u8], eb: u8, rows: &[u8], out: &mut [u8])
+    requires { ⌜ Seated turn × (Rows (turn .n) (turn .k) (turn .modulus) (now rows) (2 * turn .modulus) × ((ea < turn .modulus) × (eb < turn .modulus))) ⌝ }
+    requires { ⌜ Vector (turn .n) (turn .k) (now a) × (Vector (turn .n) (turn .k) (now b) × Vector (turn .n) (turn .k) (now out)) ⌝ }
+    ensures { λ _. ⌜ now (out .exit) ≡ productKeys shakePad (turn .n) (turn .k) (turn .wire) (turn .modulus) (now (rows .entry)) (held (now (a .entry)) ea) (held (now (b .entry)) eb) ⌝ }
 {
+    let n = turn.n;
+    let k = turn.k;
+    let p = turn.modulus;
     let m = n * k;
-    let row = nth_piece(rows, m, index(ea));
-    bare(w, 0, n, k, p, p, a, row, &mut *out);
-    let second = nth_piece(rows, m, index(p) + index(eb));
-    add_bare(w, 1, n, k, p, b, second, &mut *out);
+    let first = Bound {
+        modulus: p,
+        wire: turn.wire,
+        component: 0,
+    };
+    let row = nth_piece(rows, m, byte_index(ea));
+    bare(n, k, p, first, a, row, &mut *out);
+    let next = Bound {
+        modulus: p,
+        wire: turn.wire,
+        component: 1,
+    };
+    let second = nth_piece(rows, m, byte_index(p) + byte_index(eb));
+    add_bare(n, k, p, next, b, second, &mut *out);
     add_multiple(p, eb, a, out);
 }
 
 // The chooser's row, under the bit's keys; for 1 the difference's keys are added.
-fn open_chooser(
-    w: u32,
-    n: usize,
-    k: usize,
-    p: u8,
-    v: &[u8],
-    bit: u8,
-    d: &[u8],
-    row: &[u8],
-    out: &mut [u8],
-)
-    requires { ⌜ Sizes n k × ((1 < p) × AllBelow p (now row)) ⌝ }
-    requires { ⌜ Vector n k (now v) × (Vector n k (now d) × (Vector n k (now row) × Vector n k (now out))) ⌝ }
-    ensures { λ _. ⌜ now (out .exit) ≡ chooserKeys (eqb bit 0) p (bared n k w p 2 0 (now (v .entry)) (now (row .entry))) (now (d .entry)) ⌝ }
+fn open_chooser(turn: Turn, v: &[u8], bit: u8, d: &[u8], rows: &[u8], out: &mut [u8])
+    requires { ⌜ Seated turn × (Rows (turn .n) (turn .k) (turn .modulus) (now rows) (2 * turn .modulus + 2) × (bit < 2)) ⌝ }
+    requires { ⌜ Vector (turn .n) (turn .k) (now v) × (Vector (turn .n) (turn .k) (now d) × Vector (turn .n) (turn .k) (now out)) ⌝ }
+    ensures { λ _. ⌜ now (out .exit) ≡ chosen bit (turn .modulus) (baredAt turn (now (rows .entry)) 2 0 (now (v .entry)) bit) (now (d .entry)) ⌝ }
 {
-    bare(w, 0, n, k, p, 2, v, row, &mut *out);
+    let n = turn.n;
+    let k = turn.k;
+    let row = nth_piece(rows, n * k, byte_index(bit));
+    let bound = Bound {
+        modulus: 2,
+        wire: turn.wire,
+        component: 0,
+    };
+    bare(n, k, turn.modulus, bound, v, row, &mut *out);
     if bit == 0 {
         return;
     }
-    add_multiple(p, 1, d, out);
+    add_multiple(turn.modulus, 1, d, out);
 }
 
 // The row of the corrector that the bit's external value names. The correctors' rows stand behind the chooser's two, `p` rows each.
 fn corrector_row(rows: &[u8], m: usize, p: u8, bit: u8, alpha: u8) -> &[u8]
-    requires { ⌜ (length (now rows) ≡ (2 * p + 2) * m) × ((bit < 2) × ((alpha < p) × (m ≤ 1024))) ⌝ }
-    ensures { λ r. ⌜ (now r ≡ nthPiece (now (rows .entry)) m (2 + bit * p + alpha)) × (length (now r) ≡ m) ⌝ }
+    requires { ⌜ (length (now rows) ≡ (2 * p + 2) * m) × ((alpha < p) × (m ≤ 1024)) ⌝ }
+    ensures { λ r. ⌜ (now r ≡ nthPiece (now (rows .entry)) m (corrector p bit alpha)) × (length (now r) ≡ m) ⌝ }
 {
-    let width = index(p) * m;
+    let width = byte_index(p) * m;
     let from = 2 * m;
-    let first = lists::piece(rows, from, width);
-    let second = lists::piece(rows, from + width, width);
-    search::chosen_corrector(first, second, bit, index(alpha) * m, m)
-}
-
-// A choice, with the keys of the difference in `d`.
-fn open_by(
-    w: u32,
-    n: usize,
-    k: usize,
-    p: u8,
-    v: &[u8],
-    bit: u8,
-    d: &[u8],
-    alpha: u8,
-    rows: &[u8],
-    out: &mut [u8],
-)
-    requires { ⌜ Sizes n k × (Rows n k p (now rows) (2 * p + 2) × ((bit < 2) × (alpha < p))) ⌝ }
-    requires { ⌜ Vector n k (now v) × (Vector n k (now d) × Vector n k (now out)) ⌝ }
-    ensures { λ _. ⌜ now (out .exit) ≡ choiceKeys n k w p bit (now (v .entry)) (now (d .entry)) (nthPiece (now (rows .entry)) (n * k) bit) (nthPiece (now (rows .entry)) (n * k) (2 + bit * p + alpha)) ⌝ }
-{
-    let m = n * k;
-    let row = nth_piece(rows, m, index(bit));
-    open_chooser(w, n, k, p, v, bit, d, row, &mut *out);
-    let corrector = corrector_row(rows, m, p, bit, alpha);
-    add_bare(w, 1 + bit, n, k, p, d, corrector, out);
-}
-
-// A choice, with work memory for the keys of the difference b − a.
-fn open_with(
-    w: u32,
-    n: usize,
-    k: usize,
-    p: u8,
-    v: &[u8],
-    bit: u8,
-    a: &[u8],
-    b: &[u8],
-    alpha: u8,
-    rows: &[u8],
-    d: &mut [u8],
-    out: &mut [u8],
-)
-    requires { ⌜ Sizes n k × (Rows n k p (now rows) (2 * p + 2) × ((bit < 2) × (alpha < p))) ⌝ }
-    requires { ⌜ Vector n k (now v) × (Vector n k (now a) × (Vector n k (now b) × Vector n k (now out))) ⌝ }
-    requires { ⌜ Vector n k (now d) ⌝ }
-    ensures { λ _. ⌜ now (out .exit) ≡ choiceKeys n k w p bit (now (v .entry)) (subV p (now (b .entry)) (now (a .entry))) (nthPiece (now (rows .entry)) (n * k) bit) (nthPiece (now (rows .entry)) (n * k) (2 + bit * p + alpha)) ⌝ }
-{
-    residue::difference(p, b, a, &mut *d);
-    open_by(w, n, k, p, v, bit, &*d, alpha, rows, out);
+    let first = piece(rows, from, width);
+    let second = piece(rows, from + width, width);
+    chosen_corrector(first, second, bit, byte_index(alpha) * m, m)
 }
 
 // A choice: the chooser's row, under the bit's keys, and the row of the corrector that the bit's external value names, under those
-// of the difference b − a.
-pub fn open_choice(
-    w: u32,
-    n: usize,
-    k: usize,
-    p: u8,
-    v: &[u8],
-    bit: u8,
-    a: &[u8],
-    ea: u8,
-    b: &[u8],
-    eb: u8,
-    rows: &[u8],
-    out: &mut [u8],
-)
-    requires { ⌜ Sizes n k × (Rows n k p (now rows) (2 * p + 2) × ((bit < 2) × ((ea < p) × (eb < p)))) ⌝ }
-    requires { ⌜ Vector n k (now v) × (Vector n k (now a) × (Vector n k (now b) × Vector n k (now out))) ⌝ }
-    ensures { λ _. ⌜ now (out .exit) ≡ choiceKeys n k w p bit (now (v .entry)) (subV p (now (b .entry)) (now (a .entry))) (nthPiece (now (rows .entry)) (n * k) bit) (nthPiece (now (rows .entry)) (n * k) (2 + bit * p + sub p eb ea)) ⌝ }
+// of the difference `d`.
+pub fn open_choice(turn: Turn, v: &[u8], bit: u8, d: &[u8], alpha: u8, rows: &[u8], out: &mut [u8])
+    requires { ⌜ Seated turn × (Rows (turn .n) (turn .k) (turn .modulus) (now rows) (2 * turn .modulus + 2) × ((bit < 2) × (alpha < turn .modulus))) ⌝ }
+    requires { ⌜ Vector (turn .n) (turn .k) (now v) × (Vector (turn .n) (turn .k) (now d) × Vector (turn .n) (turn .k) (now out)) ⌝ }
+    ensures { λ _. ⌜ now (out .exit) ≡ choiceKeys shakePad (turn .n) (turn .k) (turn .wire) (turn .modulus) (now (rows .entry)) (held (now (v .entry)) bit) (held (now (d .entry)) alpha) ⌝ }
 {
-    let m = n * k;
-    let alpha = residue::sub(p, eb, ea);
-    let mut d = scratch();
-    open_with(w, n, k, p, v, bit, a, b, alpha, rows, &mut d[..m], out);
+    let n = turn.n;
+    let k = turn.k;
+    let p = turn.modulus;
+    open_chooser(turn, v, bit, d, rows, &mut *out);
+    let row = corrector_row(rows, n * k, p, bit, alpha);
+    let bound = Bound {
+        modulus: p,
+        wire: turn.wire,
+        component: 1 + bit,
+    };
+    add_bare(n, k, p, bound, d, row, out);
 }

@@ -22,7 +22,7 @@ use Rattle.residue.proofs.Vectors.{zip-length, zip-below, add-below, sub-below}
 use Rattle.residue.proofs.VectorRing.{vring}
 use Rattle.residue.proofs.VectorRing.VExpr.{vec, _⊞_, _⊟_}
 use Rattle.pads.specs.Moved.{shifted, moved, Asked}
-use Rattle.pads.specs.Pad.{Under, padInput, shakePad, padSum, padRow}
+use Rattle.pads.specs.Pad.{Under, bound, shakePad, padSum, padRow}
 use Rattle.pads.proofs.Sizes.{shakePad-length, padSum-length}
 
 moved-length : (minus : Bool) (q : ℕ) (xs ys : List ℕ) → length xs ≡ length ys → length (moved minus q xs ys) ≡ length xs
@@ -87,7 +87,7 @@ module _ (minus : Bool) (q : ℕ) (under : Under) (keys : List ℕ) (receiver : 
   unfolding padSum
   senders-none a = sym (moved-zeros minus (omega arith) out₀ (a .below))
 
-  pads-next : (j : ℕ) → pads (j + 1) ≡ addV q (pads j) (shakePad q (length out₀) (padInput under receiver (nthPiece keys (length out₀) j)))
+  pads-next : (j : ℕ) → pads (j + 1) ≡ addV q (pads j) (shakePad q (length out₀) (bound under receiver (nthPiece keys (length out₀) j)))
   unfolding padSum
   pads-next j = rw add-one refl
 
@@ -98,13 +98,13 @@ module _ (minus : Bool) (q : ℕ) (under : Under) (keys : List ℕ) (receiver : 
     pub senders-asked : Asked q (length out₀) out₀ → Asked q (length out) out
     senders-asked a = record { modulus = a .modulus; short = omega (arith, senders-length); below = rw e (moved-below minus (omega arith) out₀ (pads j)) }
 
-    pub senders-more : {key out′ : List ℕ} → 1 < q → key ≡ nthPiece keys (length out₀) j → out′ ≡ moved minus q out (shakePad q (length out) (padInput under receiver key))
+    pub senders-more : {key out′ : List ℕ} → 1 < q → key ≡ nthPiece keys (length out₀) j → out′ ≡ moved minus q out (shakePad q (length out) (bound under receiver key))
         → out′ ≡ moved minus q out₀ (pads (j + 1))
     senders-more {key} {out′} h k t =
-        let pad : List ℕ = shakePad q (length out₀) (padInput under receiver (nthPiece keys (length out₀) j)) in
+        let pad : List ℕ = shakePad q (length out₀) (bound under receiver (nthPiece keys (length out₀) j)) in
         t
-        ∙ ap (λ (m : ℕ). moved minus q out (shakePad q m (padInput under receiver key))) senders-length
-        ∙ ap (λ (l : List ℕ). moved minus q out (shakePad q (length out₀) (padInput under receiver l))) k
+        ∙ ap (λ (m : ℕ). moved minus q out (shakePad q m (bound under receiver key))) senders-length
+        ∙ ap (λ (l : List ℕ). moved minus q out (shakePad q (length out₀) (bound under receiver l))) k
         ∙ ap (λ (l : List ℕ). moved minus q l pad) e
         ∙ moved-twice minus (omega arith) out₀ (pads j) pad (sized j) (sym (shakePad-length q (length out₀) _))
         ∙ ap (λ (l : List ℕ). moved minus q out₀ l) (sym (pads-next j))

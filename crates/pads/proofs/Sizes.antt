@@ -11,7 +11,7 @@ use Rattle.shake.proofs.Squeezed.{squeezed-length}
 use Rattle.shake.proofs.Numbers.{numbers-length}
 use Rattle.lists.proofs.Blocks.{length-blocks-same}
 use Rattle.residue.proofs.Vectors.{addV-length}
-use Rattle.pads.specs.Pad.{Under, Pad, shakePad, padSum, padRow}
+use Rattle.pads.specs.Pad.{Under, Pad, padInput, shakePad, padSum, padRow}
 
 -- ---- the pad itself
 
@@ -28,7 +28,7 @@ output-length m d = squeezed-length d _ (blocks25 _ _ _ (length-replicate {A = �
 pub shakePad-length : (q K : ℕ) (input : List ℕ) → length (shakePad q K input) ≡ K
 unfolding shakePad
 shakePad-length q K input =
-    length-map (numbers (shake256 input (8 * K))) _ ∙ numbers-length (shake256 input (8 * K)) K (output-length input (8 * K))
+    length-map (numbers (shake256 (padInput input) (8 * K))) _ ∙ numbers-length (shake256 (padInput input) (8 * K)) K (output-length (padInput input) (8 * K))
 
 -- ---- sums and rows, of any pad that has the key's length
 

@@ -10,7 +10,8 @@ use Rattle.shake.specs.Stream.{withField, empty}
 use Rattle.shake.specs.declared.Sponge.{Sponge}
 use Rattle.shake.proofs.Bytes.{Bytes, bytes-none, bytes-cons, bytes-append}
 use Rattle.shake.proofs.Fields.{fields}
-use Rattle.pads.specs.Pad.{rowpad, Under, padInput}
+use Rattle.pads.specs.Pad.{rowpad, Under, bound, padInput}
+use Rattle.pads.specs.Binding.{sixFields}
 
 -- one field each for modulus, component and receiver
 pub one-message : (s : Sponge) (tag : List ℕ) (modulus : ℕ) (wire : List ℕ) (component receiver : ℕ) (key : List ℕ)
@@ -21,9 +22,8 @@ one-message s tag modulus wire component receiver key =
 
 -- the sponge after the six fields of a pad input
 pub takes-input : (under : Under) (receiver : ℕ) (key wire : List ℕ) {r : Sponge} → wire ≡ bytesOf 4 (under .wire)
-    → r ≡ withField (withField (withField (withField (withField (withField empty rowpad) (under .modulus ∷ [])) wire) (under .component ∷ [])) (receiver ∷ [])) key
-    → r ≡ withField empty (padInput under receiver key)
-unfolding padInput
+    → r ≡ sixFields rowpad (under .modulus ∷ []) wire (under .component ∷ []) (receiver ∷ []) key → r ≡ withField empty (padInput (bound under receiver key))
+unfolding padInput bound
 takes-input under receiver key wire e h = h ∙ one-message empty rowpad (under .modulus) wire (under .component) receiver key ∙ rw e
 
 bytesOf-bytes : (n x : ℕ) → Bytes (bytesOf n x)
@@ -36,8 +36,8 @@ unfolding rowpad
 rowpad-bytes =
     bytes-cons 82 (79 ∷ 87 ∷ 80 ∷ 65 ∷ 68 ∷ []) (lit< tt) (bytes-cons 79 (87 ∷ 80 ∷ 65 ∷ 68 ∷ []) (lit< tt) (bytes-cons 87 (80 ∷ 65 ∷ 68 ∷ []) (lit< tt) (bytes-cons 80 (65 ∷ 68 ∷ []) (lit< tt) (bytes-cons 65 (68 ∷ []) (lit< tt) (bytes-cons 68 [] (lit< tt) bytes-none)))))
 
-pub input-bytes : (under : Under) (receiver : ℕ) (key : List ℕ) → under .modulus < 256 → under .component < 256 → receiver < 256 → Bytes key → Bytes (padInput under receiver key)
-unfolding padInput
+pub input-bytes : (under : Under) (receiver : ℕ) (key : List ℕ) → under .modulus < 256 → under .component < 256 → receiver < 256 → Bytes key → Bytes (padInput (bound under receiver key))
+unfolding padInput bound
 input-bytes under receiver key m c r k =
     let end : List ℕ = under .component ∷ receiver ∷ key in
     let middle : List ℕ = bytesOf 4 (under .wire) ++ end in

@@ -1,3 +1,4 @@
 pub mod Pad
 pub mod Factored
 pub mod Moved
+pub mod Binding

@@ -22,17 +22,20 @@ pub record Under : Type 0 where
 abbrev pub placed : ℕ → ℕ → ℕ → Under
 placed modulus wire component = record { modulus = modulus; wire = wire; component = component }
 
--- ROWPAD, the sender key's modulus (1 byte), the output wire's number (4 bytes, little-endian), component (1), receiver (1), the K bytes
--- of the sender's key
-unfoldable pub padInput : Under → ℕ → List ℕ → List ℕ
-padInput under receiver key =
-    rowpad ++ (under .modulus ∷ (bytesOf 4 (under .wire) ++ (under .component ∷ receiver ∷ key)))
+-- what a pad is bound to: the sender key's modulus (1 byte), the output wire's number (4 bytes, little-endian), component (1),
+-- receiver (1), the K bytes of the sender's key
+unfoldable pub bound : Under → ℕ → List ℕ → List ℕ
+bound under receiver key = under .modulus ∷ (bytesOf 4 (under .wire) ++ (under .component ∷ receiver ∷ key))
+
+-- what the sponge takes: the pad's own front, and what it is bound to
+unfoldable pub padInput : List ℕ → List ℕ
+padInput input = rowpad ++ input
 
 -- of 8K squeezed bytes, each 8 make a little-endian number, reduced modulo the receiving modulus q
 unfoldable pub shakePad : ℕ → ℕ → List ℕ → List ℕ
-shakePad q K input = map (λ x. x % q) (numbers (shake256 input (8 * K)))
+shakePad q K input = map (λ x. x % q) (numbers (shake256 (padInput input) (8 * K)))
 
--- any function of the receiving modulus, the key length and the sponge's input that could stand for it
+-- any function of the receiving modulus, the key length and what the pad is bound to that could stand for it
 abbrev pub Pad : Type 0
 Pad = ℕ → ℕ → List ℕ → List ℕ
 
@@ -40,7 +43,7 @@ module _ (pad : Pad) (K q : ℕ) (under : Under) (keys : List ℕ) where
   -- the pads of the first senders for a receiver, summed; sender j's key is part j of the keys
   unfoldable pub padSum : ℕ → ℕ → List ℕ
   padSum receiver zero = replicate K 0
-  padSum receiver (suc j) = addV q (padSum receiver j) (pad q K (padInput under receiver (nthPiece keys K j)))
+  padSum receiver (suc j) = addV q (padSum receiver j) (pad q K (bound under receiver (nthPiece keys K j)))
 
   -- the pads of all n senders for all n receivers
   unfoldable pub padRow : ℕ → List ℕ

@@ -6,7 +6,9 @@ ghost use lib.ListN.{length};
 ghost use Rattle.residue.specs.Vector.{addV, subV};
 ghost use Rattle.pads.specs.Factored.{FactorsOf};
 ghost use Rattle.pads.specs.Moved.{reduced, moved, Asked, Row};
-ghost use Rattle.pads.specs.Pad.{padInput, shakePad, padSum, padRow, placed};
+ghost use Rattle.pads.specs.Pad.{shakePad, padSum, padRow};
+ghost use Rattle.pads.specs.Binding.{underOf, boundBy};
+use crate::input::Bound;
 use crate::input::pad_numbers;
 use crate::remainder::Factors;
 use crate::remainder::factors_of;
@@ -30,9 +32,7 @@ fn move_pad(
     minus: bool,
     q: u8,
     f: Factors,
-    modulus: u8,
-    wire: u32,
-    component: u8,
+    bound: Bound,
     receiver: u8,
     key: &[u8],
     numbers: &mut [u64],
@@ -41,10 +41,10 @@ fn move_pad(
     requires { ⌜ FactorsOf q f ⌝ }
     requires { ⌜ Asked q (length (now out)) (now out) ⌝ }
     requires { ⌜ length (now numbers) ≡ 128 ⌝ }
-    ensures { λ _. ⌜ now (out .exit) ≡ moved minus q (now (out .entry)) (shakePad q (length (now (out .entry))) (padInput (placed modulus wire component) receiver (now (key .entry)))) ⌝ }
+    ensures { λ _. ⌜ now (out .exit) ≡ moved minus q (now (out .entry)) (shakePad q (length (now (out .entry))) (boundBy bound receiver (now (key .entry)))) ⌝ }
 {
     let k = out.len();
-    pad_numbers(modulus, wire, component, receiver, key, &mut numbers[..k]);
+    pad_numbers(bound, receiver, key, &mut numbers[..k]);
     move_numbers(minus, q, f, &numbers[..k], out);
 }
 
@@ -53,9 +53,7 @@ fn move_pads(
     minus: bool,
     q: u8,
     f: Factors,
-    modulus: u8,
-    wire: u32,
-    component: u8,
+    bound: Bound,
     receiver: u8,
     n: usize,
     keys: &[u8],
@@ -66,24 +64,13 @@ fn move_pads(
     requires { ⌜ Asked q (length (now out)) (now out) ⌝ }
     requires { ⌜ length (now numbers) ≡ 128 ⌝ }
     requires { ⌜ length (now keys) ≡ n * length (now out) ⌝ }
-    ensures { λ _. ⌜ now (out .exit) ≡ moved minus q (now (out .entry)) (padSum shakePad (length (now (out .entry))) q (placed modulus wire component) (now (keys .entry)) receiver n) ⌝ }
+    ensures { λ _. ⌜ now (out .exit) ≡ moved minus q (now (out .entry)) (padSum shakePad (length (now (out .entry))) q (underOf bound) (now (keys .entry)) receiver n) ⌝ }
 {
     let k = out.len();
     let mut j = 0;
     while j < n {
         let key = lists::nth_piece(keys, k, j);
-        move_pad(
-            minus,
-            q,
-            f,
-            modulus,
-            wire,
-            component,
-            receiver,
-            key,
-            &mut *numbers,
-            &mut *out,
-        );
+        move_pad(minus, q, f, bound, receiver, key, &mut *numbers, &mut *out);
         j += 1;
     }
 }
@@ -93,9 +80,7 @@ fn move_pad_row(
     minus: bool,
     q: u8,
     f: Factors,
-    modulus: u8,
-    wire: u32,
-    component: u8,
+    bound: Bound,
     n: usize,
     k: usize,
     keys: &[u8],
@@ -106,7 +91,7 @@ fn move_pad_row(
     requires { ⌜ Asked q k (now out) ⌝ }
     requires { ⌜ length (now numbers) ≡ 128 ⌝ }
     requires { ⌜ Row n k (now keys) (now out) ⌝ }
-    ensures { λ _. ⌜ now (out .exit) ≡ moved minus q (now (out .entry)) (padRow shakePad k q (placed modulus wire component) (now (keys .entry)) n) ⌝ }
+    ensures { λ _. ⌜ now (out .exit) ≡ moved minus q (now (out .entry)) (padRow shakePad k q (underOf bound) (now (keys .entry)) n) ⌝ }
 {
     let mut at = 0;
     let mut i = 0;
@@ -117,9 +102,7 @@ fn move_pad_row(
             minus,
             q,
             f,
-            modulus,
-            wire,
-            component,
+            bound,
             receiver,
             n,
             keys,
@@ -139,28 +122,17 @@ fn work() -> [u64; 128]
 }
 
 // out := out + the pads of all senders for all receivers, each `k` bytes
-pub fn add_pad_row(
-    q: u8,
-    modulus: u8,
-    wire: u32,
-    component: u8,
-    n: usize,
-    k: usize,
-    keys: &[u8],
-    out: &mut [u8],
-)
+pub fn add_pad_row(q: u8, bound: Bound, n: usize, k: usize, keys: &[u8], out: &mut [u8])
     requires { ⌜ Asked q k (now out) ⌝ }
     requires { ⌜ Row n k (now keys) (now out) ⌝ }
-    ensures { λ _. ⌜ now (out .exit) ≡ addV q (now (out .entry)) (padRow shakePad k q (placed modulus wire component) (now (keys .entry)) n) ⌝ }
+    ensures { λ _. ⌜ now (out .exit) ≡ addV q (now (out .entry)) (padRow shakePad k q (underOf bound) (now (keys .entry)) n) ⌝ }
 {
     let mut numbers = work();
     move_pad_row(
         false,
         q,
         factors_of(q),
-        modulus,
-        wire,
-        component,
+        bound,
         n,
         k,
         keys,
@@ -170,32 +142,11 @@ pub fn add_pad_row(
 }
 
 // out := out - the pads of all senders for all receivers
-pub fn sub_pad_row(
-    q: u8,
-    modulus: u8,
-    wire: u32,
-    component: u8,
-    n: usize,
-    k: usize,
-    keys: &[u8],
-    out: &mut [u8],
-)
+pub fn sub_pad_row(q: u8, bound: Bound, n: usize, k: usize, keys: &[u8], out: &mut [u8])
     requires { ⌜ Asked q k (now out) ⌝ }
     requires { ⌜ Row n k (now keys) (now out) ⌝ }
-    ensures { λ _. ⌜ now (out .exit) ≡ subV q (now (out .entry)) (padRow shakePad k q (placed modulus wire component) (now (keys .entry)) n) ⌝ }
+    ensures { λ _. ⌜ now (out .exit) ≡ subV q (now (out .entry)) (padRow shakePad k q (underOf bound) (now (keys .entry)) n) ⌝ }
 {
     let mut numbers = work();
-    move_pad_row(
-        true,
-        q,
-        factors_of(q),
-        modulus,
-        wire,
-        component,
-        n,
-        k,
-        keys,
-        &mut numbers,
-        out,
-    );
+    move_pad_row(true, q, factors_of(q), bound, n, k, keys, &mut numbers, out);
 }

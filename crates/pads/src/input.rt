@@ -5,8 +5,16 @@ ghost use lib.ListN.{length};
 ghost use Rattle.shake.specs.Numbers.{numbers, bytesOf};
 ghost use Rattle.shake.specs.Shake.{shake256};
 ghost use Rattle.shake.specs.Stream.{withField, empty};
-ghost use Rattle.pads.specs.Pad.{padInput, placed};
+ghost use Rattle.pads.specs.Pad.{padInput};
+ghost use Rattle.pads.specs.Binding.{boundBy, sixFields};
 use shake::Sponge;
+
+// What a row's pads are bound to, besides receiver and key: the modulus of the senders' keys, the output wire and the component.
+pub struct Bound {
+    pub modulus: u8,
+    pub wire: u32,
+    pub component: u8,
+}
 
 // One sponge, lent for each of six fields in turn.
 fn six_fields(
@@ -17,7 +25,7 @@ fn six_fields(
     receiver: &[u8],
     key: &[u8],
 ) -> Sponge
-    ensures { λ r. ⌜ r ≡ withField (withField (withField (withField (withField (withField empty (now (tag .entry))) (now (modulus .entry))) (now (wire .entry))) (now (component .entry))) (now (receiver .entry))) (now (key .entry)) ⌝ }
+    ensures { λ r. ⌜ r ≡ sixFields (now (tag .entry)) (now (modulus .entry)) (now (wire .entry)) (now (component .entry)) (now (receiver .entry)) (now (key .entry)) ⌝ }
 {
     let mut sponge = shake::start();
     shake::absorb(&mut sponge, tag);
@@ -45,22 +53,19 @@ fn wire_bytes(wire: u32) -> [u8; 4]
 }
 
 // The sponge that has taken in a pad's input.
-fn pad_sponge(modulus: u8, wire: u32, component: u8, receiver: u8, key: &[u8]) -> Sponge
-    ensures { λ r. ⌜ r ≡ withField empty (padInput (placed modulus wire component) receiver (now (key .entry))) ⌝ }
+fn pad_sponge(bound: Bound, receiver: u8, key: &[u8]) -> Sponge
+    ensures { λ r. ⌜ r ≡ withField empty (padInput (boundBy bound receiver (now (key .entry)))) ⌝ }
 {
-    let moduli = [modulus];
-    let wires = wire_bytes(wire);
-    let components = [component];
+    let moduli = [bound.modulus];
+    let wires = wire_bytes(bound.wire);
+    let components = [bound.component];
     let receivers = [receiver];
     six_fields(b"ROWPAD", &moduli, &wires, &components, &receivers, key)
 }
 
 // The 8-byte numbers of a pad, before they are reduced: as many as the buffer has.
-pub fn pad_numbers(modulus: u8, wire: u32, component: u8, receiver: u8, key: &[u8], out: &mut [u64])
-    ensures { λ _. ⌜ now (out .exit) ≡ numbers (shake256 (padInput (placed modulus wire component) receiver (now (key .entry))) (8 * length (now (out .entry)))) ⌝ }
+pub fn pad_numbers(bound: Bound, receiver: u8, key: &[u8], out: &mut [u64])
+    ensures { λ _. ⌜ now (out .exit) ≡ numbers (shake256 (padInput (boundBy bound receiver (now (key .entry)))) (8 * length (now (out .entry)))) ⌝ }
 {
-    shake::squeeze_numbers(
-        shake::finished(pad_sponge(modulus, wire, component, receiver, key)),
-        out,
-    );
+    shake::squeeze_numbers(shake::finished(pad_sponge(bound, receiver, key)), out);
 }

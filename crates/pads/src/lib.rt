@@ -7,4 +7,5 @@ mod remainder;
 
 pub use entries::add_pad_row;
 pub use entries::sub_pad_row;
+pub use input::Bound;
 pub use input::pad_numbers;

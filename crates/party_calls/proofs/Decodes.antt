@@ -17,6 +17,7 @@ use Rattle.checks.specs.declared.Answer.{Answer}
 use Rattle.checks.specs.declared.Answer.the-variants.{Accepted, Refused}
 use Rattle.checks.specs.declared.Refusal.{Refusal}
 use Rattle.checks.specs.declared.Refusal.the-variants.{ValueTooLarge}
+use Rattle.checks.specs.Answer.{numberOf}
 use Rattle.checks.specs.Combined.{followed}
 use Rattle.checks.specs.Checked.{Checked, Meets}
 use Rattle.checks.specs.Checked.Checked.{passed}
@@ -29,7 +30,7 @@ use Rattle.circuit.specs.File.{readFile}
 use Rattle.circuit.specs.Held.{wiresIn, outputsIn, Held, Holds}
 use Rattle.session.specs.Session.{lengthsChecked, tooLarge}
 use Rattle.session.proofs.Circuits.{held-of, made-is, given-is}
-use Rattle.calls.specs.Decode.{decodeBytes, decodeLent, decodeMade, decodeChecked, decodeAfter}
+use Rattle.calls.specs.Decode.{decodeBytes, decodeLent, decodeMade, decodeChecked, decodeAfter, DecodeCall}
 use Rattle.party_calls.specs.Tables.{Front}
 use Rattle.party_calls.specs.Either.{eitherChecked}
 use Rattle.party_calls.specs.Decoding.{Masked, Decodes}
@@ -138,10 +139,11 @@ module _ {reading : Reading} (file externals masks before : List ℕ) (h : Holds
       (subst (λ (w : List Wire). Meets (decodeLent w (readFile file .outputs) externals masks (length before)) check) (h .wires)
       (subst (λ (o : List ℕ). Meets (decodeLent wires o externals masks (length before)) check) (h .outputs) checked))
 
-  pub decode-refused : {reason : Refusal} {place : ℕ} → answer ≡ Refused reason place
-      → Meets (decodeChecked file externals masks before) (Refused reason place) × (before ≡ decodeAfter file externals masks before)
+  pub decode-refused : {reason : Refusal} {place : ℕ} → answer ≡ Refused reason place → DecodeCall file externals masks before (numberOf reason) place before
   unfolding decodeAfter
-  decode-refused e = ends-refused (decodeMade (readFile file .wires) (readFile file .outputs) externals masks) before met e
+  decode-refused e =
+      let d = ends-refused (decodeMade (readFile file .wires) (readFile file .outputs) externals masks) before met e in
+      record { answer = d .0; resultsIs = d .1 }
 
   module _ (e : answer ≡ Accepted) where
     held : Held circuit
@@ -187,8 +189,8 @@ module _ {reading : Reading} (file externals masks before : List ℕ) (h : Holds
           mask = λ i l. mask-small i (omega (arith, given-is held));
         }
 
-    pub decode-written : {out : List ℕ} → out ≡ decodeMade wires outputs externals masks
-        → Meets (decodeChecked file externals masks before) Accepted × (out ≡ decodeAfter file externals masks before)
+    pub decode-written : {out : List ℕ} → out ≡ decodeMade wires outputs externals masks → DecodeCall file externals masks before 0 0 out
     unfolding decodeAfter
     decode-written o =
-        ends-written before met e (o ∙ ap₂ (λ (w : List Wire) (p : List ℕ). decodeMade w p externals masks) (h .wires) (h .outputs))
+        let d = ends-written before met e (o ∙ ap₂ (λ (w : List Wire) (p : List ℕ). decodeMade w p externals masks) (h .wires) (h .outputs)) in
+        record { answer = d .0; resultsIs = d .1 }

@@ -9,9 +9,11 @@ use lib.ListN.{getD}
 use Rattle.checks.specs.declared.Answer.{Answer}
 use Rattle.checks.specs.declared.Answer.the-variants.{Accepted, Refused}
 use Rattle.checks.specs.declared.Refusal.{Refusal}
+use Rattle.checks.specs.Answer.{numberOf}
 use Rattle.checks.specs.Combined.{followed}
-use Rattle.checks.specs.Checked.{Checked, Meets, andThen, afterwards}
+use Rattle.checks.specs.Checked.{Checked, Meets, Reports, andThen, afterwards}
 use Rattle.checks.specs.Checked.Checked.{passed}
+use Rattle.checks.specs.Checked.Reports.{reports}
 use Rattle.checks.proofs.Answers.{meets-answered, meets-andThen, meets-refused, meets-next, meets-accepted, afterwards-accepted, afterwards-refused}
 use Rattle.words.specs.declared.gate.Wire.{Wire}
 use Rattle.circuit.specs.declared.Reading.{Reading}
@@ -85,11 +87,11 @@ module _ {reading : Reading} (file : List ℕ) (h : Holds reading (readFile file
 
 -- ---- the buffer
 
-pub ends-written : {checks : Checked} {answer : Answer} {new out : List ℕ} (old : List ℕ) → Meets checks answer → answer ≡ Accepted → out ≡ new → Meets checks Accepted × (out ≡ afterwards checks new old)
+pub ends-written : {checks : Checked} {answer : Answer} {new out : List ℕ} (old : List ℕ) → Meets checks answer → answer ≡ Accepted → out ≡ new → Reports checks 0 0 × (out ≡ afterwards checks new old)
 ends-written {checks} {answer} {new} {out} old m e o =
-    let a : Meets checks Accepted = subst (Meets checks) e m in (a, o ∙ afterwards-accepted a new old)
+    let a : Meets checks Accepted = subst (Meets checks) e m in (reports a, o ∙ afterwards-accepted a new old)
 
 pub ends-refused : {checks : Checked} {answer : Answer} {reason : Refusal} {place : ℕ} (new old : List ℕ) → Meets checks answer → answer ≡ Refused reason place
-    → Meets checks (Refused reason place) × (old ≡ afterwards checks new old)
+    → Reports checks (numberOf reason) place × (old ≡ afterwards checks new old)
 ends-refused {checks} {answer} {reason} {place} new old m e =
-    let a : Meets checks (Refused reason place) = subst (Meets checks) e m in (a, afterwards-refused a new old)
+    let a : Meets checks (Refused reason place) = subst (Meets checks) e m in (reports a, afterwards-refused a new old)

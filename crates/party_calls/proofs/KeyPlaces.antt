@@ -17,6 +17,7 @@ use Rattle.residue.proofs.Moduli.{isPrime→Prime}
 use Rattle.checks.specs.declared.Answer.{Answer}
 use Rattle.checks.specs.declared.Answer.the-variants.{Accepted, Refused}
 use Rattle.checks.specs.declared.Refusal.{Refusal}
+use Rattle.checks.specs.Answer.{numberOf}
 use Rattle.checks.specs.Combined.{followed}
 use Rattle.checks.specs.Checked.{Checked, Meets, andThen}
 use Rattle.checks.specs.Checked.Checked.{passed}
@@ -30,7 +31,7 @@ use Rattle.circuit.specs.Wires.{wireAt, modulusAt, isInput, inputsIn}
 use Rattle.circuit.specs.File.{readFile}
 use Rattle.circuit.specs.Accepted.{AcceptedCircuit}
 use Rattle.circuit.specs.Held.{wiresIn, outputsIn, Held, Holds}
-use Rattle.counts.specs.Recipe.{gateRecipe}
+use Rattle.counts.specs.Recipe.{recipeOf, recipe}
 use Rattle.counts.specs.Counts.{recordKeysBy, recordKeysOf, Counts}
 use Rattle.counts.specs.Moduli.{usedBelow, moduliUsed}
 use Rattle.counts.proofs.Wires.{modulus-at}
@@ -43,20 +44,24 @@ use Rattle.session.specs.Session.{sessionChecked, partyChecked, ownersChecked, 
 use Rattle.session.proofs.Sessions.{session-fits}
 use Rattle.session.proofs.Circuits.{held-of, made-is, inputs-made}
 use Rattle.scheme.specs.Bytes.{contributionsChecked, offsetsChecked}
-use Rattle.calls.specs.InputKeys.{inputKey, inputKeysBytes, inputKeysLent, inputKeysParty, inputKeysAsked, inputKeysMade, inputKeysChecked, inputKeysAfter}
+use Rattle.calls.specs.InputKeys.{inputKey, inputKeysBytes, inputKeysLent, inputKeysParty, inputKeysAsked, inputKeysMade, inputKeysChecked, inputKeysAfter, InputKeysCall}
 use Rattle.party_calls.specs.Keying.{KeysLent, KeysFit}
 use Rattle.party_calls.proofs.Ending.{lent-is, stage-passed, stage-next, stage-refused, stage-followed, read-met, check-accepted, circuit-accepted, ends-written, ends-refused}
 
 -- ---- where an input's key stands
 
 -- the record of an input has one key
-pub one-key : (gate : Gate) → isInput gate ≡ true → recordKeysBy (gateRecipe gate) ≡ 1
-one-key (Input g) e = refl
-one-key (Add g) e = let z : _≡_ {A = ℕ} 0 1 = cc in absurd (omega arith)
-one-key (Scale g) e = let z : _≡_ {A = ℕ} 0 1 = cc in absurd (omega arith)
-one-key (Multiply g) e = let z : _≡_ {A = ℕ} 0 1 = cc in absurd (omega arith)
-one-key (Project g) e = let z : _≡_ {A = ℕ} 0 1 = cc in absurd (omega arith)
-one-key (Select g) e = let z : _≡_ {A = ℕ} 0 1 = cc in absurd (omega arith)
+key-of-input : (gate : Gate) (p : ℕ) → isInput gate ≡ true → recordKeysBy (recipeOf gate p) ≡ 1
+key-of-input (Input g) p e = refl
+key-of-input (Add g) p e = let z : _≡_ {A = ℕ} 0 1 = cc in absurd (omega arith)
+key-of-input (Scale g) p e = let z : _≡_ {A = ℕ} 0 1 = cc in absurd (omega arith)
+key-of-input (Multiply g) p e = let z : _≡_ {A = ℕ} 0 1 = cc in absurd (omega arith)
+key-of-input (Project g) p e = let z : _≡_ {A = ℕ} 0 1 = cc in absurd (omega arith)
+key-of-input (Select g) p e = let z : _≡_ {A = ℕ} 0 1 = cc in absurd (omega arith)
+
+pub one-key : (wire : Wire) → isInput (wire .gate) ≡ true → recordKeysBy (recipe wire) ≡ 1
+unfolding recipe
+one-key wire e = key-of-input (wire .gate) (wire .modulus) e
 
 -- so the records of the first wires, where they are inputs, follow each other at one distance
 input-place : (K : ℕ) (wires : List Wire) (n : ℕ) → ((v : ℕ) → v < n → recordKeysOf wires v ≡ 1) → (w : ℕ) → w ≤ n → keyAt K wires w 0 ≡ K * moduliUsed wires + (K + 1) * w
@@ -216,9 +221,9 @@ module _ {reading : Reading} (file : List ℕ) (n K party : ℕ) (contribution e
       (subst (λ (w : List Wire). Meets (inputKeysAsked K w contribution externals n party (length before)) check) (h .wires) checked)
 
   pub call-refused : {reason : Refusal} {place : ℕ} → answer ≡ Refused reason place
-      → Meets (inputKeysChecked file n K party contribution externals before) (Refused reason place) × (before ≡ inputKeysAfter file n K party contribution externals before)
+      → InputKeysCall file n K party contribution externals before (numberOf reason) place before
   unfolding inputKeysAfter
-  call-refused e = ends-refused (inputKeysMade K (readFile file .wires) contribution externals) before met e
+  call-refused e = let d = ends-refused (inputKeysMade K (readFile file .wires) contribution externals) before met e in record { answer = d .0; keysIs = d .1 }
 
   module _ (e : answer ≡ Accepted) {long : ℕ} (k : long ≡ K) where
     abbrev lengths : Checked
@@ -260,15 +265,15 @@ module _ {reading : Reading} (file : List ℕ) (n K party : ℕ) (contribution e
           size = lent-is _ _ lengthsPassed 2 ∙ ap (λ (m : ℕ). m * K) (sym count);
           positive = λ w l. omega (arith, isPrime→Prime (modulusAt wires w) (accepted .fits w (inside w l) .prime) .two);
           byte = λ w l. accepted .fits w (inside w l) .byte;
-          recorded = λ w l. one-key (wireAt wires w .gate) (accepted .inputsFirst w (inside w l) ∙ lt-ltb w (inputsIn wires) (omega (arith, count)));
+          recorded = λ w l. one-key (wireAt wires w) (accepted .inputsFirst w (inside w l) ∙ lt-ltb w (inputsIn wires) (omega (arith, count)));
         }
 
     pub keys-fit : KeysFit (reading .circuit) long contribution externals (length before)
     keys-fit = subst (λ (j : ℕ). KeysFit (reading .circuit) j contribution externals (length before)) (sym k) fit
 
     pub call-written : {out : List ℕ} → out ≡ inputKeysMade long wires contribution externals
-        → Meets (inputKeysChecked file n K party contribution externals before) Accepted × (out ≡ inputKeysAfter file n K party contribution externals before)
+        → InputKeysCall file n K party contribution externals before 0 0 out
     unfolding inputKeysAfter
     call-written o =
-        ends-written before met e
-        (o ∙ ap₂ (λ (j : ℕ) (w : List Wire). inputKeysMade j w contribution externals) k (h .wires))
+        let d = ends-written before met e (o ∙ ap₂ (λ (j : ℕ) (w : List Wire). inputKeysMade j w contribution externals) k (h .wires)) in
+        record { answer = d .0; keysIs = d .1 }

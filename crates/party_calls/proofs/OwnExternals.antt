@@ -18,6 +18,7 @@ use Rattle.checks.specs.declared.Answer.{Answer}
 use Rattle.checks.specs.declared.Answer.the-variants.{Accepted, Refused}
 use Rattle.checks.specs.declared.Refusal.{Refusal}
 use Rattle.checks.specs.declared.Refusal.the-variants.{ValueTooLarge}
+use Rattle.checks.specs.Answer.{numberOf}
 use Rattle.checks.specs.Combined.{followed}
 use Rattle.checks.specs.Checked.{Checked, Meets, andThen}
 use Rattle.checks.specs.Checked.Checked.{passed}
@@ -31,7 +32,7 @@ use Rattle.circuit.specs.Held.{wiresIn, Room, Holds}
 use Rattle.counts.specs.Counts.{mark, ownedBy, inputsOf, Counts}
 use Rattle.counts.proofs.Wires.{room}
 use Rattle.session.specs.Session.{partiesChecked, partyChecked, ownersChecked, lengthsChecked, tooLarge}
-use Rattle.calls.specs.Externals.{ownInputs, externalsBytes, externalsLent, externalsAsked, externalsMade, externalsChecked, externalsAfter}
+use Rattle.calls.specs.Externals.{ownInputs, externalsBytes, externalsLent, externalsAsked, externalsMade, externalsChecked, externalsAfter, ExternalsCall}
 use Rattle.calls.proofs.OwnInputs.{own-length}
 use Rattle.party_calls.specs.Tables.{Front}
 use Rattle.party_calls.specs.Either.{eitherChecked}
@@ -157,9 +158,9 @@ module _ {reading : Reading} (file : List ℕ) (n party : ℕ) (values masks bef
       (subst (λ (w : List Wire). Meets (externalsAsked party w values masks n (length before)) check) (h .wires) checked)
 
   pub externals-refused : {reason : Refusal} {place : ℕ} → answer ≡ Refused reason place
-      → Meets (externalsChecked file n party values masks before) (Refused reason place) × (before ≡ externalsAfter file n party values masks before)
+      → ExternalsCall file n party values masks before (numberOf reason) place before
   unfolding externalsAfter
-  externals-refused e = ends-refused (externalsMade party (readFile file .wires) values masks) before met e
+  externals-refused e = let d = ends-refused (externalsMade party (readFile file .wires) values masks) before met e in record { answer = d .0; externalsIs = d .1 }
 
   module _ (e : answer ≡ Accepted) where
     abbrev lengths : Checked
@@ -190,7 +191,8 @@ module _ {reading : Reading} (file : List ℕ) (n party : ℕ) (values masks bef
           mask = λ i l. leb-false (inputModulus i) (getD masks i 0) (fails-right (tooLarge values inputModulus i) (tooLarge masks inputModulus i) (fine i l));
         }
 
-    pub externals-written : {out : List ℕ} → out ≡ externalsMade party wires values masks
-        → Meets (externalsChecked file n party values masks before) Accepted × (out ≡ externalsAfter file n party values masks before)
+    pub externals-written : {out : List ℕ} → out ≡ externalsMade party wires values masks → ExternalsCall file n party values masks before 0 0 out
     unfolding externalsAfter
-    externals-written o = ends-written before met e (o ∙ ap (λ (w : List Wire). externalsMade party w values masks) (h .wires))
+    externals-written o =
+        let d = ends-written before met e (o ∙ ap (λ (w : List Wire). externalsMade party w values masks) (h .wires)) in
+        record { answer = d .0; externalsIs = d .1 }

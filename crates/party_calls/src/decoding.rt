@@ -1,10 +1,11 @@
 // Decoding as a call: the outputs' values from external values and output masks.
 ghost use mathlib.Core.Path.{_≡_};
 ghost use lib.ListN.{length};
+ghost use Rattle.checks.specs.Answer.{numberIn, placeIn};
 ghost use Rattle.checks.specs.Checked.{Meets};
 ghost use Rattle.circuit.specs.File.{readFile};
 ghost use Rattle.circuit.specs.Held.{wiresIn, outputsIn, Held, Holds};
-ghost use Rattle.calls.specs.Decode.{decodeBytes, decodeLent, decodeMade, decodeChecked, decodeAfter};
+ghost use Rattle.calls.specs.Decode.{decodeBytes, decodeLent, decodeMade, DecodeCall};
 ghost use Rattle.party_calls.specs.Decoding.{Masked, Decodes};
 use super::either::either_checked;
 use super::tables::output_moduli;
@@ -70,7 +71,7 @@ fn decode_read(
     results: &mut [u8],
 ) -> Answer
     requires { ⌜ Holds reading (readFile (now file)) ⌝ }
-    ensures { λ r. ⌜ Meets (decodeChecked (now (file .entry)) (now (externals .entry)) (now (masks .entry)) (now (results .entry))) r × (now (results .exit) ≡ decodeAfter (now (file .entry)) (now (externals .entry)) (now (masks .entry)) (now (results .entry))) ⌝ }
+    ensures { λ r. ⌜ DecodeCall (now (file .entry)) (now (externals .entry)) (now (masks .entry)) (now (results .entry)) (numberIn r) (placeIn r) (now (results .exit)) ⌝ }
 {
     let read = reading.answer;
     let circuit = reading.circuit;
@@ -88,7 +89,7 @@ fn decode_read(
 // What the outputs' external values stand for: one byte for each output. Refused or not, the contract gives the answer and every byte of
 // `results`.
 pub fn decode(file: &[u8], externals: &[u8], masks: &[u8], results: &mut [u8]) -> Answer
-    ensures { λ r. ⌜ Meets (decodeChecked (now (file .entry)) (now (externals .entry)) (now (masks .entry)) (now (results .entry))) r × (now (results .exit) ≡ decodeAfter (now (file .entry)) (now (externals .entry)) (now (masks .entry)) (now (results .entry))) ⌝ }
+    ensures { λ r. ⌜ DecodeCall (now (file .entry)) (now (externals .entry)) (now (masks .entry)) (now (results .entry)) (numberIn r) (placeIn r) (now (results .exit)) ⌝ }
 {
     let reading = read(file);
     decode_read(reading, file, externals, masks, results)

@@ -4,10 +4,11 @@ ghost use Prim.Native.Nat.{_+_, _≤_, _<_};
 ghost use lib.ListN.{length};
 ghost use Rattle.lists.specs.Blocks.{part};
 ghost use Rattle.residue.specs.Vector.{keyV};
+ghost use Rattle.checks.specs.Answer.{numberIn, placeIn};
 ghost use Rattle.checks.specs.Checked.{Meets};
 ghost use Rattle.circuit.specs.File.{readFile};
 ghost use Rattle.circuit.specs.Held.{wiresIn, Held, Holds};
-ghost use Rattle.calls.specs.InputKeys.{inputKeysBytes, inputKeysLent, inputKeysParty, inputKeysAsked, inputKeysMade, inputKeysChecked, inputKeysAfter};
+ghost use Rattle.calls.specs.InputKeys.{inputKeysBytes, inputKeysLent, inputKeysParty, inputKeysAsked, inputKeysMade, InputKeysCall};
 ghost use Rattle.party_calls.specs.Keying.{KeysLent, KeysFit};
 use super::tables::counted;
 use checks::Answer;
@@ -163,7 +164,7 @@ fn keys_read(
     keys: &mut [u8],
 ) -> Answer
     requires { ⌜ Holds reading (readFile (now file)) ⌝ }
-    ensures { λ r. ⌜ Meets (inputKeysChecked (now (file .entry)) n k party (now (contribution .entry)) (now (externals .entry)) (now (keys .entry))) r × (now (keys .exit) ≡ inputKeysAfter (now (file .entry)) n k party (now (contribution .entry)) (now (externals .entry)) (now (keys .entry))) ⌝ }
+    ensures { λ r. ⌜ InputKeysCall (now (file .entry)) n k party (now (contribution .entry)) (now (externals .entry)) (now (keys .entry)) (numberIn r) (placeIn r) (now (keys .exit)) ⌝ }
 {
     let read = reading.answer;
     let circuit = reading.circuit;
@@ -190,7 +191,7 @@ pub fn input_keys(
     externals: &[u8],
     keys: &mut [u8],
 ) -> Answer
-    ensures { λ r. ⌜ Meets (inputKeysChecked (now (file .entry)) n k party (now (contribution .entry)) (now (externals .entry)) (now (keys .entry))) r × (now (keys .exit) ≡ inputKeysAfter (now (file .entry)) n k party (now (contribution .entry)) (now (externals .entry)) (now (keys .entry))) ⌝ }
+    ensures { λ r. ⌜ InputKeysCall (now (file .entry)) n k party (now (contribution .entry)) (now (externals .entry)) (now (keys .entry)) (numberIn r) (placeIn r) (now (keys .exit)) ⌝ }
 {
     let reading = read(file);
     keys_read(reading, file, n, k, party, contribution, externals, keys)

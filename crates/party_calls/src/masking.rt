@@ -1,10 +1,11 @@
 // The external values of a party's own inputs, as a call: the values, hidden by their masks.
 ghost use mathlib.Core.Path.{_≡_};
 ghost use lib.ListN.{length};
+ghost use Rattle.checks.specs.Answer.{numberIn, placeIn};
 ghost use Rattle.checks.specs.Checked.{Meets};
 ghost use Rattle.circuit.specs.File.{readFile};
 ghost use Rattle.circuit.specs.Held.{wiresIn, Room, Holds};
-ghost use Rattle.calls.specs.Externals.{externalsBytes, externalsLent, externalsAsked, externalsMade, externalsChecked, externalsAfter};
+ghost use Rattle.calls.specs.Externals.{externalsBytes, externalsLent, externalsAsked, externalsMade, ExternalsCall};
 ghost use Rattle.party_calls.specs.Masking.{OwnLent, OwnFit};
 use super::either::either_checked;
 use super::tables::counted;
@@ -91,7 +92,7 @@ fn externals_read(
     externals: &mut [u8],
 ) -> Answer
     requires { ⌜ Holds reading (readFile (now file)) ⌝ }
-    ensures { λ r. ⌜ Meets (externalsChecked (now (file .entry)) n party (now (values .entry)) (now (masks .entry)) (now (externals .entry))) r × (now (externals .exit) ≡ externalsAfter (now (file .entry)) n party (now (values .entry)) (now (masks .entry)) (now (externals .entry))) ⌝ }
+    ensures { λ r. ⌜ ExternalsCall (now (file .entry)) n party (now (values .entry)) (now (masks .entry)) (now (externals .entry)) (numberIn r) (placeIn r) (now (externals .exit)) ⌝ }
 {
     let read = reading.answer;
     let circuit = reading.circuit;
@@ -116,7 +117,7 @@ pub fn externals(
     masks: &[u8],
     externals: &mut [u8],
 ) -> Answer
-    ensures { λ r. ⌜ Meets (externalsChecked (now (file .entry)) n party (now (values .entry)) (now (masks .entry)) (now (externals .entry))) r × (now (externals .exit) ≡ externalsAfter (now (file .entry)) n party (now (values .entry)) (now (masks .entry)) (now (externals .entry))) ⌝ }
+    ensures { λ r. ⌜ ExternalsCall (now (file .entry)) n party (now (values .entry)) (now (masks .entry)) (now (externals .entry)) (numberIn r) (placeIn r) (now (externals .exit)) ⌝ }
 {
     let reading = read(file);
     externals_read(reading, file, n, party, values, masks, externals)

@@ -13,9 +13,11 @@ use Rattle.checks.specs.declared.Answer.{Answer}
 use Rattle.checks.specs.declared.Answer.the-variants.{Accepted, Refused}
 use Rattle.checks.specs.declared.Refusal.{Refusal}
 use Rattle.checks.specs.declared.Refusal.the-variants.{ValueTooLarge}
+use Rattle.checks.specs.Answer.{numberOf}
 use Rattle.checks.specs.Combined.{followed}
 use Rattle.checks.specs.Checked.{Checked, Meets}
 use Rattle.checks.specs.Checked.Checked.{passed}
+use Rattle.checks.specs.Checked.Reports.{reports}
 use Rattle.checks.proofs.Passed.{andThen-left, andThen-right, noneBad-none}
 use Rattle.checks.proofs.Answers.{meets-answered, meets-andThen, meets-refused, meets-next, meets-accepted, afterwards-accepted, afterwards-refused}
 use Rattle.words.specs.declared.gate.Wire.{Wire}
@@ -30,7 +32,7 @@ use Rattle.session.proofs.Sessions.{file-accepted, lengths-same}
 use Rattle.session.proofs.LentLengths.{lengths-met}
 use Rattle.session.proofs.Circuits.{held-of, made-is, given-is, inputs-made}
 use Rattle.plain.specs.Plain.{plainTo, plainValues, plainOutputs}
-use Rattle.plain.specs.Call.{fedChecked, plainChecked, plainAfter}
+use Rattle.plain.specs.Call.{fedChecked, plainChecked, plainAfter, PlainCall}
 use Rattle.plain.specs.Ready.{Fed, Feeds, Done, Gives}
 
 -- ---- the checks after reading
@@ -126,21 +128,23 @@ module _ {reading : Reading} (file values before : List ℕ) (h : Holds reading 
         }
 
     -- accepted: the outputs are written
-    pub ends-written : {out : List ℕ} → out ≡ plainOutputs file ws os values → Meets (plainChecked file values before) Accepted × (out ≡ plainAfter file values before)
+    pub ends-written : {out : List ℕ} → out ≡ plainOutputs file ws os values → PlainCall file values before 0 0 out
     unfolding plainAfter
     ends-written o =
-        let m : Meets (plainChecked file values before) Accepted = subst (Meets (plainChecked file values before)) e call-met in (
-          m,
-          o ∙ ap₂ (λ (w : List Wire) (p : List ℕ). plainOutputs file w p values) (h .wires) (h .outputs)
-              ∙ afterwards-accepted m (plainOutputs file (readFile file .wires) (readFile file .outputs) values) before,
-        )
+        let m : Meets (plainChecked file values before) Accepted = subst (Meets (plainChecked file values before)) e call-met in
+        record {
+          answer = reports m;
+          resultsIs =
+              o ∙ ap₂ (λ (w : List Wire) (p : List ℕ). plainOutputs file w p values) (h .wires) (h .outputs)
+              ∙ afterwards-accepted m (plainOutputs file (readFile file .wires) (readFile file .outputs) values) before;
+        }
 
   -- refused: the buffer is as it was
-  pub ends-refused : {reason : Refusal} {place : ℕ} → answer ≡ Refused reason place → Meets (plainChecked file values before) (Refused reason place) × (before ≡ plainAfter file values before)
+  pub ends-refused : {reason : Refusal} {place : ℕ} → answer ≡ Refused reason place → PlainCall file values before (numberOf reason) place before
   unfolding plainAfter
   ends-refused {reason} {place} e =
       let m : Meets (plainChecked file values before) (Refused reason place) = subst (Meets (plainChecked file values before)) e call-met in
-      (m, afterwards-refused m (plainOutputs file (readFile file .wires) (readFile file .outputs) values) before)
+      record { answer = reports m; resultsIs = afterwards-refused m (plainOutputs file (readFile file .wires) (readFile file .outputs) values) before }
 
 -- ---- the outputs
 

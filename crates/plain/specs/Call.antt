@@ -1,9 +1,10 @@
 -- The call for plain evaluation, from all inputs' values, one byte per output (no n, K or party).
 -- Assumes nothing.
+use mathlib.Core.Path.{_≡_}
 use mathlib.Core.List.{List, [], _∷_}
 use Prim.Native.Nat.{ℕ}
 use lib.ListN.{length}
-use Rattle.checks.specs.Checked.{Checked, andThen, afterwards}
+use Rattle.checks.specs.Checked.{Checked, Reports, andThen, afterwards}
 use Rattle.words.specs.declared.gate.Wire.{Wire}
 use Rattle.circuit.specs.Wires.{modulusAt, inputsIn}
 use Rattle.circuit.specs.File.{readFile}
@@ -27,3 +28,8 @@ module _ (file : List ℕ) (values results : List ℕ) where
 
   unfoldable pub plainAfter : List ℕ
   plainAfter = afterwards plainChecked (plainOutputs file wires outputs values) results
+
+-- the call's promise: the number and place that it answers, and what the bytes lent for the results hold afterwards
+pub record PlainCall (file values results₀ : List ℕ) (number place : ℕ) (results : List ℕ) : Type 0 where
+  pub answer : Reports (plainChecked file values results₀) number place
+  pub resultsIs : results ≡ plainAfter file values results₀

@@ -1,9 +1,8 @@
 // Plain evaluation as a call.
-ghost use mathlib.Core.Path.{_≡_};
 ghost use Rattle.circuit.specs.File.{readFile};
 ghost use Rattle.circuit.specs.Held.{Holds};
-ghost use Rattle.checks.specs.Checked.{Meets};
-ghost use Rattle.plain.specs.Call.{plainChecked, plainAfter};
+ghost use Rattle.checks.specs.Answer.{numberIn, placeIn};
+ghost use Rattle.plain.specs.Call.{PlainCall};
 use super::values::checked;
 use super::wires::evaluate;
 use checks::Answer;
@@ -14,7 +13,7 @@ use circuit::read;
 // The call, once the file is read.
 fn from_reading(reading: Reading, file: &[u8], values: &[u8], outputs: &mut [u8]) -> Answer
     requires { ⌜ Holds reading (readFile (now file)) ⌝ }
-    ensures { λ r. ⌜ Meets (plainChecked (now (file .entry)) (now (values .entry)) (now (outputs .entry))) r × (now (outputs .exit) ≡ plainAfter (now (file .entry)) (now (values .entry)) (now (outputs .entry))) ⌝ }
+    ensures { λ r. ⌜ PlainCall (now (file .entry)) (now (values .entry)) (now (outputs .entry)) (numberIn r) (placeIn r) (now (outputs .exit)) ⌝ }
 {
     let read = reading.answer;
     let circuit = reading.circuit;
@@ -32,7 +31,7 @@ fn from_reading(reading: Reading, file: &[u8], values: &[u8], outputs: &mut [u8]
 // What the plain circuit of a file gives on the inputs' values: one byte for each output. Refused or not, the contract gives the answer
 // and every byte of `outputs`.
 pub fn plain(file: &[u8], values: &[u8], outputs: &mut [u8]) -> Answer
-    ensures { λ r. ⌜ Meets (plainChecked (now (file .entry)) (now (values .entry)) (now (outputs .entry))) r × (now (outputs .exit) ≡ plainAfter (now (file .entry)) (now (values .entry)) (now (outputs .entry))) ⌝ }
+    ensures { λ r. ⌜ PlainCall (now (file .entry)) (now (values .entry)) (now (outputs .entry)) (numberIn r) (placeIn r) (now (outputs .exit)) ⌝ }
 {
     let reading = read(file);
     from_reading(reading, file, values, outputs)

@@ -8,6 +8,7 @@ ghost use Rattle.circuit.specs.Held.{wiresIn, outputsIn};
 ghost use Rattle.plain.specs.Ready.{Feeds, Done, Gives};
 use super::gate::wire_value;
 use circuit::Circuit;
+use lists::wire_index;
 
 fn no_values() -> [u8; 1024]
     ensures { λ r. ⌜ r ≡ replicate 1024 0 ⌝ }
@@ -32,12 +33,6 @@ pub fn wire_values(circuit: Circuit, file: &[u8], values: &[u8]) -> [u8; 1024]
     done
 }
 
-fn index(wire: u16) -> usize
-    ensures { λ r. ⌜ r ≡ wire ⌝ }
-{
-    wire as usize
-}
-
 // The values of the outputs' wires, in the order of the outputs.
 pub fn put_outputs(circuit: Circuit, done: &[u8], outputs: &mut [u8])
     requires { ⌜ Gives circuit (now done) (length (now outputs)) ⌝ }
@@ -46,7 +41,7 @@ pub fn put_outputs(circuit: Circuit, done: &[u8], outputs: &mut [u8])
     let given = circuit.given;
     let mut i = 0;
     while i < given {
-        let at = index(circuit.outputs[i]);
+        let at = wire_index(circuit.outputs[i]);
         outputs[i] = done[at];
         i += 1;
     }

@@ -1,3 +1,2 @@
 -- Laws of the calls that read a circuit: what is counted.
 pub mod Counting
-pub mod Kept

@@ -1,3 +1,4 @@
 -- What the calls that read a circuit answer and write.
 pub mod Summary
 pub mod InputsOf
+pub mod Read

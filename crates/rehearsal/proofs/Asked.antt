@@ -12,30 +12,31 @@ use lib.Seq.{take-at, getD-take, length-take-le}
 use Rattle.lists.specs.Blocks.{part}
 use Rattle.lists.proofs.Parts.{part-front}
 use Rattle.lists.proofs.Blocks.{tab-ext}
-use Rattle.checks.specs.Checked.{Checked}
+use Rattle.checks.specs.Checked.{Checked, Reports}
 use Rattle.words.specs.declared.gate.Wire.{Wire}
 use Rattle.circuit.specs.declared.Circuit.{Circuit}
 use Rattle.circuit.specs.Held.{wiresIn, Held}
 use Rattle.session.proofs.Circuits.{made-is, inputs-made}
-use Rattle.calls.specs.Externals.{ownInputs, externalsChecked, externalsAfter}
+use Rattle.calls.specs.Externals.{ownInputs, externalsChecked, externalsAfter, ExternalsCall}
 use Rattle.round.specs.Round.{ownOf}
+use Rattle.round.specs.Played.{Answered}
 use Rattle.calls.proofs.OwnInputs.{owns, placeOf, own-inside}
-use Rattle.rehearsal.specs.Hosts.{Picked, scattered, ownChecks, ownAfter, gathered}
-use Rattle.rehearsal.specs.All.{Says, followed, allOf}
+use Rattle.rehearsal.specs.Hosts.{Picked, scattered, ownAfter, OwnCall, gathered, Masked}
 use Rattle.rehearsal.proofs.InTurn.{turn-start, turn-next}
 
-pub ask-ends : (file : List ℕ) (n party count : ℕ) (values masks out : List ℕ) {own hidden ys : List ℕ} {r : ℕ} → count ≤ length out
+pub ask-ends : (file : List ℕ) (n party count : ℕ) (values masks out : List ℕ) {own hidden ys : List ℕ} {number place : ℕ} → count ≤ length out
     → own ≡ part values 0 count → hidden ≡ part masks 0 count → length ys ≡ length (take count out)
-    → Says (externalsChecked file n party own hidden (take count out)) r → ys ≡ externalsAfter file n party own hidden (take count out)
-    → Says (externalsChecked file n party (take count values) (take count masks) (take count out)) r
-    × (take count (ys ++ drop count out) ≡ externalsAfter file n party (take count values) (take count masks) (take count out))
-ask-ends file n party count values masks out {own} {hidden} {ys} {r} room o h l m e =
+    → ExternalsCall file n party own hidden (take count out) number place ys
+    → ExternalsCall file n party (take count values) (take count masks) (take count out) number place (take count (ys ++ drop count out))
+ask-ends file n party count values masks out {own} {hidden} {ys} {number} {place} room o h l d =
     let o′ : own ≡ take count values = o ∙ part-front values count in
-    let h′ : hidden ≡ take count masks = h ∙ part-front masks count in (
-      subst (λ (c : Checked). Says c r) (ap₂ (λ (a b : List ℕ). externalsChecked file n party a b (take count out)) o′ h′) m,
-      take-at ys (drop count out) count (l ∙ length-take-le count out room)
-          ∙ e ∙ ap₂ (λ (a b : List ℕ). externalsAfter file n party a b (take count out)) o′ h′,
-    )
+    let h′ : hidden ≡ take count masks = h ∙ part-front masks count in
+    record {
+      answer = subst (λ (c : Checked). Reports c number place) (ap₂ (λ (a b : List ℕ). externalsChecked file n party a b (take count out)) o′ h′) (d .answer);
+      externalsIs =
+          take-at ys (drop count out) count (l ∙ length-take-le count out room)
+          ∙ d .externalsIs ∙ ap₂ (λ (a b : List ℕ). externalsAfter file n party a b (take count out)) o′ h′;
+    }
 
 take-replicate : (m n a : ℕ) → m ≤ n → take m (replicate n a) ≡ replicate m a
 take-replicate zero n a h = refl
@@ -63,63 +64,69 @@ scattered-front {circuit} held party mine before size =
         ∙ sym (ap (λ (b : Bool). cond b (getD (take (length (ownInputs party (wiresIn circuit))) mine) (placeOf party (wiresIn circuit) w) 0) (getD before w 0)) e)
 
 -- the whole: what the party's call answers, and what stands at its inputs' wires
-pub party-ends : {circuit : Circuit} → Held circuit → (file : List ℕ) (n party count : ℕ) (values masks before mine : List ℕ) {own hidden blank after : List ℕ} {r : ℕ}
+pub party-ends : {circuit : Circuit} → Held circuit → (file : List ℕ) (n party count : ℕ) (values masks before mine : List ℕ) {own hidden blank after : List ℕ} {number place : ℕ}
     → length before ≡ circuit .inputs → count ≡ length (ownInputs party (wiresIn circuit)) → count ≤ 1024
     → Picked party (wiresIn circuit) values own → Picked party (wiresIn circuit) masks hidden → blank ≡ replicate 1024 0
-    → Says (externalsChecked file n party (take count own) (take count hidden) (take count blank)) r
-    → take count mine ≡ externalsAfter file n party (take count own) (take count hidden) (take count blank)
+    → ExternalsCall file n party (take count own) (take count hidden) (take count blank) number place (take count mine)
     → after ≡ scattered party (wiresIn circuit) mine before
-    → Says (ownChecks file n (wiresIn circuit) values masks party) r
+    → OwnCall file n (wiresIn circuit) values masks party number place
     × (after ≡ scattered party (wiresIn circuit) (ownAfter file n (wiresIn circuit) values masks party) before)
-party-ends {circuit} held file n party count values masks before mine {own} {hidden} {blank} {after} {r} size c most v m b met e s =
+party-ends {circuit} held file n party count values masks before mine {own} {hidden} {blank} {after} {number} {place} size c most v m b d s =
     let a1 : take count own ≡ ownOf (wiresIn circuit) values party = ap (λ (k : ℕ). take k own) c ∙ v .front in
     let a2 : take count hidden ≡ ownOf (wiresIn circuit) masks party = ap (λ (k : ℕ). take k hidden) c ∙ m .front in
     let a3 : take count blank ≡ replicate (length (ownInputs party (wiresIn circuit))) 0 =
     ap (λ (l : List ℕ). take count l) b ∙ take-replicate count 1024 0 most ∙ ap (λ (k : ℕ). replicate k 0) c in (
-      subst (λ (x : Checked). Says x r)
-          (ap₂ (λ (x y : List ℕ). externalsChecked file n party x y (take count blank)) a1 a2
-          ∙ ap (λ (z : List ℕ). externalsChecked file n party (ownOf (wiresIn circuit) values party) (ownOf (wiresIn circuit) masks party) z) a3) met,
+      record {
+        answer =
+            subst (λ (x : Checked). Reports x number place)
+            (ap₂ (λ (x y : List ℕ). externalsChecked file n party x y (take count blank)) a1 a2
+            ∙ ap (λ (z : List ℕ). externalsChecked file n party (ownOf (wiresIn circuit) values party) (ownOf (wiresIn circuit) masks party) z) a3)
+            (d .answer);
+        externalsIs = refl;
+      },
       s ∙ scattered-front held party mine before size
           ∙ ap (λ (l : List ℕ). scattered party (wiresIn circuit) l before)
           (ap (λ (k : ℕ). take k mine) (sym c)
-          ∙ e
+          ∙ d .externalsIs
           ∙ ap₂ (λ (x y : List ℕ). externalsAfter file n party x y (take count blank)) a1 a2
           ∙ ap (λ (z : List ℕ). externalsAfter file n party (ownOf (wiresIn circuit) values party) (ownOf (wiresIn circuit) masks party) z) a3),
     )
 
 -- ---- one party after another
 
-pub record AllTo (file : List ℕ) (n : ℕ) (wires : List Wire) (values masks before : List ℕ) (party : ℕ) (answer : ℕ) (out : List ℕ) : Type 0 where
+pub record AllTo (file : List ℕ) (n : ℕ) (wires : List Wire) (values masks before : List ℕ) (party : ℕ) (out : List ℕ) : Type 0 where
   pub turns : party ≤ n
   pub kept : length out ≡ length before
   pub eq : out ≡ gathered file n wires values masks before party
-  pub met : Says (allOf party (ownChecks file n wires values masks)) answer
+  pub calls : (j : ℕ) → j < party → Answered (OwnCall file n wires values masks j)
 
-pub all-start : (file : List ℕ) (n : ℕ) (wires : List Wire) (values masks before : List ℕ) → AllTo file n wires values masks before 0 0 before
+pub all-start : (file : List ℕ) (n : ℕ) (wires : List Wire) (values masks before : List ℕ) → AllTo file n wires values masks before 0 before
 unfolding gathered
 all-start file n wires values masks before =
-    record { turns = omega arith; kept = refl; eq = refl; met = turn-start (ownChecks file n wires values masks) }
+    record { turns = omega arith; kept = refl; eq = refl; calls = turn-start (λ j. Answered (OwnCall file n wires values masks j)) }
 
-pub all-step : {file : List ℕ} {n : ℕ} {wires : List Wire} {values masks before : List ℕ} {party : ℕ} {answer next both : ℕ} {out out′ : List ℕ}
-    → AllTo file n wires values masks before party answer out → party < n → length out′ ≡ length out
-    → Says (ownChecks file n wires values masks party) next → out′ ≡ scattered party wires (ownAfter file n wires values masks party) out
-    → both ≡ followed answer next → AllTo file n wires values masks before (party + 1) both out′
+pub all-step : {file : List ℕ} {n : ℕ} {wires : List Wire} {values masks before : List ℕ} {party : ℕ} {number place : ℕ} {out out′ : List ℕ}
+    → AllTo file n wires values masks before party out → party < n → length out′ ≡ length out
+    → OwnCall file n wires values masks party number place × (out′ ≡ scattered party wires (ownAfter file n wires values masks party) out)
+    → AllTo file n wires values masks before (party + 1) out′
 unfolding gathered
-all-step {file} {n} {wires} {values} {masks} {before} {party} {answer} {next} {both} {out} {out′} r h l m e b =
+all-step {file} {n} {wires} {values} {masks} {before} {party} {number} {place} {out} {out′} r h l d =
     record {
       turns = omega arith;
       kept = l ∙ r .kept;
       eq =
-          e ∙ ap (λ (x : List ℕ). scattered party wires (ownAfter file n wires values masks party) x) (r .eq)
+          d .1 ∙ ap (λ (x : List ℕ). scattered party wires (ownAfter file n wires values masks party) x) (r .eq)
           ∙ ap (gathered file n wires values masks before) (sym (add-one party));
-      met = turn-next (ownChecks file n wires values masks) party (r .met) m refl b;
+      calls =
+          turn-next (λ j. Answered (OwnCall file n wires values masks j)) party (r .calls) (record { number = number; place = place; holds = d .0 });
     }
 
-pub all-done : {file : List ℕ} {n : ℕ} {wires : List Wire} {values masks before : List ℕ} {party : ℕ} {answer : ℕ} {out : List ℕ}
-    → AllTo file n wires values masks before party answer out → n ≤ party
-    → Says (allOf n (ownChecks file n wires values masks)) answer × (out ≡ gathered file n wires values masks before n)
-all-done {file} {n} {wires} {values} {masks} {before} {party} {answer} {out} r h =
-    let e : party ≡ n = le-antisymm (r .turns) h in (
-      subst (λ (j : ℕ). Says (allOf j (ownChecks file n wires values masks)) answer) e (r .met),
-      r .eq ∙ ap (gathered file n wires values masks before) e,
-    )
+pub all-done : {file : List ℕ} {n : ℕ} {wires : List Wire} {values masks before : List ℕ} {party : ℕ} {out : List ℕ}
+    → AllTo file n wires values masks before party out → n ≤ party → Masked file n wires values masks before out
+all-done {file} {n} {wires} {values} {masks} {before} {party} {out} r h =
+    record { calls = λ j b. r .calls j (omega arith); afterIs = r .eq ∙ ap (gathered file n wires values masks before) (le-antisymm (r .turns) h) }
+
+-- the wires by another name
+pub masked-as : {file : List ℕ} {n : ℕ} {wires wires′ : List Wire} {values masks before after : List ℕ} → wires ≡ wires′
+    → Masked file n wires values masks before after → Masked file n wires′ values masks before after
+masked-as {file} {n} {wires} {wires′} {values} {masks} {before} {after} e = subst (λ (ws : List Wire). Masked file n ws values masks before after) e

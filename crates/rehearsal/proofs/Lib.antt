@@ -6,6 +6,5 @@ pub mod Own
 pub mod Asked
 pub mod Gathered
 pub mod Rehearses
-pub mod Joined
 pub mod Sized
-pub mod Numbered
+pub mod Instance

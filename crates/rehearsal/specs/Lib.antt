@@ -1,5 +1,4 @@
 -- A round, played with the calls.
-pub mod All
 pub mod Hosts
+pub mod Turns
 pub mod Rehearsed
-pub mod Stages

@@ -2,17 +2,19 @@
 ghost use mathlib.Core.Path.{_≡_};
 ghost use Prim.Native.Nat.{_≤_};
 ghost use lib.ListN.{length, take};
+ghost use Rattle.circuit.specs.Wires.{inputsIn};
+ghost use Rattle.circuit.specs.File.{readFile};
 ghost use Rattle.circuit.specs.Held.{wiresIn, Held};
-ghost use Rattle.rehearsal.specs.Hosts.{scattered, ownChecks, ownAfter, gathered};
-ghost use Rattle.rehearsal.specs.All.{Says, allOf};
-ghost use Rattle.calls.specs.Externals.{externalsChecked, externalsAfter};
-use super::called::externals;
-use super::called::followed;
+ghost use Rattle.calls.specs.Externals.{ExternalsCall};
+ghost use Rattle.rehearsal.specs.Hosts.{scattered, ownAfter, OwnCall, Masked};
 use super::hosts::blank;
 use super::hosts::picked;
 use super::hosts::scatter;
 use circuit::Circuit;
+use circuit::read;
 use counts::inputs_of;
+use engine::Reported;
+use engine::lupiknam_externals;
 use lists::piece;
 use party_calls::counted;
 
@@ -25,14 +27,14 @@ pub fn ask(
     values: &[u8],
     masks: &[u8],
     out: &mut [u8],
-) -> u32
+) -> Reported
     requires { ⌜ (count ≤ length (now values)) × ((count ≤ length (now masks)) × (count ≤ length (now out))) ⌝ }
-    ensures { λ r. ⌜ Says (externalsChecked (now (file .entry)) n party (take count (now (values .entry))) (take count (now (masks .entry))) (take count (now (out .entry)))) r
-        × (take count (now (out .exit)) ≡ externalsAfter (now (file .entry)) n party (take count (now (values .entry))) (take count (now (masks .entry))) (take count (now (out .entry)))) ⌝ }
+    ensures { λ r. ⌜ ExternalsCall (now (file .entry)) n party (take count (now (values .entry))) (take count (now (masks .entry))) (take count (now (out .entry)))
+        (r .number) (r .place) (take count (now (out .exit))) ⌝ }
 {
     let own = piece(values, 0, count);
     let hidden = piece(masks, 0, count);
-    externals(file, n, party, own, hidden, &mut out[..count])
+    lupiknam_externals(file, n, party, own, hidden, &mut out[..count])
 }
 
 // A party's call for the external values of its own inputs, from all inputs' values and masks; what it wrote is put to the wires.
@@ -44,9 +46,9 @@ pub fn party_externals(
     values: &[u8],
     masks: &[u8],
     externals: &mut [u8],
-) -> u32
+) -> Reported
     requires { ⌜ Held circuit × (length (now externals) ≡ circuit .inputs) ⌝ }
-    ensures { λ r. ⌜ Says (ownChecks (now (file .entry)) n (wiresIn circuit) (now (values .entry)) (now (masks .entry)) party) r
+    ensures { λ r. ⌜ OwnCall (now (file .entry)) n (wiresIn circuit) (now (values .entry)) (now (masks .entry)) party (r .number) (r .place)
         × (now (externals .exit) ≡ scattered party (wiresIn circuit) (ownAfter (now (file .entry)) n (wiresIn circuit) (now (values .entry)) (now (masks .entry)) party) (now (externals .entry))) ⌝ }
 {
     let count = counted(inputs_of(circuit, party));
@@ -59,25 +61,30 @@ pub fn party_externals(
 }
 
 // At each party the external values of its own inputs; together they stand in wire order.
-pub fn externals_of_all(
+fn externals_of_all(
     file: &[u8],
     circuit: Circuit,
     n: u32,
     values: &[u8],
     masks: &[u8],
     externals: &mut [u8],
-) -> u32
+)
     requires { ⌜ Held circuit × (length (now externals) ≡ circuit .inputs) ⌝ }
-    ensures { λ r. ⌜ Says (allOf n (ownChecks (now (file .entry)) n (wiresIn circuit) (now (values .entry)) (now (masks .entry)))) r
-        × (now (externals .exit) ≡ gathered (now (file .entry)) n (wiresIn circuit) (now (values .entry)) (now (masks .entry)) (now (externals .entry)) n) ⌝ }
+    ensures { λ _. ⌜ Masked (now (file .entry)) n (wiresIn circuit) (now (values .entry)) (now (masks .entry)) (now (externals .entry)) (now (externals .exit)) ⌝ }
 {
-    let mut answer = 0;
     let mut party = 0;
     while party < n {
-        let next = party_externals(file, circuit, n, party, values, masks, &mut *externals);
-        let both = followed(answer, next);
-        answer = both;
+        let answer = party_externals(file, circuit, n, party, values, masks, &mut *externals);
         party += 1;
     }
-    answer
+}
+
+// The same, of the circuit in the file.
+pub fn mask_all(file: &[u8], n: u32, values: &[u8], masks: &[u8], externals: &mut [u8])
+    requires { ⌜ length (now externals) ≡ inputsIn (readFile (now file) .wires) ⌝ }
+    ensures { λ _. ⌜ Masked (now (file .entry)) n (readFile (now (file .entry)) .wires) (now (values .entry)) (now (masks .entry)) (now (externals .entry)) (now (externals .exit)) ⌝ }
+{
+    let reading = read(file);
+    let circuit = reading.circuit;
+    externals_of_all(file, circuit, n, values, masks, externals);
 }

@@ -1,17 +1,11 @@
 // A call made by each party in turn, on its part of the lent memory.
 ghost use mathlib.Core.Path.{_≡_};
-ghost use Prim.Native.Nat.{_*_};
+ghost use Prim.Native.Nat.{_*_, _≤_};
 ghost use lib.ListN.{length};
-ghost use Rattle.lists.specs.Blocks.{nthPiece};
-ghost use Rattle.pads.specs.Pad.{shakePad};
-ghost use Rattle.calls.specs.InputKeys.{inputKeysChecked, inputKeysAfter};
-ghost use Rattle.calls.specs.Open.{openChecked, openKeys, openExternals};
-ghost use Rattle.calls.specs.Decode.{decodeChecked, decodeAfter};
-ghost use Rattle.rehearsal.specs.All.{Says, allOf, Parts};
-use super::called::decode;
-use super::called::followed;
-use super::called::input_keys;
-use super::called::open_rows;
+ghost use Rattle.rehearsal.specs.Turns.{KeysOfAll, OpenedByAll, DecodedByAll};
+use engine::lupiknam_decode;
+use engine::lupiknam_input_keys;
+use engine::lupiknam_open;
 use lists::piece;
 
 // At each party its input keys, from its contribution of `size` bytes; `each` bytes of `mine` are a party's.
@@ -24,19 +18,17 @@ pub fn keys_of_all(
     externals: &[u8],
     each: usize,
     mine: &mut [u8],
-) -> u32
+)
     requires { ⌜ (length (now contributions) ≡ n * size) × (length (now mine) ≡ n * each) ⌝ }
-    ensures { λ r. ⌜ Says (allOf n (λ party. inputKeysChecked (now (file .entry)) n k party (nthPiece (now (contributions .entry)) size party) (now (externals .entry)) (nthPiece (now (mine .entry)) each party))) r
-        × Parts n each (λ party. inputKeysAfter (now (file .entry)) n k party (nthPiece (now (contributions .entry)) size party) (now (externals .entry)) (nthPiece (now (mine .entry)) each party)) (now (mine .exit)) ⌝ }
+    ensures { λ _. ⌜ KeysOfAll (now (file .entry)) n k (now (contributions .entry)) size (now (externals .entry)) each (now (mine .entry)) (now (mine .exit)) ⌝ }
 {
-    let mut answer = 0;
     let mut from = 0;
     let mut at = 0;
     let mut party = 0;
     while party < n {
         let contribution = piece(contributions, from, size);
         let to = at + each;
-        let next = input_keys(
+        let answer = lupiknam_input_keys(
             file,
             n,
             k,
@@ -45,36 +37,42 @@ pub fn keys_of_all(
             externals,
             &mut mine[at..to],
         );
-        let both = followed(answer, next);
-        answer = both;
         from += size;
         at = to;
         party += 1;
     }
-    answer
 }
 
-// At each party opening, from its contribution; `wide` bytes of `wkeys` and `long` bytes of `wexternals` are a party's.
+// How many parties there are, and how long their keys; how many bytes a party has of contributions, of wires' keys and of wires' external values.
+pub struct Shares {
+    pub n: u32,
+    pub k: u32,
+    pub size: usize,
+    pub wide: usize,
+    pub long: usize,
+}
+
+// At each party opening, from its contribution.
 pub fn open_all(
     file: &[u8],
-    n: u32,
-    k: u32,
+    shares: Shares,
     contributions: &[u8],
-    size: usize,
     externals: &[u8],
     keys: &[u8],
     rows: &[u8],
-    wide: usize,
     wkeys: &mut [u8],
-    long: usize,
     wexternals: &mut [u8],
-) -> u32
-    requires { ⌜ (length (now contributions) ≡ n * size) × ((length (now wkeys) ≡ n * wide) × (length (now wexternals) ≡ n * long)) ⌝ }
-    ensures { λ r. ⌜ Says (allOf n (λ party. openChecked shakePad (now (file .entry)) n k party (nthPiece (now (contributions .entry)) size party) (now (externals .entry)) (now (keys .entry)) (now (rows .entry)) (nthPiece (now (wkeys .entry)) wide party) (nthPiece (now (wexternals .entry)) long party))) r
-        × (Parts n wide (λ party. openKeys shakePad (now (file .entry)) n k party (nthPiece (now (contributions .entry)) size party) (now (externals .entry)) (now (keys .entry)) (now (rows .entry)) (nthPiece (now (wkeys .entry)) wide party) (nthPiece (now (wexternals .entry)) long party)) (now (wkeys .exit))
-        × Parts n long (λ party. openExternals shakePad (now (file .entry)) n k party (nthPiece (now (contributions .entry)) size party) (now (externals .entry)) (now (keys .entry)) (now (rows .entry)) (nthPiece (now (wkeys .entry)) wide party) (nthPiece (now (wexternals .entry)) long party)) (now (wexternals .exit))) ⌝ }
+)
+    requires { ⌜ (length (now contributions) ≡ shares .n * shares .size) × ((length (now wkeys) ≡ shares .n * shares .wide)
+        × ((length (now wexternals) ≡ shares .n * shares .long) × (shares .n ≤ 8))) ⌝ }
+    ensures { λ _. ⌜ OpenedByAll (now (file .entry)) (shares .n) (shares .k) (now (contributions .entry)) (shares .size) (now (externals .entry)) (now (keys .entry)) (now (rows .entry))
+        (shares .wide) (now (wkeys .entry)) (shares .long) (now (wexternals .entry)) (now (wkeys .exit)) (now (wexternals .exit)) ⌝ }
 {
-    let mut answer = 0;
+    let n = shares.n;
+    let k = shares.k;
+    let size = shares.size;
+    let wide = shares.wide;
+    let long = shares.long;
     let mut from = 0;
     let mut at = 0;
     let mut place = 0;
@@ -84,7 +82,7 @@ pub fn open_all(
         let contribution = piece(contributions, from, size);
         let to = at + wide;
         let end = place + long;
-        let next = open_rows(
+        let answer = lupiknam_open(
             file,
             n,
             k,
@@ -96,14 +94,11 @@ pub fn open_all(
             &mut wkeys[at..to],
             &mut wexternals[place..end],
         );
-        let both = followed(answer, next);
-        answer = both;
         from = past;
         at = to;
         place = end;
         party += 1;
     }
-    answer
 }
 
 // At each party decoding, from `long` external values of its own; `each` bytes of `results` are a party's.
@@ -115,24 +110,19 @@ pub fn decode_all(
     masks: &[u8],
     each: usize,
     results: &mut [u8],
-) -> u32
+)
     requires { ⌜ (length (now externals) ≡ n * long) × (length (now results) ≡ n * each) ⌝ }
-    ensures { λ r. ⌜ Says (allOf n (λ party. decodeChecked (now (file .entry)) (nthPiece (now (externals .entry)) long party) (now (masks .entry)) (nthPiece (now (results .entry)) each party))) r
-        × Parts n each (λ party. decodeAfter (now (file .entry)) (nthPiece (now (externals .entry)) long party) (now (masks .entry)) (nthPiece (now (results .entry)) each party)) (now (results .exit)) ⌝ }
+    ensures { λ _. ⌜ DecodedByAll (now (file .entry)) n (now (externals .entry)) long (now (masks .entry)) each (now (results .entry)) (now (results .exit)) ⌝ }
 {
-    let mut answer = 0;
     let mut from = 0;
     let mut at = 0;
     let mut party = 0;
     while party < n {
         let external = piece(externals, from, long);
         let to = at + each;
-        let next = decode(file, external, masks, &mut results[at..to]);
-        let both = followed(answer, next);
-        answer = both;
+        let answer = lupiknam_decode(file, external, masks, &mut results[at..to]);
         from += long;
         at = to;
         party += 1;
     }
-    answer
 }

@@ -1,15 +1,19 @@
 // A whole round: every call that document 01 names, for all parties.
 ghost use Rattle.round.specs.Claim.{Conditions};
-ghost use Rattle.rehearsal.specs.Rehearsed.{lentOf, Whole, Rehearsed};
-use super::called::Metered;
-use super::called::followed;
-use super::called::plain;
+ghost use Rattle.rehearsal.specs.Rehearsed.{lentOf, resultsOf, Whole, Rehearsed};
+use super::hosts::put_keys_by_input;
+use super::masking::mask_all;
 use super::memory::sizes_of;
-use super::stages::finish;
-use super::stages::hand_keys;
-use super::stages::prepare;
+use super::parties::Shares;
+use super::parties::decode_all;
+use super::parties::keys_of_all;
+use super::parties::open_all;
+use engine::lupiknam_garble;
+use engine::lupiknam_plain;
+use party_calls::counted;
 
-// Under demand 3's conditions every call accepts, each party opens value plus mask on every wire, and decodes the plain circuit's outputs.
+// Under demand 3's conditions every call accepts, each party opens value plus mask on every wire, and decodes the plain circuit's outputs. Gives back what
+// the row meter then holds.
 pub fn rehearse(
     file: &[u8],
     n: u32,
@@ -25,12 +29,18 @@ pub fn rehearse(
     wkeys: &mut [u8],
     wexternals: &mut [u8],
     results: &mut [u8],
-    figures: &mut [u8],
+    evaluated: &mut [u8],
     meter: u32,
-) -> Metered
-    requires { ⌜ Conditions (now file) n k (now contributions) (now values) meter (lentOf (now file) n k (now rows) (now inputs) (now outputs) (now mine) (now wkeys) (now wexternals) (now results) (now figures))
+) -> u32
+    requires { ⌜ Conditions (now file) n k (now contributions) (now values) meter
+        (lentOf (now file) n k (now rows) (now inputs) (now outputs) (now mine) (now wkeys) (now wexternals) (now results) (now evaluated))
         × Whole (now file) n k (now externals) (now mine) (now keys) (now wkeys) (now wexternals) (now results) ⌝ }
-    ensures { λ r. ⌜ Rehearsed (now (file .entry)) n k (now (contributions .entry)) (now (values .entry)) meter (r .number) (r .meter) (now (rows .exit)) (now (inputs .exit)) (now (outputs .exit)) (now (externals .exit)) (now (mine .exit)) (now (keys .exit)) (now (wkeys .exit)) (now (wexternals .exit)) (now (results .exit)) (now (figures .exit)) ⌝ }
+    ensures { λ r. ⌜ Rehearsed (now (file .entry)) n k (now (contributions .entry)) (now (values .entry)) meter
+        (lentOf (now (file .entry)) n k (now (rows .entry)) (now (inputs .entry)) (now (outputs .entry)) (now (mine .entry))
+        (now (wkeys .entry)) (now (wexternals .entry)) (now (results .entry)) (now (evaluated .entry)))
+        (resultsOf (now (file .entry)) n k (now (values .entry)) (now (rows .exit)) (now (inputs .exit)) (now (outputs .exit)) r (now (mine .exit))
+        (now (wkeys .exit)) (now (wexternals .exit)) (now (results .exit)) (now (evaluated .exit)))
+        (now (externals .exit)) (now (keys .exit)) ⌝ }
 {
     let sizes = sizes_of(file, n, k);
     let own = sizes.own;
@@ -39,55 +49,48 @@ pub fn rehearse(
     let size = sizes.size;
     let each = sizes.each;
     let wide = sizes.wide;
-    let begun = prepare(
+    let key = counted(k);
+    let mut total = meter;
+    let garbled = lupiknam_garble(
         file,
         n,
         k,
         contributions,
-        values,
         &mut *rows,
         &mut *inputs,
         &mut *outputs,
-        &mut *externals,
-        meter,
+        &mut total,
     );
-    let handed = hand_keys(
+    mask_all(file, n, values, &*inputs, &mut *externals);
+    keys_of_all(
         file,
         n,
         k,
         contributions,
         size,
         &*externals,
-        own,
         each,
         &mut *mine,
-        &mut *keys,
     );
-    let ended = finish(
-        file,
+    put_keys_by_input(n, key, own, each, &*mine, &mut *keys);
+    let shares = Shares {
         n,
         k,
-        contributions,
         size,
+        wide,
+        long: made,
+    };
+    open_all(
+        file,
+        shares,
+        contributions,
         &*externals,
         &*keys,
         &*rows,
-        &*outputs,
-        wide,
-        made,
-        given,
         &mut *wkeys,
         &mut *wexternals,
-        &mut *results,
     );
-    let evaluated = plain(file, values, &mut *figures);
-    let last = followed(ended, evaluated);
-    let rest = followed(handed, last);
-    let first = begun.number;
-    let number = followed(first, rest);
-    let raised = begun.meter;
-    Metered {
-        number,
-        meter: raised,
-    }
+    decode_all(file, n, &*wexternals, made, &*outputs, given, &mut *results);
+    let plainly = lupiknam_plain(file, values, &mut *evaluated);
+    total
 }

@@ -18,6 +18,7 @@ use Rattle.words.specs.declared.gate.Wire.{Wire}
 use Rattle.words.specs.Reading.{check, afterEntry, readWord}
 use Rattle.circuit.specs.Wires.{modulusAt, inputsIn}
 use Rattle.circuit.specs.File.{Read, accepted, ended, after, readFrom, headed, readFile}
+use Rattle.counts.specs.Recipe.{recipe}
 use Rattle.counts.specs.Counts.{rowsIn}
 use Rattle.counts.specs.Moduli.{someBelow}
 use Rattle.scheme.specs.Contribution.{offsetAt, contributionSize, contributionModuli}
@@ -49,15 +50,15 @@ unfolding wires inputsIn values
 below = three (λ w. getD values w 0 < modulusAt wires w) (omega arith) (omega arith) (omega arith)
 
 size : length contributions ≡ 2 * contributionSize 1 wires
-unfolding contributions contributionSize wires sumTo someBelow
+unfolding contributions contributionSize wires sumTo someBelow recipe
 size = refl
 
 bytes : contributionsChecked 2 1 wires contributions ≡ passed
-unfolding contributionsChecked bytesChecked noneBadFree unlessFree first firstFrom blocks contributions contributionModuli wires someBelow
+unfolding contributionsChecked bytesChecked noneBadFree unlessFree first firstFrom blocks contributions contributionModuli wires someBelow recipe
 bytes = refl
 
 offsets : offsetsChecked 2 1 wires contributions ≡ passed
-unfolding offsetsChecked zeroOffset noneBad unless first firstFrom part contributions contributionSize offsetAt allZero wires sumTo someBelow
+unfolding offsetsChecked zeroOffset noneBad unless first firstFrom part contributions contributionSize offsetAt allZero wires sumTo someBelow recipe
 offsets = refl
 
 lengths : LengthsRight 2 1 wires outputs lent
@@ -80,7 +81,7 @@ unfolding values wires inputsIn
 values-size = refl
 
 space : HasSpace 0 (rowsIn wires)
-unfolding wires sumTo
+unfolding wires sumTo recipe
 space = omega arith
 
 wires-read : readFile file .wires ≡ wires
@@ -93,7 +94,7 @@ outputs-read = ap (λ (r : Read). r .outputs) reads
 as-read : (P : List Wire → Type 0) → P wires → P (readFile file .wires)
 as-read P = subst P (sym wires-read)
 
-conditions : Conditions file 2 1 contributions values 0 lent
+pub conditions : Conditions file 2 1 contributions values 0 lent
 conditions =
     record {
       accepted = rw reads;

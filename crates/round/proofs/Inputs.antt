@@ -14,7 +14,9 @@ use Rattle.words.specs.declared.gate.Wire.{Wire}
 use Rattle.circuit.specs.Wires.{wireAt, modulusAt, isInput, inputsIn}
 use Rattle.circuit.specs.Accepted.{AcceptedCircuit}
 use Rattle.circuit.proofs.More.{inputs-le}
-use Rattle.counts.specs.Recipe.{gateRecipe}
+use Rattle.counts.specs.declared.recipe.Recipe.the-variants.{Entered}
+use Rattle.counts.specs.Recipe.{recipe}
+use Rattle.counts.proofs.Recipes.{by-gate}
 use Rattle.counts.specs.Counts.{ownedBy, recordKeysOf}
 use Rattle.scheme.specs.Draw.{Draw}
 use Rattle.scheme.specs.Zero.{zeroKeyBy, zeroKey}
@@ -39,11 +41,13 @@ module _ {file : List ℕ} {wires : List Wire} {outputs : List ℕ} (circuit : A
   pub input-owned : ownedBy (ownerAt wires w) (wireAt wires w .gate) ≡ true
   input-owned = ap (λ (g : Gate). ownedBy (ownerOf g) g) (gate .1) ∙ eq-eqb (gate .0 .owner) (gate .0 .owner) refl
 
+  entered : recipe (wireAt wires w) ≡ Entered
+  entered = by-gate (wireAt wires w) (gate .1)
+
   pub input-recorded : 0 < recordKeysOf wires w
-  input-recorded = rw (gate .1) (omega arith)
+  input-recorded = rw entered (omega arith)
 
   pub input-zeroKey : (draw : Draw) → zeroKey wires draw w ≡ draw .key w 0
   unfolding zeroKeyBy
   input-zeroKey draw =
-      zeroKey-step circuit w input-made draw
-      ∙ ap (λ (g : Gate). zeroKeyBy draw w (modulusAt wires w) g (gateRecipe g) (zeroKey wires draw)) (gate .1)
+      zeroKey-step circuit w input-made draw ∙ ap (zeroKeyBy (draw .key w 0) (modulusAt wires w) (zeroKey wires draw)) entered

@@ -24,3 +24,4 @@ pub mod RowBytes
 pub mod Shared
 pub mod Start
 pub mod Wires
+pub mod Demand

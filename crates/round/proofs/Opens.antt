@@ -20,7 +20,6 @@ use Rattle.checks.proofs.Passed.{andThen-passed, noneBad-passed, afterwards-pas
 use Rattle.words.specs.declared.gate.Wire.{Wire}
 use Rattle.circuit.specs.Wires.{wireAt, modulusAt}
 use Rattle.circuit.specs.File.{readFile}
-use Rattle.counts.specs.Recipe.{recipe}
 use Rattle.counts.specs.Counts.{rowsOf, rowsIn}
 use Rattle.scheme.specs.Draw.{Draw, drawn}
 use Rattle.scheme.specs.Zero.{zeroKey, mask}
@@ -36,8 +35,7 @@ use Rattle.scheme.specs.Given.{GivenInputs, RoundAt, Rightly}
 use Rattle.round.specs.Round.{Lent, contributionOf, rows, externals, keys, opening, wireKeys, wireExternals}
 use Rattle.scheme.proofs.Search.{key-part}
 use Rattle.scheme.proofs.Bounds.{positive, zeroKey-size}
-use Rattle.scheme.proofs.Rows.{gate-size}
-use Rattle.scheme.proofs.Opened.{opening-undoes-garbling}
+use Rattle.scheme.proofs.Opened.{gate-size, opening-undoes-garbling}
 use Rattle.round.proofs.Start.{Start}
 use Rattle.round.proofs.Shared.{session-fits, owners-fit}
 use Rattle.round.proofs.Own.{own-contribution, own-alone, own-offsets, own-part}
@@ -77,11 +75,10 @@ module _ {pad : Pad} {file : List ℕ} {n K : ℕ} {contributions values : List 
   -- ---- the rows
 
   abbrev rowsAt : ℕ → List ℕ
-  rowsAt w = gateRows pad n K file wires draw w (recipe (wireAt wires w))
+  rowsAt = gateRows pad n K file wires draw
 
   rowsAt-size : (w : ℕ) → w < length wires → length (rowsAt w) ≡ rowsOf wires w * (n * K)
-  rowsAt-size w h =
-      gate-size (start .pads) (start .accepted) (start .drew .well) w h (start .accepted .fits w h .gate) refl ∙ mul-comm (n * K) (rowsOf wires w)
+  rowsAt-size w h = gate-size (start .pads) (start .accepted) (start .drew .well) w h
 
   rows-blocks : garbled ≡ blocks (length wires) rowsAt
   unfolding garbledRows
@@ -96,10 +93,11 @@ module _ {pad : Pad} {file : List ℕ} {n K : ℕ} {contributions values : List 
       ∙ mul-comm (n * K) (rowsIn wires)
 
   rows-pass : rowsChecked n K wires garbled ≡ passed
+  unfolding gateRows
   rows-pass =
       rw rows-blocks
-      (rows-passed n K wires rowsAt rowsAt-size
-      (λ w h. rows-below pad n K file wires draw w (positive (start .accepted) w h) (recipe (wireAt wires w))))
+      (rows-passed n K wires (rowsOf wires) rowsAt rowsAt-size
+      (λ w h. rows-below pad n K w (modulusAt wires w) (positive (start .accepted) w h) file _ _))
 
   -- ---- what opening at a party is given
 

@@ -1,4 +1,5 @@
 -- The calls of a round, each with its checks in order and what it writes; the round; the claim.
 pub mod Round
 pub mod Claim
+pub mod Played
 pub mod Example

@@ -8,9 +8,11 @@ use lib.ListN.{length}
 use Rattle.checks.specs.declared.Answer.{Answer}
 use Rattle.checks.specs.declared.Answer.the-variants.{Accepted, Refused}
 use Rattle.checks.specs.declared.Refusal.{Refusal}
+use Rattle.checks.specs.Answer.{numberIn, placeIn}
 use Rattle.checks.specs.Combined.{followed}
 use Rattle.checks.specs.Checked.{Checked, Meets, andThen}
 use Rattle.checks.specs.Checked.Checked.{passed}
+use Rattle.checks.specs.Checked.Reports.{reports}
 use Rattle.checks.proofs.Passed.{andThen-left, andThen-right}
 use Rattle.checks.proofs.Answers.{afterwards-accepted, afterwards-refused}
 use Rattle.words.specs.declared.gate.Wire.{Wire}
@@ -29,7 +31,7 @@ use Rattle.session.proofs.Sessions.{SessionFits, session-fits}
 use Rattle.session.proofs.Circuits.{held-of, given-is}
 use Rattle.meter.specs.Meter.{HasSpace, meterChecked, charged}
 use Rattle.meter.proofs.Totals.{passed-space}
-use Rattle.calls.specs.Garble.{garbleBytes, garbleLengths, garbleLent, garbleOwned, garbleAsked, garbleChecked, garbleRows, garbleInputMasks, garbleOutputMasks, garbleMeter}
+use Rattle.calls.specs.Garble.{garbleBytes, garbleLengths, garbleLent, garbleOwned, garbleAsked, garbleChecked, garbleRows, garbleInputMasks, garbleOutputMasks, garbleMeter, GarbleCall}
 use Rattle.row_calls.specs.Garbled.{Draws}
 use Rattle.zero.specs.Ready.{Contributed, drawnIn}
 use Rattle.party_calls.proofs.Ending.{lent-is, stage-passed, stage-next, stage-refused, stage-followed, first-accepted, second-accepted, read-met, check-accepted, circuit-accepted}
@@ -39,42 +41,42 @@ use Rattle.party_calls.proofs.Ending.{lent-is, stage-passed, stage-next, stage-
 four-same : {a b c d x y z t : ℕ} → a ≡ x → b ≡ y → c ≡ z → d ≡ t → _≡_ {A = List ℕ} (a ∷ b ∷ c ∷ d ∷ []) (x ∷ y ∷ z ∷ t ∷ [])
 four-same e f g h = rw (e, f, g, h)
 
-module _ {circuit : Circuit} (held : Held circuit) (n K : ℕ) (few : n ≤ 8) (most : K ≤ 128) (contributions : List ℕ) (rows masks outs : ℕ)
-    {parties long size raw count : ℕ} (p : parties ≡ n) (l : long ≡ K) (s : Counts 429056 (contributionSize long (wiresIn circuit)) size)
-    (c : Counts 524288 (rowsIn (wiresIn circuit)) raw) (d : count ≡ raw) {answer : Answer}
-    (m : Meets (lengthsChecked (length contributions ∷ rows ∷ masks ∷ outs ∷ []) (parties * size ∷ count * (parties * long) ∷ circuit .inputs ∷ circuit .given ∷ [])) answer) where
+module _ {circuit : Circuit} (held : Held circuit) (n K : ℕ) (contributions : List ℕ) (rows masks outs : ℕ) where
   abbrev ws : List Wire
   ws = wiresIn circuit
-
-  abbrev os : List ℕ
-  os = outputsIn circuit
 
   abbrev lent : List ℕ
   lent = length contributions ∷ rows ∷ masks ∷ outs ∷ []
 
+  abbrev lengths : Checked
+  lengths = garbleLengths n K (wiresIn circuit) (outputsIn circuit) contributions rows masks outs
+
   abbrev rest : ℕ → ℕ → Checked
   rest a b = garbleBytes a b (wiresIn circuit) contributions
 
-  sized : size ≡ contributionSize K ws
-  sized = s .is ∙ ap (λ (k : ℕ). contributionSize k ws) l
-
-  lengths-met : Meets (garbleLengths n K ws os contributions rows masks outs) answer
-  lengths-met =
+  pub lengths-met : {parties long size raw count : ℕ} → parties ≡ n → long ≡ K → Counts 429056 (contributionSize long (wiresIn circuit)) size
+      → Counts 524288 (rowsIn (wiresIn circuit)) raw → count ≡ raw → {answer : Answer}
+      → Meets (lengthsChecked lent (parties * size ∷ count * (parties * long) ∷ circuit .inputs ∷ circuit .given ∷ [])) answer → Meets lengths answer
+  lengths-met p l s c d {answer} m =
       subst (λ (w : List ℕ). Meets (lengthsChecked lent w) answer)
-      (four-same (ap₂ (λ (a b : ℕ). a * b) p sized) (ap₂ (λ (a b : ℕ). a * b) (d ∙ c .is) (ap₂ (λ (a b : ℕ). a * b) p l)) (held .inputs) (sym (given-is held))) m
+      (four-same (ap₂ (λ (a b : ℕ). a * b) p (s .is ∙ ap (λ (k : ℕ). contributionSize k ws) l))
+      (ap₂ (λ (a b : ℕ). a * b) (d ∙ c .is) (ap₂ (λ (a b : ℕ). a * b) p l)) (held .inputs) (sym (given-is held))) m
 
-  pub draws-lent : answer ≡ Accepted → Draws circuit parties long contributions
-  draws-lent e =
-      record { held = held; parties = omega arith; most = omega arith; size = lent-is _ _ (stage-passed m e) 0 ∙ ap (λ (x : ℕ). parties * x) (s .is) }
+  module _ {answer : Answer} (m : Meets lengths answer) {parties long : ℕ} (p : parties ≡ n) (l : long ≡ K) where
+    pub draws-lent : n ≤ 8 → K ≤ 128 → answer ≡ Accepted → Draws circuit parties long contributions
+    draws-lent few most e =
+        record {
+          held = held;
+          parties = omega arith;
+          most = omega arith;
+          size = lent-is _ _ (stage-passed m e) 0 ∙ ap₂ (λ (a b : ℕ). a * contributionSize b ws) (sym p) (sym l);
+        }
 
-  pub draws-next : answer ≡ Accepted → {r : Answer} → Meets (rest parties long) r → Meets (garbleLent n K (wiresIn circuit) (outputsIn circuit) contributions rows masks outs) r
-  draws-next e {r} k =
-      stage-next lengths-met e
-      (subst (λ (a : ℕ). Meets (rest a K) r) p (subst (λ (b : ℕ). Meets (rest parties b) r) l k))
+    pub draws-next : answer ≡ Accepted → {r : Answer} → Meets (rest parties long) r → Meets (andThen lengths (rest n K)) r
+    draws-next e {r} k = stage-next m e (subst (λ (a : ℕ). Meets (rest a K) r) p (subst (λ (b : ℕ). Meets (rest parties b) r) l k))
 
-  pub draws-stop : {reason : Refusal} {place : ℕ} → answer ≡ Refused reason place
-      → Meets (garbleLent n K (wiresIn circuit) (outputsIn circuit) contributions rows masks outs) (Refused reason place)
-  draws-stop e = stage-refused lengths-met (rest n K) e
+    pub draws-stop : {reason : Refusal} {place : ℕ} → answer ≡ Refused reason place → Meets (andThen lengths (rest n K)) (Refused reason place)
+    draws-stop e = stage-refused m (rest n K) e
 
 -- ---- 11
 
@@ -121,17 +123,19 @@ module _ {reading : Reading} (file : List ℕ) (n K : ℕ) (contributions rows m
       (subst (λ (c : ℕ). Meets (meterChecked meter c) space) rows-are spaced) last
 
   abbrev Ends : Answer → List ℕ → List ℕ → List ℕ → ℕ → Type 0
-  Ends a rows′ masks′ outs′ meter′ =
-      Meets fate a × (rows′ ≡ garbleRows shakePad file n K contributions rows masks outs meter)
-      × (masks′ ≡ garbleInputMasks file n K contributions rows masks outs meter)
-      × (outs′ ≡ garbleOutputMasks file n K contributions rows masks outs meter)
-      × (meter′ ≡ garbleMeter file n K contributions rows masks outs meter)
+  Ends a = GarbleCall file n K contributions rows masks outs meter (numberIn a) (placeIn a)
 
   pub garble-refused : {reason : Refusal} {place : ℕ} → answer ≡ Refused reason place → Ends (Refused reason place) rows masks outs meter
   unfolding garbleRows garbleInputMasks garbleOutputMasks garbleMeter
   garble-refused {reason} {place} e =
       let a : Meets fate (Refused reason place) = subst (Meets fate) e met in
-      (a, afterwards-refused a _ rows, afterwards-refused a _ masks, afterwards-refused a _ outs, afterwards-refused a _ meter)
+      record {
+        answer = reports a;
+        rowsIs = afterwards-refused a _ rows;
+        inputMasksIs = afterwards-refused a _ masks;
+        outputMasksIs = afterwards-refused a _ outs;
+        meterIs = afterwards-refused a _ meter;
+      }
 
   module _ (e : answer ≡ Accepted) where
     read : earlier ≡ Accepted
@@ -191,16 +195,19 @@ module _ {reading : Reading} (file : List ℕ) (n K : ℕ) (contributions rows m
           → meter′ ≡ charged meter count → Ends Accepted rows′ masks′ outs′ meter′
       unfolding garbleRows garbleInputMasks garbleOutputMasks garbleMeter
       garble-written {rows′} {masks′} {outs′} {meter′} w r =
-          let a : Meets fate Accepted = subst (Meets fate) e met in (
-            a,
-            w .0
+          let a : Meets fate Accepted = subst (Meets fate) e met in
+          record {
+            answer = reports a;
+            rowsIs =
+                w .0
                 ∙ ap₂ (λ (a b : ℕ). garbledRows shakePad a b file wires (drawnIn circuit parties long contributions)) p l
                 ∙ ap₂ (λ (v : List Wire) (d : Draw). garbledRows shakePad n K file v d) (h .wires) drawn-is
-                ∙ afterwards-accepted a _ rows,
-            w .1 .0 ∙ ap₂ (λ (v : List Wire) (d : Draw). inputMasks v d) (h .wires) drawn-is ∙ afterwards-accepted a _ masks,
-            w .1 .1
+                ∙ afterwards-accepted a _ rows;
+            inputMasksIs = w .1 .0 ∙ ap₂ (λ (v : List Wire) (d : Draw). inputMasks v d) (h .wires) drawn-is ∙ afterwards-accepted a _ masks;
+            outputMasksIs =
+                w .1 .1
                 ∙ ap (λ (o : List ℕ). outputMasks wires o (drawnIn circuit parties long contributions)) (h .outputs)
                 ∙ ap₂ (λ (v : List Wire) (d : Draw). outputMasks v (readFile file .outputs) d) (h .wires) drawn-is
-                ∙ afterwards-accepted a _ outs,
-            r ∙ ap (charged meter) rows-are ∙ afterwards-accepted a _ meter,
-          )
+                ∙ afterwards-accepted a _ outs;
+            meterIs = r ∙ ap (charged meter) rows-are ∙ afterwards-accepted a _ meter;
+          }

@@ -1,4 +1,4 @@
--- Opening (document 01: opening) as a call: the checks after reading, what acceptance hands on, the party's own keys, and how the call ends.
+-- Opening as a call: the checks after reading, what acceptance hands on, the party's own keys, and how the call ends.
 -- Assumes nothing.
 use mathlib.Core.Path.{_≡_, refl, sym, ap, ap₂, subst, _∙_}
 use mathlib.Core.Bool.{Bool, not}
@@ -19,9 +19,11 @@ use Rattle.checks.specs.declared.Answer.{Answer}
 use Rattle.checks.specs.declared.Answer.the-variants.{Accepted, Refused}
 use Rattle.checks.specs.declared.Refusal.{Refusal}
 use Rattle.checks.specs.declared.Refusal.the-variants.{WrongInputKey, NoMultiplier}
+use Rattle.checks.specs.Answer.{numberIn, placeIn}
 use Rattle.checks.specs.Combined.{followed, named}
 use Rattle.checks.specs.Checked.{Checked, Meets, andThen, afterwards}
 use Rattle.checks.specs.Checked.Checked.{passed, refused}
+use Rattle.checks.specs.Checked.Reports.{reports}
 use Rattle.checks.proofs.Passed.{andThen-left, andThen-right, afterwards-passed}
 use Rattle.checks.proofs.Answers.{meets-noneBad, named-past, named-found, meets-next, meets-refused, afterwards-accepted, afterwards-refused}
 use Rattle.words.specs.declared.gate.Wire.{Wire}
@@ -43,10 +45,10 @@ use Rattle.session.proofs.Sessions.{SessionFits, session-fits, party-below}
 use Rattle.session.proofs.Circuits.{held-of, made-is, inputs-made}
 use Rattle.scheme.specs.Bytes.{contributionsChecked, offsetsChecked, keysChecked, rowsChecked}
 use Rattle.calls.specs.InputKeys.{inputKey, inputKeysMade}
-use Rattle.calls.specs.Open.{openLengths, openBytes, openLent, openParty, openAsked, inputKeyWrong, ownKeysChecked, gatesChecked, beforeOpening, openChecked, openKeys, openExternals}
+use Rattle.calls.specs.Open.{openLengths, openBytes, openLent, openParty, openAsked, inputKeyWrong, ownKeysChecked, gatesChecked, beforeOpening, openChecked, openKeys, openExternals, OpenCall}
 use Rattle.party_calls.specs.Keying.{KeysFit}
 use Rattle.opening.specs.Given.{Given, OpensAll}
-use Rattle.row_calls.specs.Opened.{OpenSizes, Compared}
+use Rattle.row_calls.specs.Opened.{OpenSizes, Compared, firstWrong, GatesOpened, InputsOpened}
 use Rattle.party_calls.proofs.TwoBuffers.{first-ext}
 use Rattle.party_calls.proofs.KeyPlaces.{one-key}
 use Rattle.party_calls.proofs.Ending.{lent-is, stage-passed, stage-next, stage-refused, stage-followed, read-met, check-accepted, circuit-accepted}
@@ -146,7 +148,7 @@ own-inside K inputs w {len} h e =
 pub other-is : {x : Bool} {lent made : List ℕ} {y z : List ℕ} → x ≡ same lent made → lent ≡ y → made ≡ z → {b : Bool} → not x ≡ b → not (same y z) ≡ b
 other-is e f g h = ap not (ap₂ (λ (u v : List ℕ). same u v) (sym f) (sym g) ∙ sym e) ∙ h
 
-module _ {file : List ℕ} {circuit : Circuit} {n K party : ℕ} {contribution externals keys rows : List ℕ} (g : Given file circuit n K party contribution externals keys rows) where
+module _ {circuit : Circuit} {n K party : ℕ} {contribution externals keys rows : List ℕ} (g : Given circuit n K party contribution externals keys rows) where
   abbrev wires : List Wire
   wires = wiresIn circuit
 
@@ -157,7 +159,7 @@ module _ {file : List ℕ} {circuit : Circuit} {n K party : ℕ} {contribution e
   inside w l = omega (arith, inputs-made (g .held), made-is (g .held))
 
   recorded : (w : ℕ) → w < circuit .inputs → recordKeysOf wires w ≡ 1
-  recorded w l = one-key (wireAt wires w .gate) (g .accepted .inputsFirst w (inside w l) ∙ lt-ltb w (inputsIn wires) (omega (arith, count)))
+  recorded w l = one-key (wireAt wires w) (g .accepted .inputsFirst w (inside w l) ∙ lt-ltb w (inputsIn wires) (omega (arith, count)))
 
   pub few-inputs : circuit .inputs ≤ 1024
   few-inputs = omega (arith, inputs-made (g .held), g .held .room .made)
@@ -205,7 +207,7 @@ module _ {file : List ℕ} {circuit : Circuit} {n K party : ℕ} {contribution e
 
   pub wrong-is : {own : List ℕ} {r : ℕ} → own ≡ inputKeysMade K (wiresIn circuit) contribution externals
       → r ≡ first (circuit .inputs) (λ w. not (same (nthPiece keys K (w * n + party)) (nthPiece own K w)))
-      → r ≡ first (inputsIn (wiresIn circuit)) (inputKeyWrong n K party (wiresIn circuit) contribution externals keys)
+      → r ≡ firstWrong n K party (wiresIn circuit) contribution externals keys
   wrong-is {own} {r} e f =
       f
       ∙ ap (λ (i : ℕ). first i (λ w. not (same (nthPiece keys K (w * n + party)) (nthPiece own K w)))) count
@@ -218,15 +220,9 @@ module _ {file : List ℕ} {circuit : Circuit} {n K party : ℕ} {contribution e
   abbrev fate : Checked
   fate = gatesChecked shakePad n K party (wiresIn circuit) (drawn 1 K (wiresIn circuit) contribution) externals keys rows
 
-  abbrev newKeys : List ℕ
-  newKeys = wireKeys shakePad n K party (wiresIn circuit) (drawn 1 K (wiresIn circuit) contribution) externals keys rows
-
-  abbrev newExternals : List ℕ
-  newExternals = wireExternals shakePad n K party (wiresIn circuit) (drawn 1 K (wiresIn circuit) contribution) externals keys rows
-
   pub gates-met : {wkeys₀ wexternals₀ wkeys wexternals : List ℕ} {r : ℕ} {answer : Answer} → OpensAll circuit n K party contribution externals keys rows wkeys₀ wexternals₀ r wkeys wexternals
       → answer ≡ named (circuit .made) r NoMultiplier
-      → Meets fate answer × (wkeys ≡ afterwards fate newKeys (replicate (length wkeys₀) 0)) × (wexternals ≡ afterwards fate newExternals (replicate (length wexternals₀) 0))
+      → GatesOpened n K party (wiresIn circuit) contribution externals keys rows wkeys₀ wexternals₀ answer wkeys wexternals
   gates-met {wkeys₀} {wexternals₀} {wkeys} {wexternals} {r} {answer} v e = by (decLe (length wires) r)
     where
       made : length wires ≡ circuit .made
@@ -238,44 +234,52 @@ module _ {file : List ℕ} {circuit : Circuit} {n K party : ℕ} {contribution e
       met : Meets fate (named (length wires) r NoMultiplier)
       met = subst (λ (a : ℕ). Meets fate (named (length wires) a NoMultiplier)) (sym (v .found)) (meets-noneBad (length wires) _ NoMultiplier)
 
-      by : Dec (length wires ≤ r)
-          → Meets fate answer × (wkeys ≡ afterwards fate newKeys (replicate (length wkeys₀) 0)) × (wexternals ≡ afterwards fate newExternals (replicate (length wexternals₀) 0))
+      by : Dec (length wires ≤ r) → GatesOpened n K party (wiresIn circuit) contribution externals keys rows wkeys₀ wexternals₀ answer wkeys wexternals
       by (yes h) =
           let a : Meets fate Accepted = subst (Meets fate) (sym (named-past (length wires) r NoMultiplier h)) met in
-          (subst (Meets fate) (sym joined) met, v .allKeys h ∙ afterwards-accepted a newKeys (replicate (length wkeys₀) 0), v .allExternals h ∙ afterwards-accepted a newExternals (replicate (length wexternals₀) 0))
+          record {
+            met = subst (Meets fate) (sym joined) met;
+            keysAre = v .allKeys h ∙ afterwards-accepted a _ (replicate (length wkeys₀) 0);
+            externalsAre = v .allExternals h ∙ afterwards-accepted a _ (replicate (length wexternals₀) 0);
+          }
       by (no h) =
           let l : r < length wires = omega arith in
           let a : Meets fate (Refused NoMultiplier r) = subst (Meets fate) (sym (named-found (length wires) r NoMultiplier l)) met in
-          (subst (Meets fate) (sym joined) met, v .noKeys l ∙ afterwards-refused a newKeys (replicate (length wkeys₀) 0), v .noExternals l ∙ afterwards-refused a newExternals (replicate (length wexternals₀) 0))
+          record {
+            met = subst (Meets fate) (sym joined) met;
+            keysAre = v .noKeys l ∙ afterwards-refused a _ (replicate (length wkeys₀) 0);
+            externalsAre = v .noExternals l ∙ afterwards-refused a _ (replicate (length wexternals₀) 0);
+          }
 
   -- ---- 19, and then 20
 
   abbrev own : Checked
   own = ownKeysChecked n K party (wiresIn circuit) contribution externals keys
 
-  abbrev Ends : List ℕ → List ℕ → Answer → List ℕ → List ℕ → Type 0
-  Ends wkeys₀ wexternals₀ answer wkeys wexternals =
-      Meets (andThen own fate) answer × (wkeys ≡ afterwards own (afterwards fate newKeys (replicate (length wkeys₀) 0)) wkeys₀)
-      × (wexternals ≡ afterwards own (afterwards fate newExternals (replicate (length wexternals₀) 0)) wexternals₀)
-
-  module _ (wkeys₀ wexternals₀ : List ℕ) {r : ℕ} {answer : Answer} (f : r ≡ first (inputsIn (wiresIn circuit)) (inputKeyWrong n K party (wiresIn circuit) contribution externals keys))
+  module _ (wkeys₀ wexternals₀ : List ℕ) {r : ℕ} {answer : Answer} (f : r ≡ firstWrong n K party (wiresIn circuit) contribution externals keys)
       (e : answer ≡ named (circuit .inputs) r WrongInputKey) where
+    abbrev Opened : Answer → List ℕ → List ℕ → Type 0
+    Opened = InputsOpened n K party (wiresIn circuit) contribution externals keys rows wkeys₀ wexternals₀
+
     own-met : Meets own answer
     own-met =
         subst (Meets own) (sym (e ∙ ap₂ (λ (a b : ℕ). named a b WrongInputKey) count f))
         (meets-noneBad (inputsIn wires) (inputKeyWrong n K party wires contribution externals keys) WrongInputKey)
 
     pub own-next : {wkeys wexternals : List ℕ} {z : Answer} → answer ≡ Accepted
-        → Meets fate z × (wkeys ≡ afterwards fate newKeys (replicate (length wkeys₀) 0)) × (wexternals ≡ afterwards fate newExternals (replicate (length wexternals₀) 0))
-        → Ends wkeys₀ wexternals₀ z wkeys wexternals
+        → GatesOpened n K party (wiresIn circuit) contribution externals keys rows wkeys₀ wexternals₀ z wkeys wexternals → Opened z wkeys wexternals
     own-next a t =
         let p : own ≡ passed = stage-passed own-met a in
-        (stage-next own-met a (t .0), t .1 ∙ sym (afterwards-passed p _ wkeys₀), t .2 ∙ sym (afterwards-passed p _ wexternals₀))
+        record {
+          met = stage-next own-met a (t .met);
+          keysAre = t .keysAre ∙ sym (afterwards-passed p _ wkeys₀);
+          externalsAre = t .externalsAre ∙ sym (afterwards-passed p _ wexternals₀);
+        }
 
-    pub own-stop : {reason : Refusal} {place : ℕ} → answer ≡ Refused reason place → Ends wkeys₀ wexternals₀ (Refused reason place) wkeys₀ wexternals₀
+    pub own-stop : {reason : Refusal} {place : ℕ} → answer ≡ Refused reason place → Opened (Refused reason place) wkeys₀ wexternals₀
     own-stop {reason} {place} a =
         let m : Meets own (Refused reason place) = subst (Meets own) a own-met in
-        (meets-refused fate m, afterwards-refused m _ wkeys₀, afterwards-refused m _ wexternals₀)
+        record { met = meets-refused fate m; keysAre = afterwards-refused m _ wkeys₀; externalsAre = afterwards-refused m _ wexternals₀ }
 
 -- ---- the whole call
 
@@ -315,10 +319,7 @@ module _ {reading : Reading} (file : List ℕ) (n K party : ℕ) (contribution e
       (subst (λ (w : List Wire). Meets (openAsked n K w contribution externals keys rows party (length wkeys) (length wexternals)) check) (h .wires) checked)
 
   abbrev Opens : Answer → List ℕ → List ℕ → Type 0
-  Opens a wkeys′ wexternals′ =
-      Meets (openChecked shakePad file n K party contribution externals keys rows wkeys wexternals) a
-      × (wkeys′ ≡ openKeys shakePad file n K party contribution externals keys rows wkeys wexternals)
-      × (wexternals′ ≡ openExternals shakePad file n K party contribution externals keys rows wkeys wexternals)
+  Opens a = OpenCall file n K party contribution externals keys rows wkeys wexternals (numberIn a) (placeIn a)
 
   abbrev zeroKeys : List ℕ
   zeroKeys =
@@ -332,7 +333,7 @@ module _ {reading : Reading} (file : List ℕ) (n K party : ℕ) (contribution e
   ends : {a : Answer} {wkeys′ wexternals′ : List ℕ} → Meets (andThen (andThen earlier ownKeys) gates) a → wkeys′ ≡ afterwards (andThen earlier ownKeys) zeroKeys wkeys
       → wexternals′ ≡ afterwards (andThen earlier ownKeys) zeroExternals wexternals → Opens a wkeys′ wexternals′
   unfolding openChecked openKeys openExternals beforeOpening
-  ends m k x = (m, k, x)
+  ends m k x = record { answer = reports m; wireKeysIs = k; wireExternalsIs = x }
 
   pub open-refused : {reason : Refusal} {place : ℕ} → answer ≡ Refused reason place → Opens (Refused reason place) wkeys wexternals
   open-refused {reason} {place} e =
@@ -383,12 +384,13 @@ module _ {reading : Reading} (file : List ℕ) (n K party : ℕ) (contribution e
     lined =
         andThen-right (offsetsChecked 1 K here contribution) lines (andThen-right (contributionsChecked 1 K here contribution) offsets contributed)
 
-    given : Given file (reading .circuit) n K party contribution externals keys rows
+    given : Given (reading .circuit) n K party contribution externals keys rows
     given =
         record {
+          file = file;
           held = held-of h;
           accepted = circuit-accepted file h check joined e;
-          sizes = record { some = fits .parties .least; parties = fits .parties .most; long = fits .least; short = fits .most };
+          sizes = record { some = omega (arith, fits .parties .least); parties = fits .parties .most; long = fits .least; short = fits .most };
           seated = seated;
           ownSize = lent-is _ _ sizes 0;
           externalsSize = lent-is _ _ sizes 1;
@@ -400,11 +402,11 @@ module _ {reading : Reading} (file : List ℕ) (n K party : ℕ) (contribution e
           rowsBelow = andThen-right (keysChecked n K here keys) (rowsChecked n K here rows) lined;
         }
 
-    pub open-given : Given file (reading .circuit) parties long seat contribution externals keys rows
+    pub open-given : Given (reading .circuit) parties long seat contribution externals keys rows
     open-given =
-        subst (λ (a : ℕ). Given file circuit a long seat contribution externals keys rows) (sym p)
-        (subst (λ (b : ℕ). Given file circuit n b seat contribution externals keys rows) (sym l)
-        (subst (λ (c : ℕ). Given file circuit n K c contribution externals keys rows) (sym t) given))
+        subst (λ (a : ℕ). Given circuit a long seat contribution externals keys rows) (sym p)
+        (subst (λ (b : ℕ). Given circuit n b seat contribution externals keys rows) (sym l)
+        (subst (λ (c : ℕ). Given circuit n K c contribution externals keys rows) (sym t) given))
 
     pub open-room : (length wkeys ≡ reading .circuit .made * (parties * long)) × (length wexternals ≡ reading .circuit .made)
     open-room =
@@ -412,14 +414,7 @@ module _ {reading : Reading} (file : List ℕ) (n K party : ℕ) (contribution e
 
     -- what opening the rows gave, on the circuit of the code
     abbrev Came : ℕ → ℕ → ℕ → List Wire → Answer → List ℕ → List ℕ → Type 0
-    Came a b c w z wkeys′ wexternals′ =
-        Meets (andThen (ownKeysChecked a b c w contribution externals keys) (gatesChecked shakePad a b c w (drawn 1 b w contribution) externals keys rows)) z
-        × (wkeys′
-        ≡ afterwards (ownKeysChecked a b c w contribution externals keys)
-        (afterwards (gatesChecked shakePad a b c w (drawn 1 b w contribution) externals keys rows) (wireKeys shakePad a b c w (drawn 1 b w contribution) externals keys rows) (replicate (length wkeys) 0)) wkeys)
-        × (wexternals′
-        ≡ afterwards (ownKeysChecked a b c w contribution externals keys)
-        (afterwards (gatesChecked shakePad a b c w (drawn 1 b w contribution) externals keys rows) (wireExternals shakePad a b c w (drawn 1 b w contribution) externals keys rows) (replicate (length wexternals) 0)) wexternals)
+    Came a b c w = InputsOpened a b c w contribution externals keys rows wkeys wexternals
 
     pub open-done : {z : Answer} {wkeys′ wexternals′ : List ℕ} → Came parties long seat (wiresIn (reading .circuit)) z wkeys′ wexternals′ → Opens z wkeys′ wexternals′
     open-done {z} {wkeys′} {wexternals′} came =
@@ -430,6 +425,6 @@ module _ {reading : Reading} (file : List ℕ) (n K party : ℕ) (contribution e
         (subst (λ (c : ℕ). Came parties long c here z wkeys′ wexternals′) t came))) in
         let q : earlier ≡ passed = stage-passed earlier-met e in
         ends
-        (subst (λ (c : Checked). Meets c z) (sym (andThen-assoc earlier ownKeys gates)) (meets-next q (there .0)))
-        (there .1 ∙ sym (after-both earlier ownKeys zeroKeys wkeys q))
-        (there .2 ∙ sym (after-both earlier ownKeys zeroExternals wexternals q))
+        (subst (λ (c : Checked). Meets c z) (sym (andThen-assoc earlier ownKeys gates)) (meets-next q (there .met)))
+        (there .keysAre ∙ sym (after-both earlier ownKeys zeroKeys wkeys q))
+        (there .externalsAre ∙ sym (after-both earlier ownKeys zeroExternals wexternals q))

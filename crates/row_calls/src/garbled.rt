@@ -1,11 +1,10 @@
-// Garbling as a call: rows, input masks and output masks from the contributions of all parties, and the row meter raised.
-ghost use mathlib.Core.Path.{_≡_};
+// Garbling as a call: rows, input masks and output masks from the contributions of all parties, and the row meter charged.
 ghost use Prim.Native.Nat.{_≤_};
+ghost use Rattle.checks.specs.Answer.{numberIn, placeIn};
 ghost use Rattle.checks.specs.Checked.{Meets};
 ghost use Rattle.circuit.specs.File.{readFile};
 ghost use Rattle.circuit.specs.Held.{wiresIn, outputsIn, Held, Holds};
-ghost use Rattle.pads.specs.Pad.{shakePad};
-ghost use Rattle.calls.specs.Garble.{garbleBytes, garbleLent, garbleOwned, garbleAsked, garbleChecked, garbleRows, garbleInputMasks, garbleOutputMasks, garbleMeter};
+ghost use Rattle.calls.specs.Garble.{garbleBytes, garbleLengths, garbleLent, garbleOwned, garbleAsked, GarbleCall};
 ghost use Rattle.row_calls.specs.Garbled.{Draws};
 use checks::Answer;
 use checks::followed;
@@ -18,6 +17,7 @@ use contribution::offsets_checked;
 use meter::charged;
 use meter::meter_checked;
 use party_calls::counted;
+use session::Size;
 use session::length_checked;
 use session::owners_checked;
 use session::session_checked;
@@ -29,7 +29,7 @@ pub struct Metered {
 }
 
 // How many bytes are lent for the rows, the input masks and the output masks.
-struct Lent {
+struct Lengths {
     rows: usize,
     inputs: usize,
     outputs: usize,
@@ -45,10 +45,10 @@ fn draws_checked(circuit: Circuit, n: usize, k: usize, contributions: &[u8]) -> 
     followed(bytes, offsets)
 }
 
-// The lengths of what is lent, and where they are right the bytes.
-fn buffers_checked(circuit: Circuit, n: u32, k: u32, contributions: &[u8], lent: Lent) -> Answer
+// The lengths of what is lent.
+fn lengths_checked(circuit: Circuit, n: u32, k: u32, contributions: &[u8], lent: Lengths) -> Answer
     requires { ⌜ Held circuit × ((n ≤ 8) × (k ≤ 128)) ⌝ }
-    ensures { λ r. ⌜ Meets (garbleLent n k (wiresIn circuit) (outputsIn circuit) (now (contributions .entry)) (lent .rows) (lent .inputs) (lent .outputs)) r ⌝ }
+    ensures { λ r. ⌜ Meets (garbleLengths n k (wiresIn circuit) (outputsIn circuit) (now (contributions .entry)) (lent .rows) (lent .inputs) (lent .outputs)) r ⌝ }
 {
     let parties = counted(n);
     let long = counted(k);
@@ -61,7 +61,17 @@ fn buffers_checked(circuit: Circuit, n: u32, k: u32, contributions: &[u8], lent:
     let lines = length_checked(lent.rows, bytes);
     let masks = length_checked(lent.inputs, circuit.inputs);
     let results = length_checked(lent.outputs, circuit.given);
-    let lengths = followed(drawn, followed(lines, followed(masks, results)));
+    followed(drawn, followed(lines, followed(masks, results)))
+}
+
+// Those, and where they are right the bytes.
+fn buffers_checked(circuit: Circuit, n: u32, k: u32, contributions: &[u8], lent: Lengths) -> Answer
+    requires { ⌜ Held circuit × ((n ≤ 8) × (k ≤ 128)) ⌝ }
+    ensures { λ r. ⌜ Meets (garbleLent n k (wiresIn circuit) (outputsIn circuit) (now (contributions .entry)) (lent .rows) (lent .inputs) (lent .outputs)) r ⌝ }
+{
+    let parties = counted(n);
+    let long = counted(k);
+    let lengths = lengths_checked(circuit, n, k, contributions, lent);
     match lengths {
         Answer::Accepted => draws_checked(circuit, parties, long, contributions),
         Answer::Refused(reason, place) => Answer::Refused(reason, place),
@@ -69,7 +79,7 @@ fn buffers_checked(circuit: Circuit, n: u32, k: u32, contributions: &[u8], lent:
 }
 
 // The owners, and then what is lent.
-fn garble_owned(circuit: Circuit, n: u32, k: u32, contributions: &[u8], lent: Lent) -> Answer
+fn garble_owned(circuit: Circuit, n: u32, k: u32, contributions: &[u8], lent: Lengths) -> Answer
     requires { ⌜ Held circuit × ((n ≤ 8) × (k ≤ 128)) ⌝ }
     ensures { λ r. ⌜ Meets (garbleOwned n k (wiresIn circuit) (outputsIn circuit) (now (contributions .entry)) (lent .rows) (lent .inputs) (lent .outputs)) r ⌝ }
 {
@@ -79,7 +89,7 @@ fn garble_owned(circuit: Circuit, n: u32, k: u32, contributions: &[u8], lent: Le
 }
 
 // The session, and where it is in range the rest.
-fn garble_asked(circuit: Circuit, n: u32, k: u32, contributions: &[u8], lent: Lent) -> Answer
+fn garble_asked(circuit: Circuit, n: u32, k: u32, contributions: &[u8], lent: Lengths) -> Answer
     requires { ⌜ Held circuit ⌝ }
     ensures { λ r. ⌜ Meets (garbleAsked n k (wiresIn circuit) (outputsIn circuit) (now (contributions .entry)) (lent .rows) (lent .inputs) (lent .outputs)) r ⌝ }
 {
@@ -103,16 +113,13 @@ fn garble_read(
     meter: u32,
 ) -> Metered
     requires { ⌜ Holds reading (readFile (now file)) ⌝ }
-    ensures { λ r. ⌜ Meets (garbleChecked (now (file .entry)) n k (now (contributions .entry)) (now (rows .entry)) (now (inputs .entry)) (now (outputs .entry)) meter) (r .answer)
-        × (now (rows .exit) ≡ garbleRows shakePad (now (file .entry)) n k (now (contributions .entry)) (now (rows .entry)) (now (inputs .entry)) (now (outputs .entry)) meter)
-        × (now (inputs .exit) ≡ garbleInputMasks (now (file .entry)) n k (now (contributions .entry)) (now (rows .entry)) (now (inputs .entry)) (now (outputs .entry)) meter)
-        × (now (outputs .exit) ≡ garbleOutputMasks (now (file .entry)) n k (now (contributions .entry)) (now (rows .entry)) (now (inputs .entry)) (now (outputs .entry)) meter)
-        × (r .meter ≡ garbleMeter (now (file .entry)) n k (now (contributions .entry)) (now (rows .entry)) (now (inputs .entry)) (now (outputs .entry)) meter) ⌝ }
+    ensures { λ r. ⌜ GarbleCall (now (file .entry)) n k (now (contributions .entry)) (now (rows .entry)) (now (inputs .entry)) (now (outputs .entry)) meter
+        (numberIn (r .answer)) (placeIn (r .answer)) (now (rows .exit)) (now (inputs .exit)) (now (outputs .exit)) (r .meter) ⌝ }
 {
     let read = reading.answer;
     let circuit = reading.circuit;
     let unraised = meter;
-    let lent = Lent {
+    let lent = Lengths {
         rows: rows.len(),
         inputs: inputs.len(),
         outputs: outputs.len(),
@@ -129,8 +136,10 @@ fn garble_read(
             garbling::garble(
                 circuit,
                 file,
-                parties,
-                long,
+                Size {
+                    n: parties,
+                    k: long,
+                },
                 size,
                 contributions,
                 rows,
@@ -160,11 +169,8 @@ pub fn garble(
     outputs: &mut [u8],
     meter: u32,
 ) -> Metered
-    ensures { λ r. ⌜ Meets (garbleChecked (now (file .entry)) n k (now (contributions .entry)) (now (rows .entry)) (now (inputs .entry)) (now (outputs .entry)) meter) (r .answer)
-        × (now (rows .exit) ≡ garbleRows shakePad (now (file .entry)) n k (now (contributions .entry)) (now (rows .entry)) (now (inputs .entry)) (now (outputs .entry)) meter)
-        × (now (inputs .exit) ≡ garbleInputMasks (now (file .entry)) n k (now (contributions .entry)) (now (rows .entry)) (now (inputs .entry)) (now (outputs .entry)) meter)
-        × (now (outputs .exit) ≡ garbleOutputMasks (now (file .entry)) n k (now (contributions .entry)) (now (rows .entry)) (now (inputs .entry)) (now (outputs .entry)) meter)
-        × (r .meter ≡ garbleMeter (now (file .entry)) n k (now (contributions .entry)) (now (rows .entry)) (now (inputs .entry)) (now (outputs .entry)) meter) ⌝ }
+    ensures { λ r. ⌜ GarbleCall (now (file .entry)) n k (now (contributions .entry)) (now (rows .entry)) (now (inputs .entry)) (now (outputs .entry)) meter
+        (numberIn (r .answer)) (placeIn (r .answer)) (now (rows .exit)) (now (inputs .exit)) (now (outputs .exit)) (r .meter) ⌝ }
 {
     let reading = read(file);
     garble_read(

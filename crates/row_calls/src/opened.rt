@@ -1,21 +1,18 @@
-// Opening, which document 01 calls opening, as a call: keys and external values of all wires at one party.
+// Opening as a call: keys and external values of all wires at one party.
 ghost use mathlib.Core.Path.{_≡_};
 ghost use mathlib.Core.Bool.{not};
 ghost use Prim.Native.Nat.{_+_, _*_, _≤_, _<_};
-ghost use lib.ListN.{length, replicate};
+ghost use lib.ListN.{length};
 ghost use Rattle.lists.specs.Blocks.{nthPiece};
 ghost use Rattle.lists.specs.First.{first};
 ghost use Rattle.search.specs.Search.{same};
-ghost use Rattle.checks.specs.Checked.{Meets, andThen, afterwards};
-ghost use Rattle.circuit.specs.Wires.{inputsIn};
+ghost use Rattle.checks.specs.Answer.{numberIn, placeIn};
+ghost use Rattle.checks.specs.Checked.{Meets};
 ghost use Rattle.circuit.specs.File.{readFile};
-ghost use Rattle.circuit.specs.Held.{wiresIn, outputsIn, Held, Holds};
-ghost use Rattle.pads.specs.Pad.{shakePad};
-ghost use Rattle.scheme.specs.Draw.{drawn};
-ghost use Rattle.scheme.specs.Opening.{wireKeys, wireExternals};
-ghost use Rattle.calls.specs.Open.{openBytes, openLent, openParty, openAsked, inputKeyWrong, ownKeysChecked, gatesChecked, openChecked, openKeys, openExternals};
+ghost use Rattle.circuit.specs.Held.{wiresIn, Held, Holds};
+ghost use Rattle.calls.specs.Open.{openBytes, openLent, openParty, openAsked, OpenCall};
 ghost use Rattle.opening.specs.Given.{Given};
-ghost use Rattle.row_calls.specs.Opened.{OpenSizes, Compared};
+ghost use Rattle.row_calls.specs.Opened.{OpenSizes, Compared, firstWrong, GatesOpened, InputsOpened};
 use checks::Answer;
 use checks::Refusal;
 use checks::followed;
@@ -33,6 +30,8 @@ use opening::open_wires;
 use party_calls::counted;
 use party_calls::put_keys;
 use search::same_bytes;
+use session::Asked;
+use session::Seat;
 use session::length_checked;
 use session::owners_checked;
 use session::party_checked;
@@ -110,9 +109,7 @@ fn open_lent(
 // The party and the owners, and then what is lent.
 fn open_party(
     circuit: Circuit,
-    n: u32,
-    k: u32,
-    party: u32,
+    asked: Asked,
     contribution: &[u8],
     externals: &[u8],
     keys: &[u8],
@@ -120,9 +117,12 @@ fn open_party(
     wkeys: usize,
     wexternals: usize,
 ) -> Answer
-    requires { ⌜ Held circuit × ((n ≤ 8) × (k ≤ 128)) ⌝ }
-    ensures { λ r. ⌜ Meets (openParty n k (wiresIn circuit) (now (contribution .entry)) (now (externals .entry)) (now (keys .entry)) (now (rows .entry)) party wkeys wexternals) r ⌝ }
+    requires { ⌜ Held circuit × ((asked .n ≤ 8) × (asked .k ≤ 128)) ⌝ }
+    ensures { λ r. ⌜ Meets (openParty (asked .n) (asked .k) (wiresIn circuit) (now (contribution .entry)) (now (externals .entry)) (now (keys .entry)) (now (rows .entry))
+        (asked .party) wkeys wexternals) r ⌝ }
 {
+    let n = asked.n;
+    let k = asked.k;
     let lent = open_lent(
         circuit,
         n,
@@ -135,15 +135,13 @@ fn open_party(
         wexternals,
     );
     let owners = followed(owners_checked(circuit, n), lent);
-    followed(party_checked(n, party), owners)
+    followed(party_checked(n, asked.party), owners)
 }
 
 // The session, and where it is in range the rest.
 fn open_asked(
     circuit: Circuit,
-    n: u32,
-    k: u32,
-    party: u32,
+    asked: Asked,
     contribution: &[u8],
     externals: &[u8],
     keys: &[u8],
@@ -152,15 +150,14 @@ fn open_asked(
     wexternals: usize,
 ) -> Answer
     requires { ⌜ Held circuit ⌝ }
-    ensures { λ r. ⌜ Meets (openAsked n k (wiresIn circuit) (now (contribution .entry)) (now (externals .entry)) (now (keys .entry)) (now (rows .entry)) party wkeys wexternals) r ⌝ }
+    ensures { λ r. ⌜ Meets (openAsked (asked .n) (asked .k) (wiresIn circuit) (now (contribution .entry)) (now (externals .entry)) (now (keys .entry)) (now (rows .entry))
+        (asked .party) wkeys wexternals) r ⌝ }
 {
-    let session = session_checked(n, k);
+    let session = session_checked(asked.n, asked.k);
     match session {
         Answer::Accepted => open_party(
             circuit,
-            n,
-            k,
-            party,
+            asked,
             contribution,
             externals,
             keys,
@@ -196,49 +193,41 @@ fn no_keys() -> [u8; 131072] {
 // The same against the keys that the party makes itself, put into `own`.
 fn first_unlike(
     circuit: Circuit,
-    file: &[u8],
-    n: usize,
-    k: usize,
-    party: usize,
+    seat: Seat,
     contribution: &[u8],
     externals: &[u8],
     keys: &[u8],
     rows: &[u8],
     own: &mut [u8],
 ) -> usize
-    requires { ⌜ Given (now file) circuit n k party (now contribution) (now externals) (now keys) (now rows) ⌝ }
-    requires { ⌜ length (now own) ≡ circuit .inputs * k ⌝ }
-    ensures { λ r. ⌜ r ≡ first (inputsIn (wiresIn circuit)) (inputKeyWrong n k party (wiresIn circuit) (now (contribution .entry)) (now (externals .entry)) (now (keys .entry))) ⌝ }
+    requires { ⌜ Given circuit (seat .n) (seat .k) (seat .party) (now contribution) (now externals) (now keys) (now rows) ⌝ }
+    requires { ⌜ length (now own) ≡ circuit .inputs * seat .k ⌝ }
+    ensures { λ r. ⌜ r ≡ firstWrong (seat .n) (seat .k) (seat .party) (wiresIn circuit) (now (contribution .entry)) (now (externals .entry)) (now (keys .entry)) ⌝ }
 {
     let inputs = circuit.inputs;
+    let k = seat.k;
     put_keys(circuit, k, contribution, externals, &mut *own);
-    first_other(n, k, party, inputs, keys, &*own)
+    first_other(seat.n, k, seat.party, inputs, keys, &*own)
 }
 
 // The same, with room for the keys of the most inputs there are.
 fn first_wrong_in(
     circuit: Circuit,
-    file: &[u8],
-    n: usize,
-    k: usize,
-    party: usize,
+    seat: Seat,
     contribution: &[u8],
     externals: &[u8],
     keys: &[u8],
     rows: &[u8],
     work: &mut [u8],
 ) -> usize
-    requires { ⌜ Given (now file) circuit n k party (now contribution) (now externals) (now keys) (now rows) ⌝ }
+    requires { ⌜ Given circuit (seat .n) (seat .k) (seat .party) (now contribution) (now externals) (now keys) (now rows) ⌝ }
     requires { ⌜ length (now work) ≡ 131072 ⌝ }
-    ensures { λ r. ⌜ r ≡ first (inputsIn (wiresIn circuit)) (inputKeyWrong n k party (wiresIn circuit) (now (contribution .entry)) (now (externals .entry)) (now (keys .entry))) ⌝ }
+    ensures { λ r. ⌜ r ≡ firstWrong (seat .n) (seat .k) (seat .party) (wiresIn circuit) (now (contribution .entry)) (now (externals .entry)) (now (keys .entry)) ⌝ }
 {
-    let bytes = circuit.inputs * k;
+    let bytes = circuit.inputs * seat.k;
     first_unlike(
         circuit,
-        file,
-        n,
-        k,
-        party,
+        seat,
         contribution,
         externals,
         keys,
@@ -250,25 +239,19 @@ fn first_wrong_in(
 // The same, with memory of its own.
 fn first_wrong(
     circuit: Circuit,
-    file: &[u8],
-    n: usize,
-    k: usize,
-    party: usize,
+    seat: Seat,
     contribution: &[u8],
     externals: &[u8],
     keys: &[u8],
     rows: &[u8],
 ) -> usize
-    requires { ⌜ Given (now file) circuit n k party (now contribution) (now externals) (now keys) (now rows) ⌝ }
-    ensures { λ r. ⌜ r ≡ first (inputsIn (wiresIn circuit)) (inputKeyWrong n k party (wiresIn circuit) (now (contribution .entry)) (now (externals .entry)) (now (keys .entry))) ⌝ }
+    requires { ⌜ Given circuit (seat .n) (seat .k) (seat .party) (now contribution) (now externals) (now keys) (now rows) ⌝ }
+    ensures { λ r. ⌜ r ≡ firstWrong (seat .n) (seat .k) (seat .party) (wiresIn circuit) (now (contribution .entry)) (now (externals .entry)) (now (keys .entry)) ⌝ }
 {
     let mut work = no_keys();
     first_wrong_in(
         circuit,
-        file,
-        n,
-        k,
-        party,
+        seat,
         contribution,
         externals,
         keys,
@@ -280,10 +263,7 @@ fn first_wrong(
 // The gates: where no multiplier fits both buffers are zero.
 fn open_gates(
     circuit: Circuit,
-    file: &[u8],
-    n: usize,
-    k: usize,
-    party: usize,
+    seat: Seat,
     contribution: &[u8],
     externals: &[u8],
     keys: &[u8],
@@ -291,19 +271,15 @@ fn open_gates(
     wkeys: &mut [u8],
     wexternals: &mut [u8],
 ) -> Answer
-    requires { ⌜ Given (now file) circuit n k party (now contribution) (now externals) (now keys) (now rows) ⌝ }
-    requires { ⌜ (length (now wkeys) ≡ circuit .made * (n * k)) × (length (now wexternals) ≡ circuit .made) ⌝ }
-    ensures { λ r. ⌜ Meets (gatesChecked shakePad n k party (wiresIn circuit) (drawn 1 k (wiresIn circuit) (now (contribution .entry))) (now (externals .entry)) (now (keys .entry)) (now (rows .entry))) r
-        × (now (wkeys .exit) ≡ afterwards (gatesChecked shakePad n k party (wiresIn circuit) (drawn 1 k (wiresIn circuit) (now (contribution .entry))) (now (externals .entry)) (now (keys .entry)) (now (rows .entry))) (wireKeys shakePad n k party (wiresIn circuit) (drawn 1 k (wiresIn circuit) (now (contribution .entry))) (now (externals .entry)) (now (keys .entry)) (now (rows .entry))) (replicate (length (now (wkeys .entry))) 0))
-        × (now (wexternals .exit) ≡ afterwards (gatesChecked shakePad n k party (wiresIn circuit) (drawn 1 k (wiresIn circuit) (now (contribution .entry))) (now (externals .entry)) (now (keys .entry)) (now (rows .entry))) (wireExternals shakePad n k party (wiresIn circuit) (drawn 1 k (wiresIn circuit) (now (contribution .entry))) (now (externals .entry)) (now (keys .entry)) (now (rows .entry))) (replicate (length (now (wexternals .entry))) 0)) ⌝ }
+    requires { ⌜ Given circuit (seat .n) (seat .k) (seat .party) (now contribution) (now externals) (now keys) (now rows) ⌝ }
+    requires { ⌜ (length (now wkeys) ≡ circuit .made * (seat .n * seat .k)) × (length (now wexternals) ≡ circuit .made) ⌝ }
+    ensures { λ r. ⌜ GatesOpened (seat .n) (seat .k) (seat .party) (wiresIn circuit) (now (contribution .entry)) (now (externals .entry)) (now (keys .entry)) (now (rows .entry))
+        (now (wkeys .entry)) (now (wexternals .entry)) r (now (wkeys .exit)) (now (wexternals .exit)) ⌝ }
 {
     let made = circuit.made;
     let found = open_wires(
         circuit,
-        file,
-        n,
-        k,
-        party,
+        seat,
         contribution,
         externals,
         keys,
@@ -317,10 +293,7 @@ fn open_gates(
 // The party's own keys, and where they are right the gates.
 fn open_inputs(
     circuit: Circuit,
-    file: &[u8],
-    n: usize,
-    k: usize,
-    party: usize,
+    seat: Seat,
     contribution: &[u8],
     externals: &[u8],
     keys: &[u8],
@@ -328,32 +301,18 @@ fn open_inputs(
     wkeys: &mut [u8],
     wexternals: &mut [u8],
 ) -> Answer
-    requires { ⌜ Given (now file) circuit n k party (now contribution) (now externals) (now keys) (now rows) ⌝ }
-    requires { ⌜ (length (now wkeys) ≡ circuit .made * (n * k)) × (length (now wexternals) ≡ circuit .made) ⌝ }
-    ensures { λ r. ⌜ Meets (andThen (ownKeysChecked n k party (wiresIn circuit) (now (contribution .entry)) (now (externals .entry)) (now (keys .entry))) (gatesChecked shakePad n k party (wiresIn circuit) (drawn 1 k (wiresIn circuit) (now (contribution .entry))) (now (externals .entry)) (now (keys .entry)) (now (rows .entry)))) r
-        × (now (wkeys .exit) ≡ afterwards (ownKeysChecked n k party (wiresIn circuit) (now (contribution .entry)) (now (externals .entry)) (now (keys .entry))) (afterwards (gatesChecked shakePad n k party (wiresIn circuit) (drawn 1 k (wiresIn circuit) (now (contribution .entry))) (now (externals .entry)) (now (keys .entry)) (now (rows .entry))) (wireKeys shakePad n k party (wiresIn circuit) (drawn 1 k (wiresIn circuit) (now (contribution .entry))) (now (externals .entry)) (now (keys .entry)) (now (rows .entry))) (replicate (length (now (wkeys .entry))) 0)) (now (wkeys .entry)))
-        × (now (wexternals .exit) ≡ afterwards (ownKeysChecked n k party (wiresIn circuit) (now (contribution .entry)) (now (externals .entry)) (now (keys .entry))) (afterwards (gatesChecked shakePad n k party (wiresIn circuit) (drawn 1 k (wiresIn circuit) (now (contribution .entry))) (now (externals .entry)) (now (keys .entry)) (now (rows .entry))) (wireExternals shakePad n k party (wiresIn circuit) (drawn 1 k (wiresIn circuit) (now (contribution .entry))) (now (externals .entry)) (now (keys .entry)) (now (rows .entry))) (replicate (length (now (wexternals .entry))) 0)) (now (wexternals .entry))) ⌝ }
+    requires { ⌜ Given circuit (seat .n) (seat .k) (seat .party) (now contribution) (now externals) (now keys) (now rows) ⌝ }
+    requires { ⌜ (length (now wkeys) ≡ circuit .made * (seat .n * seat .k)) × (length (now wexternals) ≡ circuit .made) ⌝ }
+    ensures { λ r. ⌜ InputsOpened (seat .n) (seat .k) (seat .party) (wiresIn circuit) (now (contribution .entry)) (now (externals .entry)) (now (keys .entry)) (now (rows .entry))
+        (now (wkeys .entry)) (now (wexternals .entry)) r (now (wkeys .exit)) (now (wexternals .exit)) ⌝ }
 {
     let inputs = circuit.inputs;
-    let found = first_wrong(
-        circuit,
-        file,
-        n,
-        k,
-        party,
-        contribution,
-        externals,
-        keys,
-        rows,
-    );
+    let found = first_wrong(circuit, seat, contribution, externals, keys, rows);
     let own = named(inputs, found, Refusal::WrongInputKey);
     match own {
         Answer::Accepted => open_gates(
             circuit,
-            file,
-            n,
-            k,
-            party,
+            seat,
             contribution,
             externals,
             keys,
@@ -369,9 +328,7 @@ fn open_inputs(
 fn open_read(
     reading: Reading,
     file: &[u8],
-    n: u32,
-    k: u32,
-    party: u32,
+    asked: Asked,
     contribution: &[u8],
     externals: &[u8],
     keys: &[u8],
@@ -380,20 +337,19 @@ fn open_read(
     wexternals: &mut [u8],
 ) -> Answer
     requires { ⌜ Holds reading (readFile (now file)) ⌝ }
-    ensures { λ r. ⌜ Meets (openChecked shakePad (now (file .entry)) n k party (now (contribution .entry)) (now (externals .entry)) (now (keys .entry)) (now (rows .entry)) (now (wkeys .entry)) (now (wexternals .entry))) r
-        × (now (wkeys .exit) ≡ openKeys shakePad (now (file .entry)) n k party (now (contribution .entry)) (now (externals .entry)) (now (keys .entry)) (now (rows .entry)) (now (wkeys .entry)) (now (wexternals .entry)))
-        × (now (wexternals .exit) ≡ openExternals shakePad (now (file .entry)) n k party (now (contribution .entry)) (now (externals .entry)) (now (keys .entry)) (now (rows .entry)) (now (wkeys .entry)) (now (wexternals .entry))) ⌝ }
+    ensures { λ r. ⌜ OpenCall (now (file .entry)) (asked .n) (asked .k) (asked .party) (now (contribution .entry)) (now (externals .entry)) (now (keys .entry)) (now (rows .entry))
+        (now (wkeys .entry)) (now (wexternals .entry)) (numberIn r) (placeIn r) (now (wkeys .exit)) (now (wexternals .exit)) ⌝ }
 {
     let read = reading.answer;
     let circuit = reading.circuit;
-    let parties = counted(n);
-    let long = counted(k);
-    let seat = counted(party);
-    let asked = open_asked(
+    let seat = Seat {
+        n: counted(asked.n),
+        k: counted(asked.k),
+        party: counted(asked.party),
+    };
+    let checked = open_asked(
         circuit,
-        n,
-        k,
-        party,
+        asked,
         contribution,
         externals,
         keys,
@@ -401,13 +357,10 @@ fn open_read(
         wkeys.len(),
         wexternals.len(),
     );
-    let answer = followed(read, asked);
+    let answer = followed(read, checked);
     match answer {
         Answer::Accepted => open_inputs(
             circuit,
-            file,
-            parties,
-            long,
             seat,
             contribution,
             externals,
@@ -423,9 +376,7 @@ fn open_read(
 // Opens garbled rows at a party. Refused or not, the contract gives the answer and every byte of the two buffers lent.
 pub fn open_rows(
     file: &[u8],
-    n: u32,
-    k: u32,
-    party: u32,
+    asked: Asked,
     contribution: &[u8],
     externals: &[u8],
     keys: &[u8],
@@ -433,17 +384,14 @@ pub fn open_rows(
     wkeys: &mut [u8],
     wexternals: &mut [u8],
 ) -> Answer
-    ensures { λ r. ⌜ Meets (openChecked shakePad (now (file .entry)) n k party (now (contribution .entry)) (now (externals .entry)) (now (keys .entry)) (now (rows .entry)) (now (wkeys .entry)) (now (wexternals .entry))) r
-        × (now (wkeys .exit) ≡ openKeys shakePad (now (file .entry)) n k party (now (contribution .entry)) (now (externals .entry)) (now (keys .entry)) (now (rows .entry)) (now (wkeys .entry)) (now (wexternals .entry)))
-        × (now (wexternals .exit) ≡ openExternals shakePad (now (file .entry)) n k party (now (contribution .entry)) (now (externals .entry)) (now (keys .entry)) (now (rows .entry)) (now (wkeys .entry)) (now (wexternals .entry))) ⌝ }
+    ensures { λ r. ⌜ OpenCall (now (file .entry)) (asked .n) (asked .k) (asked .party) (now (contribution .entry)) (now (externals .entry)) (now (keys .entry)) (now (rows .entry))
+        (now (wkeys .entry)) (now (wexternals .entry)) (numberIn r) (placeIn r) (now (wkeys .exit)) (now (wexternals .exit)) ⌝ }
 {
     let reading = read(file);
     open_read(
         reading,
         file,
-        n,
-        k,
-        party,
+        asked,
         contribution,
         externals,
         keys,

@@ -1,25 +1,30 @@
 -- What the code makes of keys, masks and offsets is a row's message, by kind: each law is an identity modulo p.
 -- Assumes nothing.
 use mathlib.Core.Path.{_≡_, refl, sym, ap, ap₂, subst, _∙_}
-use mathlib.Core.List.{List}
-use Prim.Native.Nat.{ℕ, zero, _<_}
+use mathlib.Core.List.{List, _++_}
+use Prim.Native.Nat.{ℕ, _-_, _<_}
 use native.Mathlib.Omega.{arith}
-use lib.ListN.{length}
+use lib.ListN.{length, getD}
 use Rattle.lists.specs.Blocks.{blocks}
 use Rattle.lists.proofs.Blocks.{blocks-ext}
 use Rattle.residue.specs.Residue.{add, sub, mul}
-use Rattle.residue.specs.Vector.{addV, subV, mulV, keyV, AllBelow}
+use Rattle.residue.specs.Vector.{addV, mulV, keyV, AllBelow}
+use Rattle.residue.proofs.Differences.{minus-one}
 use Rattle.residue.proofs.Ring.{ring}
 use Rattle.residue.proofs.Ring.Expr.{var, _⊕_, _⊖_, _⊗_}
 use Rattle.residue.proofs.VectorRing.{vring}
 use Rattle.residue.proofs.VectorRing.VExpr.{vec, _⊞_, _⊟_, _⊡_}
 use Rattle.residue.proofs.Vectors.{add-below, sub-below, mul-below, keyV-below}
-use Rattle.pads.specs.Pad.{shakePad, padRow, placed}
+use Rattle.pads.specs.Pad.{shakePad, padRow}
+use Rattle.pads.specs.Binding.{underOf}
 use Rattle.pads.specs.Moved.{Asked, Row}
-use Rattle.scheme.specs.Message.{projectMessage, productMessage₀, productMessage₁, chooserMessage₀, chooserMessage₁, correctorMessage₀, correctorMessage₁}
-use Rattle.rows.specs.Gate.{padded, linearRows}
+use Rattle.scheme.specs.Keyed.{Keyed, less}
+use Rattle.scheme.specs.Gate.{row, productRow₀, productRow₁, productRows, chooserRow₀, chooserRow₁, correctorRow₀, correctorRow₁, choiceRows}
+use Rattle.scheme.specs.Message.{productMessage₀, productMessage₁, chooserMessage₀, chooserMessage₁, correctorMessage₀, correctorMessage₁}
 use Rattle.session.specs.Sizes.{Vector}
-use Rattle.rows.specs.Vectors.{Vectors}
+use Rattle.rows.specs.Made.{Room, RoomFor, VectorFor, Four, Factors, rowOf, componentRows, rowFor, padded, linearMade, secondMade, productMade, bothChoosers, correctorsMade, choiceMade}
+use Rattle.rows.specs.declared.gates.Made.{Made}
+use Rattle.rows.specs.declared.rows.Row.{Row as Shape}
 
 -- ---- results are residues
 
@@ -39,7 +44,7 @@ module _ {p r : ℕ} where
 -- ---- one row: the message stands in the buffer, and the pads are put on it
 
 module _ {n K q : ℕ} {out message : List ℕ} where
-  pub row-asked : (base : List ℕ) (c : ℕ) (D : List ℕ) → Vectors n K q out 1 → message ≡ keyV q base c D → Asked q K message
+  pub row-asked : (base : List ℕ) (c : ℕ) (D : List ℕ) → Room n K q out 1 → message ≡ keyV q base c D → Asked q K message
   row-asked base c D v e =
       record {
         modulus = v .modulus;
@@ -47,121 +52,133 @@ module _ {n K q : ℕ} {out message : List ℕ} where
         below = subst (AllBelow q) (sym e) (keyV-below (omega (arith, v .modulus)) base c D);
       }
 
-  pub row-sizes : {keys : List ℕ} → Vectors n K q out 1 → Vector n K keys → length message ≡ length out → Row n K keys message
+  pub row-sizes : {keys : List ℕ} → Room n K q out 1 → Vector n K keys → length message ≡ length out → Row n K keys message
   row-sizes v k e = record { parties = omega (arith, v .sizes .parties); senders = k .size; receivers = omega (arith, v .size) }
 
-module _ (n K w q p component : ℕ) {out : List ℕ} where
-  pub row-made : (keys base : List ℕ) (c : ℕ) (D : List ℕ) {message : List ℕ} → message ≡ keyV q base c D
-      → out ≡ addV q message (padRow shakePad K q (placed p w component) keys n) → out ≡ padded n K w q p component keys (keyV q base c D)
-  unfolding padded
-  row-made keys base c D e t = t ∙ ap (λ (l : List ℕ). addV q l (padRow shakePad K q (placed p w component) keys n)) e
+module _ (r : Shape) {out : List ℕ} where
+  pub row-made : (keys base : List ℕ) (c : ℕ) (D : List ℕ) {message : List ℕ} → message ≡ keyV (r .q) base c D
+      → out ≡ addV (r .q) message (padRow shakePad (r .k) (r .q) (underOf (r .bound)) keys (r .n)) → out ≡ rowOf r keys (keyV (r .q) base c D)
+  unfolding row
+  row-made keys base c D e t = t ∙ ap (λ (l : List ℕ). addV (r .q) l (padRow shakePad (r .k) (r .q) (underOf (r .bound)) keys (r .n))) e
 
-  -- keys, and a message, under another name
-  pub row-under : (message : List ℕ) {keys keys′ : List ℕ} → keys ≡ keys′ → out ≡ padded n K w q p component keys message
-      → out ≡ padded n K w q p component keys′ message
-  row-under message e t = t ∙ ap (λ (l : List ℕ). padded n K w q p component l message) e
+  -- keys under another name
+  pub row-under : (message : List ℕ) {keys keys′ : List ℕ} → keys ≡ keys′ → out ≡ rowOf r keys message → out ≡ rowOf r keys′ message
+  row-under message e t = t ∙ ap (λ (l : List ℕ). rowOf r l message) e
 
-  pub row-as : (keys : List ℕ) {message message′ : List ℕ} → message ≡ message′ → out ≡ padded n K w q p component keys message
-      → out ≡ padded n K w q p component keys message′
-  row-as keys e t = t ∙ ap (λ (l : List ℕ). padded n K w q p component keys l) e
+-- ---- a component of a gate: the row that the code makes for it, and its rows
 
--- ---- a projection's row
+module _ {made : Made} {q component : ℕ} {r : Shape} (e : r ≡ rowFor made q component) where
+  pub row-room : {out : List ℕ} {rows : ℕ} → RoomFor made out rows → Room (r .n) (r .k) (r .q) out rows
+  row-room {out} {rows} v = subst (λ (s : Shape). Room (s .n) (s .k) (s .q) out rows) (sym e) v
 
-module _ (n K w q p α mask share : ℕ) (keys base D : List ℕ) {v i c : ℕ} {out : List ℕ} where
-  pub table-row : (image : ℕ → ℕ) → v ≡ sub p α mask → i ≡ image v → c ≡ add q i share → out ≡ padded n K w q p 0 keys (keyV q base c D)
-      → out ≡ padded n K w q p 0 keys (projectMessage q D base share (image (sub p α mask)))
-  unfolding projectMessage keyV
-  table-row image e t s o =
-      row-as n K w q p 0 keys (ap (λ (m : ℕ). keyV q base m D) (s ∙ ap (λ (m : ℕ). add q m share) (t ∙ ap image e))) o
+  pub component-room : {out : List ℕ} → RoomFor made out q → Room (r .n) (r .k) (r .q) out (r .bound .modulus)
+  component-room {out} v = subst (λ (s : Shape). Room (s .n) (s .k) (s .q) out (s .bound .modulus)) (sym e) v
 
--- ---- linear rows: one row, and all of them under another name
+  pub row-vector : {xs : List ℕ} → VectorFor made xs → Vector (r .n) (r .k) xs
+  row-vector {xs} v = subst (λ (s : Shape). Vector (s .n) (s .k) xs) (sym e) v
 
-module _ (n K w component p α start step : ℕ) (keys base D : List ℕ) {x c : ℕ} {out : List ℕ} where
-  pub linear-row : x ≡ mul p α step → c ≡ add p start x → out ≡ padded n K w p p component keys (keyV p base c D)
-      → out ≡ padded n K w p p component keys (keyV p base (add p start (mul p α step)) D)
-  linear-row e t o =
-      row-as n K w p p component keys (ap (λ (m : ℕ). keyV p base m D) (t ∙ ap (λ (m : ℕ). add p start m) e)) o
+  pub row-four : {k D b g : List ℕ} → 0 < q → VectorFor made k → VectorFor made D → VectorFor made b → VectorFor made g → Four r k D b g
+  row-four {k} {D} {b} {g} h x y z w =
+      subst (λ (s : Shape). Four s k D b g) (sym e) (record { positive = h; zero = x; offset = y; base = z; given = w })
 
-module _ (n K w component p : ℕ) (zero base D : List ℕ) (start step : ℕ) {out : List ℕ} where
-  linear-is : (g : ℕ → ℕ) → ((α : ℕ) → add p start (mul p α step) ≡ g α) → out ≡ linearRows n K w component p zero base start step D
-      → out ≡ blocks p (λ α. padded n K w p p component (keyV p zero α D) (keyV p base (g α) D))
-  unfolding linearRows
+  pub row-is : (k D b g : List ℕ) (α c : ℕ) {out : List ℕ} → out ≡ rowOf r (keyV (r .bound .modulus) k α D) (keyV (r .q) b c g)
+      → out ≡ padded made q component (keyV q k α D) (keyV (made .modulus) b c g)
+  row-is k D b g α c o = o ∙ ap (λ (s : Shape). rowOf s (keyV (s .bound .modulus) k α D) (keyV (s .q) b c g)) e
+
+  pub component-is : (k D b g : List ℕ) {f : ℕ → ℕ} {factors out : List ℕ} (message : ℕ → List ℕ) → Factors q f factors
+      → ((α : ℕ) → keyV (made .modulus) b (f α) g ≡ message α) → out ≡ componentRows r factors k D b g
+      → out ≡ blocks q (λ α. padded made q component (keyV q k α D) (message α))
+  component-is k D b g {f} {factors} {out} message t h o =
+      o
+      ∙ ap (λ (s : Shape). componentRows s factors k D b g) e
+      ∙ blocks-ext q (λ α. padded made q component (keyV q k α D) (keyV (made .modulus) b (getD factors α 0) g)) (λ α. padded made q component (keyV q k α D) (message α))
+      (λ α l. ap (λ (m : List ℕ). padded made q component (keyV q k α D) m) (ap (λ (x : ℕ). keyV (made .modulus) b x g) (t .at α l) ∙ h α))
+
+-- ---- keys and masks as pairs
+
+pub keyed-same : {k k′ : List ℕ} {m m′ : ℕ} → k ≡ k′ → m ≡ m′ → _≡_ {A = Keyed} (record { key = k; mask = m }) (record { key = k′; mask = m′ })
+keyed-same e t = ap₂ (λ (k : List ℕ) (m : ℕ). record { key = k; mask = m }) e t
+
+-- ---- linear rows under another name
+
+module _ (made : Made) (component : ℕ) (D k base : List ℕ) (start step : ℕ) where
+  abbrev p : ℕ
+  p = made .modulus
+
+  linear-is : {out : List ℕ} (g : ℕ → ℕ) → ((α : ℕ) → add p start (mul p α step) ≡ g α) → out ≡ linearMade made component D k base start step
+      → out ≡ blocks p (λ α. padded made p component (keyV p k α D) (keyV p base (g α) D))
   linear-is g e t =
       t
-      ∙ blocks-ext p (λ α. padded n K w p p component (keyV p zero α D) (keyV p base (add p start (mul p α step)) D))
-      (λ α. padded n K w p p component (keyV p zero α D) (keyV p base (g α) D))
-      (λ α _. ap (λ (m : ℕ). padded n K w p p component (keyV p zero α D) (keyV p base m D)) (e α))
+      ∙ blocks-ext p (λ α. padded made p component (keyV p k α D) (keyV p base (add p start (mul p α step)) D))
+      (λ α. padded made p component (keyV p k α D) (keyV p base (g α) D))
+      (λ α _. ap (λ (m : ℕ). padded made p component (keyV p k α D) (keyV p base m D)) (e α))
 
-  pub linear-on : {base′ : List ℕ} → base ≡ base′ → out ≡ linearRows n K w component p zero base start step D
-      → out ≡ linearRows n K w component p zero base′ start step D
-  linear-on e t = t ∙ ap (λ (l : List ℕ). linearRows n K w component p zero l start step D) e
+module _ (made : Made) (D k base : List ℕ) (m x y : ℕ) (h : 0 < made .modulus) where
+  abbrev q : ℕ
+  q = made .modulus
 
--- a product's component 0
-module _ (n K w p mₐ mᵦ m₁ : ℕ) (a first D : List ℕ) {x start step : ℕ} {out : List ℕ} where
-  pub first-is : 0 < p → x ≡ mul p mᵦ mₐ → start ≡ add p x m₁ → step ≡ sub p 0 mᵦ → out ≡ linearRows n K w 0 p a first start step D
-      → out ≡ blocks p (λ α. padded n K w p p 0 (keyV p a α D) (productMessage₀ p D first m₁ mₐ mᵦ α))
+  -- a product's component 0: the masks of a and b, the first part of the mask
+  pub first-is : {z start step : ℕ} {out : List ℕ} → z ≡ mul q y x → start ≡ add q z m → step ≡ sub q 0 y → out ≡ linearMade made 0 D k base start step
+      → out ≡ blocks q (λ α. padded made q 0 (keyV q k α D) (productMessage₀ q D base m x y α))
   unfolding productMessage₀ keyV
-  first-is h e t s o =
-      linear-is n K w 0 p a first D start step (λ α. add p (add p (sub p 0 (mul p mᵦ α)) (mul p mᵦ mₐ)) m₁)
+  first-is {z} {start} {step} e t s o =
+      linear-is made 0 D k base start step (λ α. add q (add q (sub q 0 (mul q y α)) (mul q y x)) m)
       (λ α.
-      ap₂ (λ (x y : ℕ). add p x (mul p α y)) (t ∙ ap (λ (m : ℕ). add p m m₁) e) s
-      ∙ ring h (var mᵦ ⊗ var mₐ ⊕ var m₁ ⊕ var α ⊗ (var 0 ⊖ var mᵦ)) (var 0 ⊖ var mᵦ ⊗ var α ⊕ var mᵦ ⊗ var mₐ ⊕ var m₁) tt tt (omega arith))
+      ap₂ (λ (a b : ℕ). add q a (mul q α b)) (t ∙ ap (λ (a : ℕ). add q a m) e) s
+      ∙ ring h (var y ⊗ var x ⊕ var m ⊕ var α ⊗ (var 0 ⊖ var y)) (var 0 ⊖ var y ⊗ var α ⊕ var y ⊗ var x ⊕ var m) tt tt (omega arith))
       o
 
--- the two correctors, on the second part m″ of the mask
-module _ (n K w p mᵥ mᵈ m₀ m₁ : ℕ) (d base D : List ℕ) {m″ shift start : ℕ} {out : List ℕ} where
-  pub correct₀-is : 0 < p → shift ≡ mul p mᵥ mᵈ → m″ ≡ sub p m₀ m₁ → start ≡ sub p m″ shift → out ≡ linearRows n K w 1 p d base start mᵥ D
-      → out ≡ blocks p (λ α. padded n K w p p 1 (keyV p d α D) (correctorMessage₀ p D base (sub p m₀ m₁) mᵥ mᵈ α))
+  -- the two correctors: the bit's mask, d's mask, the second part of the mask
+  pub correct₀-is : {z start : ℕ} {out : List ℕ} → z ≡ mul q x y → start ≡ sub q m z → out ≡ linearMade made 1 D k base start x
+      → out ≡ blocks q (λ α. padded made q 1 (keyV q k α D) (correctorMessage₀ q D base m x y α))
   unfolding correctorMessage₀ keyV
-  correct₀-is h e u t o =
-      linear-is n K w 1 p d base D start mᵥ (λ α. add p (sub p (mul p α mᵥ) (mul p mᵥ mᵈ)) (sub p m₀ m₁))
+  correct₀-is {z} {start} e t o =
+      linear-is made 1 D k base start x (λ α. add q (sub q (mul q α x) (mul q x y)) m)
       (λ α.
-      ap (λ (s : ℕ). add p s (mul p α mᵥ)) (t ∙ ap₂ (sub p) u e)
-      ∙ ring h (var m₀ ⊖ var m₁ ⊖ var mᵥ ⊗ var mᵈ ⊕ var α ⊗ var mᵥ) (var α ⊗ var mᵥ ⊖ var mᵥ ⊗ var mᵈ ⊕ (var m₀ ⊖ var m₁)) tt tt (omega arith))
+      ap (λ (a : ℕ). add q a (mul q α x)) (t ∙ ap (sub q m) e)
+      ∙ ring h (var m ⊖ var x ⊗ var y ⊕ var α ⊗ var x) (var α ⊗ var x ⊖ var x ⊗ var y ⊕ var m) tt tt (omega arith))
       o
 
-  pub correct₁-is : {step : ℕ} → 0 < p → shift ≡ mul p mᵥ mᵈ → m″ ≡ sub p m₀ m₁ → start ≡ add p m″ shift → step ≡ sub p 0 mᵥ
-      → out ≡ linearRows n K w 2 p d base start step D
-      → out ≡ blocks p (λ α. padded n K w p p 2 (keyV p d α D) (correctorMessage₁ p D base (sub p m₀ m₁) mᵥ mᵈ α))
+  pub correct₁-is : {z start step : ℕ} {out : List ℕ} → z ≡ mul q x y → start ≡ add q m z → step ≡ sub q 0 x → out ≡ linearMade made 2 D k base start step
+      → out ≡ blocks q (λ α. padded made q 2 (keyV q k α D) (correctorMessage₁ q D base m x y α))
   unfolding correctorMessage₁ keyV
-  correct₁-is {step} h e u t s o =
-      linear-is n K w 2 p d base D start step (λ α. add p (add p (sub p 0 (mul p α mᵥ)) (mul p mᵥ mᵈ)) (sub p m₀ m₁))
+  correct₁-is {z} {start} {step} e t s o =
+      linear-is made 2 D k base start step (λ α. add q (add q (sub q 0 (mul q α x)) (mul q x y)) m)
       (λ α.
-      ap₂ (λ (x y : ℕ). add p x (mul p α y)) (t ∙ ap₂ (add p) u e) s
-      ∙ ring h (var m₀ ⊖ var m₁ ⊕ var mᵥ ⊗ var mᵈ ⊕ var α ⊗ (var 0 ⊖ var mᵥ)) (var 0 ⊖ var α ⊗ var mᵥ ⊕ var mᵥ ⊗ var mᵈ ⊕ (var m₀ ⊖ var m₁)) tt tt
-      (omega arith))
+      ap₂ (λ (a b : ℕ). add q a (mul q α b)) (t ∙ ap (add q m) e) s
+      ∙ ring h (var m ⊕ var x ⊗ var y ⊕ var α ⊗ (var 0 ⊖ var x)) (var 0 ⊖ var α ⊗ var x ⊕ var x ⊗ var y ⊕ var m) tt tt (omega arith))
       o
 
--- ---- a product's component 1: the base is made before the row
+-- ---- a product's component 1: base and multiple are made before its rows
 
-module _ (n K w p β m₂ mₐ : ℕ) (keys a second D : List ℕ) {minus x c : ℕ} {base out : List ℕ} where
-  pub second-is : 0 < p → length second ≡ length a → minus ≡ sub p 0 β → base ≡ keyV p second minus a → x ≡ mul p β mₐ → c ≡ sub p m₂ x
-      → out ≡ padded n K w p p 1 keys (keyV p base c D) → out ≡ padded n K w p p 1 keys (productMessage₁ p D second m₂ a mₐ β)
+module _ {p : ℕ} (h : 0 < p) where
+  -- β times p - 1 is minus β
+  minus-times : (β : ℕ) → add p 0 (mul p β (p - 1)) ≡ sub p 0 β
+  minus-times β =
+      ap (λ (x : ℕ). add p 0 (mul p β x)) (sym (minus-one p h)) ∙ ring h (var 0 ⊕ var β ⊗ (var 0 ⊖ var 1)) (var 0 ⊖ var β) tt tt (omega arith)
+
+  pub second-is : (D k a : List ℕ) (m x β : ℕ) {base given : List ℕ} → length k ≡ length D → length a ≡ length D
+      → base ≡ keyV p k m D → given ≡ keyV p a x D → keyV p base (add p 0 (mul p β (p - 1))) given ≡ productMessage₁ p D k m a x β
   unfolding productMessage₁ keyV
-  second-is h l e b t s o =
-      row-as n K w p p 1 keys
-      (ap₂ (λ (xs : List ℕ) (m : ℕ). addV p xs (mulV p m D))
-      (b
-      ∙ ap (λ (m : ℕ). addV p second (mulV p m a)) e
-      ∙ vring h (length second) (vec second ⊞ (var 0 ⊖ var β) ⊡ vec a) (vec second ⊟ var β ⊡ vec a) (refl, sym l) (refl, sym l) tt tt (λ i. omega arith))
-      (s ∙ ap (sub p m₂) t))
-      o
+  second-is D k a m x β {base} {given} l n e t =
+      ap (λ (c : ℕ). addV p base (mulV p c given)) (minus-times β)
+      ∙ ap₂ (λ (b g : List ℕ). addV p b (mulV p (sub p 0 β) g)) e t
+      ∙ vring h (length D) (vec k ⊞ var m ⊡ vec D ⊞ (var 0 ⊖ var β) ⊡ (vec a ⊞ var x ⊡ vec D)) (vec k ⊟ var β ⊡ vec a ⊞ (var m ⊖ var β ⊗ var x) ⊡ vec D)
+      ((l, refl), (n, refl)) ((l, n), refl) tt tt (λ i. omega arith)
 
--- all of its rows, with the second parts under another name
-module _ (n K w p mₐ : ℕ) (a b D : List ℕ) {m m′ : ℕ} {second second′ out : List ℕ} where
-  pub second-as : second ≡ second′ → m ≡ m′ → out ≡ blocks p (λ β. padded n K w p p 1 (keyV p b β D) (productMessage₁ p D second m a mₐ β))
-      → out ≡ blocks p (λ β. padded n K w p p 1 (keyV p b β D) (productMessage₁ p D second′ m′ a mₐ β))
-  second-as e t o =
-      o ∙ ap₂ (λ (l : List ℕ) (x : ℕ). blocks p (λ β. padded n K w p p 1 (keyV p b β D) (productMessage₁ p D l x a mₐ β))) e t
+-- ---- gates, of their components
 
--- ---- the chooser's rows
+module _ (made : Made) (D : List ℕ) where
+  pub product-is : (a b z first second : Keyed) → second ≡ less (made .modulus) z first
+      → blocks (made .modulus) (λ α. padded made (made .modulus) 0 (keyV (made .modulus) (a .key) α D) (productMessage₀ (made .modulus) D (first .key) (first .mask) (a .mask) (b .mask) α))
+      ++ secondMade made D a b second ≡ productMade made D a b z first
+  unfolding productRows productRow₀ productRow₁
+  product-is a b z first second e =
+      ap (λ (s : Keyed). blocks (made .modulus) (productRow₀ shakePad (made .n) (made .k) (made .wire) (made .modulus) D a b z first) ++ secondMade made D a b s) e
 
-module _ (n K w p m : ℕ) (keys k D : List ℕ) {out : List ℕ} where
-  pub choose₀-is : out ≡ padded n K w p 2 0 keys (keyV p k m D) → out ≡ padded n K w p 2 0 keys (chooserMessage₀ p D k m)
-  unfolding chooserMessage₀ keyV
-  choose₀-is o = o
-
-  pub choose₁-is : (mᵈ : ℕ) (d : List ℕ) {c : ℕ} {base : List ℕ} → base ≡ subV p k d → c ≡ sub p m mᵈ → out ≡ padded n K w p 2 0 keys (keyV p base c D)
-      → out ≡ padded n K w p 2 0 keys (chooserMessage₁ p D k m d mᵈ)
-  unfolding chooserMessage₁ keyV
-  choose₁-is mᵈ d b s o = row-as n K w p 2 0 keys (ap₂ (λ (xs : List ℕ) (x : ℕ). addV p xs (mulV p x D)) b s) o
+  pub choice-is : (D₂ : List ℕ) (bit d z first second : Keyed) {chosen rest₀ rest₁ : Keyed} → chosen ≡ less (made .modulus) second d
+      → rest₀ ≡ less (made .modulus) z first → rest₁ ≡ less (made .modulus) z second
+      → bothChoosers made D D₂ (bit .key) first chosen ++ correctorsMade made D (bit .mask) d rest₀ rest₁ ≡ choiceMade made D D₂ bit d z first second
+  unfolding choiceRows chooserRow₀ chooserRow₁ correctorRow₀ correctorRow₁ chooserMessage₀ chooserMessage₁ keyV
+  choice-is D₂ bit d z first second e t s =
+      ap₂ (λ (x y : List ℕ). x ++ y) (ap (bothChoosers made D D₂ (bit .key) first) e) (ap₂ (correctorsMade made D (bit .mask) d) t s)

@@ -8,7 +8,7 @@ use lib.ListN.{length, take, drop}
 use Rattle.lists.proofs.Written.{lent}
 use Rattle.lists.proofs.Steps.{Level, steps-fits, steps-long, steps-call}
 use Rattle.session.specs.Sizes.{Vector}
-use Rattle.rows.specs.Vectors.{Vectors}
+use Rattle.rows.specs.Made.{Room}
 
 module _ {n K p : ℕ} {out₀ : List ℕ} {f : ℕ → List ℕ} {α at : ℕ} {out : List ℕ} {zero : List ℕ} (z : Vector n K zero) (r : Level out₀ 0 α p (n * K) f at out) (h : α < p) where
   -- the next row fits
@@ -19,7 +19,7 @@ module _ {n K p : ℕ} {out₀ : List ℕ} {f : ℕ → List ℕ} {α at : ℕ} 
   next-room = omega (arith, next-fits, r .kept)
 
   -- what a call is lent for it is one row
-  pub next-part : {q rows : ℕ} → Vectors n K q out₀ rows → Vectors n K q (take (at + length zero - at) (drop at out)) 1
+  pub next-part : {q rows : ℕ} → Room n K q out₀ rows → Room n K q (take (at + length zero - at) (drop at out)) 1
   next-part v =
       record {
         sizes = v .sizes;

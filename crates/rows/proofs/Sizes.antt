@@ -12,7 +12,11 @@ use Rattle.lists.proofs.Written.{lent}
 use Rattle.lists.proofs.Wrote.{Wrote, wrote-as, wrote-front, wrote-rest, wrote-whole}
 use Rattle.residue.specs.Vector.{Aligned}
 use Rattle.session.specs.Sizes.{Sizes, Vector}
-use Rattle.rows.specs.Vectors.{Vectors}
+use Rattle.rows.specs.Made.{Room}
+
+-- m bytes at the front of an array
+pub cut-long : {m : ℕ} (xs : List ℕ) → length xs ≡ 1024 → m ≤ 1024 → length (take m xs) ≡ m
+cut-long {m} xs l h = length-take-le m xs (omega arith)
 
 module _ {n K : ℕ} where
   -- work memory has room for a vector
@@ -30,7 +34,7 @@ module _ {n K : ℕ} where
   pub aligned : {p : ℕ} {xs ys : List ℕ} → 0 < p → Vector n K xs → Vector n K ys → Aligned p xs ys
   aligned h v u = record { positive = h; size = same-size v u }
 
-  pub one-row : {q : ℕ} {out : List ℕ} → Vectors n K q out 1 → Vector n K out
+  pub one-row : {q : ℕ} {out : List ℕ} → Room n K q out 1 → Vector n K out
   one-row v = record { size = v .size ∙ omega arith }
 
   -- the front of work memory that is lent, m bytes long
@@ -44,31 +48,31 @@ module _ {n K : ℕ} where
     pub work-vector : Vector n K (take m xs)
     work-vector = record { size = length-take-le m xs work-fits ∙ e }
 
-  pub vectors-as : {q rows rows′ : ℕ} {out : List ℕ} → Vectors n K q out rows → rows ≡ rows′ → Vectors n K q out rows′
-  vectors-as {q} {rows} {rows′} {out} v e = record { sizes = v .sizes; modulus = v .modulus; size = v .size ∙ ap (λ (r : ℕ). r * (n * K)) e }
+  pub room-as : {q rows rows′ : ℕ} {out : List ℕ} → Room n K q out rows → rows ≡ rows′ → Room n K q out rows′
+  room-as {q} {rows} {rows′} {out} v e = record { sizes = v .sizes; modulus = v .modulus; size = v .size ∙ ap (λ (r : ℕ). r * (n * K)) e }
 
-  pub twice : (p : ℕ) {q : ℕ} {out : List ℕ} → Vectors n K q out (2 * p) → Vectors n K q out (p + p)
-  twice p v = vectors-as v (omega arith)
+  pub twice : (p : ℕ) {q : ℕ} {out : List ℕ} → Room n K q out (2 * p) → Room n K q out (p + p)
+  twice p v = room-as v (omega arith)
 
-  pub half-of : (p : ℕ) {q : ℕ} {out : List ℕ} → Vectors n K q out (2 * p) → length out / 2 ≡ p * (n * K)
+  pub half-of : (p : ℕ) {q : ℕ} {out : List ℕ} → Room n K q out (2 * p) → length out / 2 ≡ p * (n * K)
   half-of p v = omega (arith, v .size)
 
   -- r rows in the front of m bytes, s rows in the rest
-  module _ {q : ℕ} {out : List ℕ} (r s m : ℕ) (v : Vectors n K q out (r + s)) (e : m ≡ r * (n * K)) where
+  module _ {q : ℕ} {out : List ℕ} (r s m : ℕ) (v : Room n K q out (r + s)) (e : m ≡ r * (n * K)) where
     pub front-fits : m ≤ length out
     front-fits = omega (arith, v .size)
 
     pub front-long : m ≡ length (take m out)
     front-long = sym (length-take-le m out front-fits)
 
-    pub front-rows : Vectors n K q (take m out) r
+    pub front-rows : Room n K q (take m out) r
     front-rows = record { sizes = v .sizes; modulus = v .modulus; size = length-take-le m out front-fits ∙ e }
 
     module _ (ys : List ℕ) (k : length ys ≡ length (take m out)) where
       pub rest-fits : m ≤ length (ys ++ drop m out)
       rest-fits = omega (arith, length-front out ys m k, front-fits)
 
-      pub rest-rows : Vectors n K q (take (length (ys ++ drop m out) - m) (drop m (ys ++ drop m out))) s
+      pub rest-rows : Room n K q (take (length (ys ++ drop m out) - m) (drop m (ys ++ drop m out))) s
       rest-rows =
           record {
             sizes = v .sizes;

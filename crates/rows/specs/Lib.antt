@@ -1,3 +1,2 @@
--- The rows of a gate from its operands alone, and what making them asks.
-pub mod Gate
-pub mod Vectors
+-- What the rows of a gate are made of, as the code holds it, and what making them asks.
+pub mod Made

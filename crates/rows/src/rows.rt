@@ -1,14 +1,20 @@
-// One row, and rows whose messages go up by one step.
+// One row, and the rows of one component of a gate.
 ghost use mathlib.Core.Path.{_≡_};
 ghost use Prim.Native.Nat.{_<_};
 ghost use lib.ListN.{length};
 ghost use Rattle.residue.specs.Vector.{keyV};
-ghost use Rattle.rows.specs.Gate.{padded, linearRows};
 ghost use Rattle.session.specs.Sizes.{Vector};
-ghost use Rattle.rows.specs.Vectors.{Vectors};
-use residue::add;
+ghost use Rattle.rows.specs.Made.{Room, Four, rowOf, componentRows};
+use pads::Bound;
 use residue::key_of;
-use residue::mul;
+
+// What rows are made for: `n` parties, key length `k`, receiving modulus `q`, and what the pads are bound to.
+pub struct Row {
+    pub n: usize,
+    pub k: usize,
+    pub q: u8,
+    pub bound: Bound,
+}
 
 // Work memory for one key vector.
 pub fn scratch() -> [u8; 1024]
@@ -17,97 +23,89 @@ pub fn scratch() -> [u8; 1024]
     [0u8; 1024]
 }
 
-// The row with message base + c·offset, modulo `q`, under `keys` of modulus `p`.
-pub fn put_row(
-    w: u32,
-    component: u8,
-    n: usize,
-    k: usize,
-    q: u8,
-    p: u8,
-    keys: &[u8],
-    base: &[u8],
-    c: u8,
-    offset: &[u8],
-    out: &mut [u8],
-)
-    requires { ⌜ Vectors n k q (now out) 1 ⌝ }
-    requires { ⌜ Vector n k (now keys) × (Vector n k (now base) × Vector n k (now offset)) ⌝ }
-    ensures { λ _. ⌜ now (out .exit) ≡ padded n k w q p component (now (keys .entry)) (keyV q (now (base .entry)) c (now (offset .entry))) ⌝ }
+// The row with message base + c·given under `keys`.
+pub fn put_row(row: Row, keys: &[u8], base: &[u8], c: u8, given: &[u8], out: &mut [u8])
+    requires { ⌜ Room (row .n) (row .k) (row .q) (now out) 1 ⌝ }
+    requires { ⌜ Vector (row .n) (row .k) (now keys) × (Vector (row .n) (row .k) (now base) × Vector (row .n) (row .k) (now given)) ⌝ }
+    ensures { λ _. ⌜ now (out .exit) ≡ rowOf row (now (keys .entry)) (keyV (row .q) (now (base .entry)) c (now (given .entry))) ⌝ }
 {
-    key_of(q, base, c, offset, &mut *out);
-    pads::add_pad_row(q, p, w, component, n, k, keys, out);
+    key_of(row.q, base, c, given, &mut *out);
+    pads::add_pad_row(row.q, row.bound, row.n, row.k, keys, out);
 }
 
-// The row with message base + c·given, modulo `q`, under the keys zero + alpha·offset of modulus `p`, which are made in `work`.
+// The row with message base + c·given under the keys zero + alpha·offset, which are made in `work`.
 pub fn put_keyed_row(
-    w: u32,
-    component: u8,
-    n: usize,
-    k: usize,
-    q: u8,
-    p: u8,
-    zero: &[u8],
+    row: Row,
     alpha: u8,
+    c: u8,
+    zero: &[u8],
     offset: &[u8],
     base: &[u8],
-    c: u8,
     given: &[u8],
     work: &mut [u8],
     out: &mut [u8],
 )
-    requires { ⌜ Vectors n k q (now out) 1 × (0 < p) ⌝ }
-    requires { ⌜ Vector n k (now zero) × (Vector n k (now offset) × (Vector n k (now base) × Vector n k (now given))) ⌝ }
-    requires { ⌜ Vector n k (now work) ⌝ }
-    ensures { λ _. ⌜ now (out .exit) ≡ padded n k w q p component (keyV p (now (zero .entry)) alpha (now (offset .entry))) (keyV q (now (base .entry)) c (now (given .entry))) ⌝ }
+    requires { ⌜ Room (row .n) (row .k) (row .q) (now out) 1 ⌝ }
+    requires { ⌜ Four row (now zero) (now offset) (now base) (now given) × Vector (row .n) (row .k) (now work) ⌝ }
+    ensures { λ _. ⌜ now (out .exit) ≡ rowOf row (keyV (row .bound .modulus) (now (zero .entry)) alpha (now (offset .entry))) (keyV (row .q) (now (base .entry)) c (now (given .entry))) ⌝ }
 {
-    key_of(p, zero, alpha, offset, &mut *work);
-    put_row(w, component, n, k, q, p, &*work, base, c, given, out);
+    key_of(row.bound.modulus, zero, alpha, offset, &mut *work);
+    put_row(row, &*work, base, c, given, out);
 }
 
-// A row for each alpha below `p`, with message base + (start + alpha·step)·offset, under the keys zero + alpha·offset.
-pub fn linear_rows(
-    w: u32,
-    component: u8,
-    n: usize,
-    k: usize,
-    p: u8,
+// A row for each alpha below the keys' modulus: its message is base + factors[alpha]·given, and it is under the keys zero + alpha·offset.
+fn put_component(
+    row: Row,
+    factors: [u8; 256],
     zero: &[u8],
-    base: &[u8],
-    start: u8,
-    step: u8,
     offset: &[u8],
+    base: &[u8],
+    given: &[u8],
     work: &mut [u8],
     out: &mut [u8],
 )
-    requires { ⌜ Vectors n k p (now out) p ⌝ }
-    requires { ⌜ Vector n k (now zero) × (Vector n k (now base) × Vector n k (now offset)) ⌝ }
-    requires { ⌜ (start < p) × Vector n k (now work) ⌝ }
-    ensures { λ _. ⌜ now (out .exit) ≡ linearRows n k w component p (now (zero .entry)) (now (base .entry)) start step (now (offset .entry)) ⌝ }
+    requires { ⌜ Room (row .n) (row .k) (row .q) (now out) (row .bound .modulus) ⌝ }
+    requires { ⌜ Four row (now zero) (now offset) (now base) (now given) × Vector (row .n) (row .k) (now work) ⌝ }
+    ensures { λ _. ⌜ now (out .exit) ≡ componentRows row factors (now (zero .entry)) (now (offset .entry)) (now (base .entry)) (now (given .entry)) ⌝ }
 {
     let m = zero.len();
+    let p = row.bound.modulus;
     let mut at = 0;
     let mut alpha = 0;
     while alpha < p {
         let to = at + m;
-        let c = add(p, start, mul(p, alpha, step));
+        let place = alpha as usize;
         put_keyed_row(
-            w,
-            component,
-            n,
-            k,
-            p,
-            p,
-            zero,
+            row,
             alpha,
+            factors[place],
+            zero,
             offset,
             base,
-            c,
-            offset,
+            given,
             &mut *work,
             &mut out[at..to],
         );
         at = to;
         alpha += 1;
     }
+}
+
+// The same, with work memory for a sender's keys.
+pub fn component_rows(
+    row: Row,
+    factors: [u8; 256],
+    zero: &[u8],
+    offset: &[u8],
+    base: &[u8],
+    given: &[u8],
+    out: &mut [u8],
+)
+    requires { ⌜ Room (row .n) (row .k) (row .q) (now out) (row .bound .modulus) ⌝ }
+    requires { ⌜ Four row (now zero) (now offset) (now base) (now given) ⌝ }
+    ensures { λ _. ⌜ now (out .exit) ≡ componentRows row factors (now (zero .entry)) (now (offset .entry)) (now (base .entry)) (now (given .entry)) ⌝ }
+{
+    let mut work = scratch();
+    let m = zero.len();
+    put_component(row, factors, zero, offset, base, given, &mut work[..m], out);
 }

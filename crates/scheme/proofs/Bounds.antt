@@ -11,19 +11,20 @@ use Rattle.residue.specs.Prime.{Prime}
 use Rattle.residue.proofs.Moduli.{isPrime→Prime}
 use Rattle.residue.proofs.Vectors.{add-below, mul-below, addV-length, mulV-length}
 use Rattle.words.specs.declared.gate.Owned.{Owned}
-use Rattle.words.specs.declared.gate.Gate.{Gate}
 use Rattle.words.specs.declared.gate.Gate.the-variants.{Input}
 use Rattle.words.specs.declared.gate.Wire.{Wire}
 use Rattle.circuit.specs.Wires.{wireAt, modulusAt, isInput, inputsIn}
-use Rattle.circuit.specs.Accepted.{GateFits, AcceptedCircuit}
-use Rattle.circuit.specs.Accepted.GateFits.{input, add, scale, multiply, project, select}
-use Rattle.counts.specs.Recipe.{gateRecipe}
+use Rattle.circuit.specs.Accepted.{AcceptedCircuit}
+use Rattle.counts.specs.declared.recipe.Recipe.{Recipe}
+use Rattle.counts.specs.Recipe.{recipe}
 use Rattle.counts.specs.Counts.{recordKeysBy}
+use Rattle.counts.proofs.Recipes.{RecipeFits, recipe-fits}
+use Rattle.counts.proofs.Recipes.RecipeFits.{entered, sum, multiple, table, product, choice}
 use Rattle.plain.specs.Plain.{plainValues}
 use Rattle.plain.specs.Ready.{Fed}
 use Rattle.plain.proofs.Residues.{plain-below}
 use Rattle.scheme.specs.Draw.{Draw}
-use Rattle.scheme.specs.Zero.{freely, freelyV, zeroKeyBy, maskBy, zeroKey, mask}
+use Rattle.scheme.specs.Zero.{zeroKeyBy, maskBy, zeroKey, mask}
 use Rattle.scheme.specs.Drawn.{WellDrawn}
 use Rattle.scheme.proofs.Steps.{by-lower, zeroKey-step, mask-step}
 
@@ -38,46 +39,44 @@ module _ {file : List ℕ} {wires : List Wire} {outputs : List ℕ} (accepted : 
   input-first w made is = ltb-true w (inputsIn wires) (sym (accepted .inputsFirst w made) ∙ ap isInput is)
 
   module _ {n K : ℕ} {draw : Draw} (drawn : WellDrawn n K wires draw) where
-    -- what a gate of known kind has drawn
-    pub key-size : {gate : Gate} (w j : ℕ) → w < length wires → wireAt wires w .gate ≡ gate → j < recordKeysBy (gateRecipe gate)
-        → length (draw .key w j) ≡ n * K
+    -- what a wire of known recipe has drawn
+    pub key-size : {r : Recipe} (w j : ℕ) → w < length wires → recipe (wireAt wires w) ≡ r → j < recordKeysBy r → length (draw .key w j) ≡ n * K
     key-size w j made is h = drawn .keySize w j made (rw is h)
 
-    pub mask-small : {gate : Gate} (w j : ℕ) → w < length wires → wireAt wires w .gate ≡ gate → j < recordKeysBy (gateRecipe gate)
-        → draw .mask w j < modulusAt wires w
+    pub mask-small : {r : Recipe} (w j : ℕ) → w < length wires → recipe (wireAt wires w) ≡ r → j < recordKeysBy r → draw .mask w j < modulusAt wires w
     mask-small w j made is h = drawn .maskBelow w j made (rw is h)
 
     module _ (w : ℕ) (made : w < length wires) where
-      zeroKey-sized : {gate : Gate} → GateFits file wires w gate → wireAt wires w .gate ≡ gate
+      zeroKey-sized : {r : Recipe} → RecipeFits file wires w r → recipe (wireAt wires w) ≡ r
           → ((a : ℕ) → a < w → length (zeroKey wires draw a) ≡ n * K)
-          → length (zeroKeyBy draw w (modulusAt wires w) gate (gateRecipe gate) (zeroKey wires draw)) ≡ n * K
-      unfolding zeroKeyBy freelyV
-      zeroKey-sized (input fits) is lower = key-size w 0 made is (omega arith)
-      zeroKey-sized (add {gate} fits) is lower =
-          addV-length _ _ _ (lower (gate .a) (fits .a .lower) ∙ sym (lower (gate .b) (fits .b .lower))) ∙ lower (gate .a) (fits .a .lower)
-      zeroKey-sized (scale {gate} fits) is lower = mulV-length _ _ _ ∙ lower (gate .a) (fits .a .lower)
-      zeroKey-sized (multiply fits) is lower = key-size w 0 made is (omega arith)
-      zeroKey-sized (project fits) is lower = key-size w 0 made is (omega arith)
-      zeroKey-sized (select {gate} fits) is lower =
-          addV-length _ _ _ (key-size w 0 made is (omega arith) ∙ sym (lower (gate .a) (fits .a .lower))) ∙ key-size w 0 made is (omega arith)
+          → length (zeroKeyBy (draw .key w 0) (modulusAt wires w) (zeroKey wires draw) r) ≡ n * K
+      unfolding zeroKeyBy
+      zeroKey-sized (entered fits) is lower = key-size w 0 made is (omega arith)
+      zeroKey-sized (sum {g} fits) is lower =
+          addV-length _ _ _ (lower (g .a) (fits .a .lower) ∙ sym (lower (g .b) (fits .b .lower))) ∙ lower (g .a) (fits .a .lower)
+      zeroKey-sized (multiple {g} fits) is lower = mulV-length _ _ _ ∙ lower (g .a) (fits .a .lower)
+      zeroKey-sized (table fits) is lower = key-size w 0 made is (omega arith)
+      zeroKey-sized (product fits) is lower = key-size w 0 made is (omega arith)
+      zeroKey-sized (choice {g} fits) is lower =
+          addV-length _ _ _ (key-size w 0 made is (omega arith) ∙ sym (lower (g .a) (fits .a .lower))) ∙ key-size w 0 made is (omega arith)
 
-      mask-reduced : {gate : Gate} → GateFits file wires w gate → wireAt wires w .gate ≡ gate
-          → maskBy draw w (modulusAt wires w) gate (gateRecipe gate) (mask wires draw) < modulusAt wires w
-      unfolding maskBy freely
-      mask-reduced (input fits) is = mask-small w 0 made is (omega arith)
-      mask-reduced (add fits) is = add-below (positive w made) _ _
-      mask-reduced (scale fits) is = mul-below (positive w made) _ _
-      mask-reduced (multiply fits) is = mask-small w 0 made is (omega arith)
-      mask-reduced (project fits) is = mask-small w 0 made is (omega arith)
-      mask-reduced (select fits) is = add-below (positive w made) _ _
+      mask-reduced : {r : Recipe} → RecipeFits file wires w r → recipe (wireAt wires w) ≡ r
+          → maskBy (draw .mask w 0) (modulusAt wires w) (mask wires draw) r < modulusAt wires w
+      unfolding maskBy
+      mask-reduced (entered fits) is = mask-small w 0 made is (omega arith)
+      mask-reduced (sum fits) is = add-below (positive w made) _ _
+      mask-reduced (multiple fits) is = mul-below (positive w made) _ _
+      mask-reduced (table fits) is = mask-small w 0 made is (omega arith)
+      mask-reduced (product fits) is = mask-small w 0 made is (omega arith)
+      mask-reduced (choice fits) is = add-below (positive w made) _ _
 
       pub mask-below : mask wires draw w < modulusAt wires w
-      mask-below = rw (mask-step accepted w made draw) (mask-reduced (accepted .fits w made .gate) refl)
+      mask-below = rw (mask-step accepted w made draw) (mask-reduced (recipe-fits accepted w made) refl)
 
     pub zeroKey-size : (w : ℕ) → w < length wires → length (zeroKey wires draw w) ≡ n * K
     zeroKey-size = by-lower (λ w. w < length wires → length (zeroKey wires draw w) ≡ n * K) (λ w lower made.
         ap length (zeroKey-step accepted w made draw)
-        ∙ zeroKey-sized w made (accepted .fits w made .gate) refl (λ a l. lower a l (omega arith)))
+        ∙ zeroKey-sized w made (recipe-fits accepted w made) refl (λ a l. lower a l (omega arith)))
 
 -- a plain value is below its wire's modulus
 pub value-below : {file : List ℕ} {wires : List Wire} {outputs values : List ℕ} → Fed file wires outputs values → (w : ℕ) → w < length wires

@@ -14,10 +14,9 @@ use Rattle.checks.specs.Checked.Checked.{passed}
 use Rattle.checks.proofs.Passed.{noneBad-passed, somewhere-passed, somewhere-none}
 use Rattle.words.specs.declared.gate.Wire.{Wire}
 use Rattle.circuit.specs.Wires.{modulusAt, inputsIn}
-use Rattle.counts.specs.Counts.{rowsOf}
 use Rattle.scheme.proofs.EachBelow.{runs-each}
 use Rattle.session.specs.Session.{tooLarge, valuesChecked}
-use Rattle.scheme.specs.Bytes.{bytesChecked, keysChecked, rowsChecked}
+use Rattle.scheme.specs.Bytes.{bytesChecked, keysChecked, countedRowsChecked}
 
 -- ---- one entry
 
@@ -61,12 +60,12 @@ keys-passed n K wires f e b =
     bytes-passed (blocks (inputsIn wires) f) (runs (inputsIn wires) (λ w. n * K) (modulusAt wires)) KeyOrRowTooLarge
     (runs-each (inputsIn wires) f (λ w. n * K) (modulusAt wires) e b .entry)
 
--- rows of all wires, one wire after another
-pub rows-passed : (n K : ℕ) (wires : List Wire) (f : ℕ → List ℕ)
-    → ((w : ℕ) → w < length wires → length (f w) ≡ rowsOf wires w * (n * K))
+-- rows of all wires, one wire after another, so many of each
+pub rows-passed : (n K : ℕ) (wires : List Wire) (count : ℕ → ℕ) (f : ℕ → List ℕ)
+    → ((w : ℕ) → w < length wires → length (f w) ≡ count w * (n * K))
     → ((w : ℕ) → w < length wires → AllBelow (modulusAt wires w) (f w))
-    → rowsChecked n K wires (blocks (length wires) f) ≡ passed
-unfolding rowsChecked
-rows-passed n K wires f e b =
-    bytes-passed (blocks (length wires) f) (runs (length wires) (λ w. rowsOf wires w * (n * K)) (modulusAt wires)) KeyOrRowTooLarge
-    (runs-each (length wires) f (λ w. rowsOf wires w * (n * K)) (modulusAt wires) e b .entry)
+    → countedRowsChecked n K wires count (blocks (length wires) f) ≡ passed
+unfolding countedRowsChecked
+rows-passed n K wires count f e b =
+    bytes-passed (blocks (length wires) f) (runs (length wires) (λ w. count w * (n * K)) (modulusAt wires)) KeyOrRowTooLarge
+    (runs-each (length wires) f (λ w. count w * (n * K)) (modulusAt wires) e b .entry)

@@ -1,5 +1,4 @@
 -- Laws of the scheme: layout of contributions, what they draw, and that opening undoes garbling.
-pub mod Rows
 pub mod Search
 pub mod Drawn
 pub mod Bounds
@@ -12,5 +11,6 @@ pub mod Opened
 pub mod Padded
 pub mod Places
 pub mod Known
+pub mod Gates
 pub mod Steps
 pub mod Used

@@ -42,5 +42,9 @@ module _ (n K : ℕ) (wires : List Wire) where
   unfoldable pub keysChecked : List ℕ → Checked
   keysChecked keys = bytesChecked keys (runs (inputsIn wires) (λ w. n * K) (modulusAt wires)) KeyOrRowTooLarge
 
-  unfoldable pub rowsChecked : List ℕ → Checked
-  rowsChecked rows = bytesChecked rows (runs (length wires) (λ w. rowsOf wires w * (n * K)) (modulusAt wires)) KeyOrRowTooLarge
+  -- .. where each wire has so many rows
+  unfoldable pub countedRowsChecked : (ℕ → ℕ) → List ℕ → Checked
+  countedRowsChecked count rows = bytesChecked rows (runs (length wires) (λ w. count w * (n * K)) (modulusAt wires)) KeyOrRowTooLarge
+
+  abbrev pub rowsChecked : List ℕ → Checked
+  rowsChecked = countedRowsChecked (rowsOf wires)

@@ -2,8 +2,10 @@
 -- and Given state the theorem of proofs/Opened; no contract rests on them.
 pub mod Contribution
 pub mod Draw
+pub mod Keyed
 pub mod Zero
 pub mod Message
+pub mod Gate
 pub mod Rows
 pub mod Opening
 pub mod Bytes

@@ -7,58 +7,44 @@ use lib.ListN.{length, getD}
 use Rattle.lists.specs.Grown.{grown}
 use Rattle.residue.specs.Residue.{add, mul}
 use Rattle.residue.specs.Vector.{addV, mulV}
-use Rattle.words.specs.declared.gate.Gate.{Gate}
-use Rattle.words.specs.declared.gate.Gate.the-variants.{Input, Add, Scale, Multiply, Project, Select}
 use Rattle.words.specs.declared.gate.Wire.{Wire}
 use Rattle.circuit.specs.Wires.{wireAt, modulusAt}
 use Rattle.counts.specs.declared.recipe.Recipe.{Recipe}
-use Rattle.counts.specs.declared.recipe.Recipe.the-variants.{Entered, Free, Table, Product, Choice}
+use Rattle.counts.specs.declared.recipe.Recipe.the-variants.{Entered, Sum, Multiple, Table, Product, Choice}
 use Rattle.counts.specs.Recipe.{recipe}
 use Rattle.scheme.specs.Draw.{Draw}
+use Rattle.scheme.specs.Keyed.{Keyed}
 
--- "Add and scale act alike on keys, masks and external values": what a free gate does to numbers, and to keys;
--- nothing asks it of another gate
-unfoldable pub freely : ℕ → Gate → (ℕ → ℕ) → ℕ
-freely p (Input gate) of = 0
-freely p (Add gate) of = add p (of (gate .a)) (of (gate .b))
-freely p (Scale gate) of = mul p (gate .constant) (of (gate .a))
-freely p (Multiply gate) of = 0
-freely p (Project gate) of = 0
-freely p (Select gate) of = 0
+-- a wire of modulus p, from what its record holds, if it has one, and from the zero keys of the wires below it
+unfoldable pub zeroKeyBy : List ℕ → ℕ → (ℕ → List ℕ) → Recipe → List ℕ
+zeroKeyBy drawn p zero Entered = drawn
+zeroKeyBy drawn p zero (Sum g) = addV p (zero (g .a)) (zero (g .b))
+zeroKeyBy drawn p zero (Multiple g) = mulV p (g .constant) (zero (g .a))
+zeroKeyBy drawn p zero (Table g) = drawn
+zeroKeyBy drawn p zero (Product g) = drawn
+zeroKeyBy drawn p zero (Choice g) = addV p drawn (zero (g .a))
 
-unfoldable pub freelyV : ℕ → Gate → (ℕ → List ℕ) → List ℕ
-freelyV p (Input gate) of = []
-freelyV p (Add gate) of = addV p (of (gate .a)) (of (gate .b))
-freelyV p (Scale gate) of = mulV p (gate .constant) (of (gate .a))
-freelyV p (Multiply gate) of = []
-freelyV p (Project gate) of = []
-freelyV p (Select gate) of = []
-
--- wire w of modulus p, from the zero keys of the wires below it
-unfoldable pub zeroKeyBy : Draw → ℕ → ℕ → Gate → Recipe → (ℕ → List ℕ) → List ℕ
-zeroKeyBy draw w p gate Entered zero = draw .key w 0
-zeroKeyBy draw w p gate Free zero = freelyV p gate zero
-zeroKeyBy draw w p gate (Table a) zero = draw .key w 0
-zeroKeyBy draw w p gate (Product g) zero = draw .key w 0
-zeroKeyBy draw w p gate (Choice g) zero = addV p (draw .key w 0) (zero (g .a))
-
-unfoldable pub maskBy : Draw → ℕ → ℕ → Gate → Recipe → (ℕ → ℕ) → ℕ
-maskBy draw w p gate Entered mask = draw .mask w 0
-maskBy draw w p gate Free mask = freely p gate mask
-maskBy draw w p gate (Table a) mask = draw .mask w 0
-maskBy draw w p gate (Product g) mask = draw .mask w 0
-maskBy draw w p gate (Choice g) mask = add p (draw .mask w 0) (mask (g .a))
+unfoldable pub maskBy : ℕ → ℕ → (ℕ → ℕ) → Recipe → ℕ
+maskBy drawn p mask Entered = drawn
+maskBy drawn p mask (Sum g) = add p (mask (g .a)) (mask (g .b))
+maskBy drawn p mask (Multiple g) = mul p (g .constant) (mask (g .a))
+maskBy drawn p mask (Table g) = drawn
+maskBy drawn p mask (Product g) = drawn
+maskBy drawn p mask (Choice g) = add p drawn (mask (g .a))
 
 -- of the first wires, so many
 unfoldable pub zeroKeysTo : List Wire → Draw → ℕ → List (List ℕ)
-zeroKeysTo wires draw =
-    grown (λ w below. zeroKeyBy draw w (modulusAt wires w) (wireAt wires w .gate) (recipe (wireAt wires w)) (λ a. getD below a []))
+zeroKeysTo wires draw = grown (λ w below. zeroKeyBy (draw .key w 0) (modulusAt wires w) (λ a. getD below a []) (recipe (wireAt wires w)))
 
 unfoldable pub masksTo : List Wire → Draw → ℕ → List ℕ
-masksTo wires draw = grown (λ w below. maskBy draw w (modulusAt wires w) (wireAt wires w .gate) (recipe (wireAt wires w)) (λ a. getD below a 0))
+masksTo wires draw = grown (λ w below. maskBy (draw .mask w 0) (modulusAt wires w) (λ a. getD below a 0) (recipe (wireAt wires w)))
 
 unfoldable pub zeroKey : List Wire → Draw → ℕ → List ℕ
 zeroKey wires draw w = getD (zeroKeysTo wires draw (length wires)) w []
 
 unfoldable pub mask : List Wire → Draw → ℕ → ℕ
 mask wires draw w = getD (masksTo wires draw (length wires)) w 0
+
+-- both of a wire
+abbrev pub zeroOf : List Wire → Draw → ℕ → Keyed
+zeroOf wires draw a = record { key = zeroKey wires draw a; mask = mask wires draw a }

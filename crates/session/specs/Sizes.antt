@@ -7,7 +7,7 @@ use lib.ListN.{length}
 
 -- n parties, key length K
 pub record Sizes (n K : ℕ) : Type 0 where
-  pub some : 2 ≤ n
+  pub some : 1 ≤ n
   pub parties : n ≤ 8
   pub long : 1 ≤ K
   pub short : K ≤ 128

@@ -3,6 +3,7 @@
 mod lengths;
 mod owners;
 mod parties;
+mod sizes;
 mod values;
 
 pub use lengths::length_checked;
@@ -10,4 +11,7 @@ pub use owners::owners_checked;
 pub use parties::parties_checked;
 pub use parties::party_checked;
 pub use parties::session_checked;
+pub use sizes::Asked;
+pub use sizes::Seat;
+pub use sizes::Size;
 pub use values::values_checked;

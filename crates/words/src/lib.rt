@@ -17,5 +17,4 @@ pub use gate::Projection;
 pub use gate::Scaling;
 pub use gate::Step;
 pub use gate::Wire;
-pub use reading::judge_word;
 pub use reading::read_word;

@@ -324,25 +324,3 @@ pub fn read_word(moduli: &[u8], made: usize, given: usize, at: u32, due: Due, w:
         _ => Step::Refused(Refusal::UnknownWord),
     }
 }
-
-// The same for a second reader. A function that one loop calls is compiled into that loop. One that two loops call is called for each
-// word, with its answer in memory, and a usual file then takes half as long again.
-pub fn judge_word(moduli: &[u8], made: usize, given: usize, at: u32, due: Due, word: u32) -> Step
-    requires { ⌜ (made ≤ length (now moduli)) × (at + 1 < 2 ^ 32) ⌝ }
-    ensures { λ r. ⌜ r ≡ readWord (take made (now (moduli .entry))) given at due word ⌝ }
-{
-    match kind(word) {
-        1 => head_word(word),
-        2 => input_word(word, due, made),
-        3 => pair_word(moduli, made, word, due, Gate::Add(pair(word))),
-        4 => scale_word(moduli, made, word, due),
-        5 => pair_word(moduli, made, word, due, Gate::Multiply(pair(word))),
-        6 => project_word(moduli, made, word, due, at),
-        7 => entry_word(word, due),
-        8 => select_word(moduli, made, word, due),
-        9 => branches_word(moduli, made, word, due),
-        10 => output_word(moduli, made, word, due, given),
-        11 => end_word(word, due, given),
-        _ => Step::Refused(Refusal::UnknownWord),
-    }
-}

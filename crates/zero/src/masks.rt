@@ -1,21 +1,20 @@
 // The masks of all wires.
 ghost use mathlib.Core.Path.{_≡_};
-ghost use mathlib.Core.List.{[]};
 ghost use Prim.Native.Nat.{_<_};
 ghost use lib.ListN.{getD, replicate};
 ghost use Rattle.residue.specs.Residue.{add, mul};
 ghost use Rattle.counts.specs.Recipe.{recipe};
 ghost use Rattle.plain.specs.Ready.{Below, PairReady};
-ghost use Rattle.scheme.specs.Zero.{maskBy};
 ghost use Rattle.zero.specs.Ready.{Contributed, Masks};
-ghost use Rattle.zero.specs.Turn.{ofWire, maskAt, MaskAsked};
+ghost use Rattle.zero.specs.Turn.{maskHere, MaskAsked};
 use super::shares::share_sum;
 use circuit::Circuit;
 use contribution::first_record;
 use contribution::record_keys;
 use contribution::record_size;
+use counts::Recipe;
+use counts::recipe_of;
 use words::Choice;
-use words::Gate;
 use words::Pair;
 use words::Scaling;
 use words::Wire;
@@ -48,18 +47,18 @@ fn with_first(p: u8, gate: Choice, share: u8, masks: &[u8]) -> u8
 
 // The mask of one wire, whose shares stand at place `at`, from the masks of lower wires.
 fn wire_mask(wire: Wire, at: usize, n: usize, size: usize, contributions: &[u8], masks: &[u8]) -> u8
-    requires { ⌜ MaskAsked n size at (wire .modulus) (wire .gate) (now contributions) (now masks) ⌝ }
-    ensures { λ r. ⌜ r ≡ maskBy (ofWire [] (maskAt n size (now (contributions .entry)) (wire .modulus) at)) 0 (wire .modulus) (wire .gate) (recipe wire) (λ a. getD (now (masks .entry)) a 0) ⌝ }
+    requires { ⌜ MaskAsked n size at (wire .modulus) (recipe wire) (now contributions) (now masks) ⌝ }
+    ensures { λ r. ⌜ r ≡ maskHere n size at (now (contributions .entry)) (now (masks .entry)) wire ⌝ }
 {
-    let gate = wire.gate;
+    let how = recipe_of(wire);
     let p = wire.modulus;
-    match gate {
-        Gate::Input(_) => share_sum(contributions, n, size, at, p),
-        Gate::Add(pair) => sum(p, pair, masks),
-        Gate::Scale(scaling) => multiple(p, scaling, masks),
-        Gate::Multiply(_) => share_sum(contributions, n, size, at, p),
-        Gate::Project(_) => share_sum(contributions, n, size, at, p),
-        Gate::Select(choice) => {
+    match how {
+        Recipe::Entered => share_sum(contributions, n, size, at, p),
+        Recipe::Sum(pair) => sum(p, pair, masks),
+        Recipe::Multiple(scaling) => multiple(p, scaling, masks),
+        Recipe::Table(_) => share_sum(contributions, n, size, at, p),
+        Recipe::Product(_) => share_sum(contributions, n, size, at, p),
+        Recipe::Choice(choice) => {
             let share = share_sum(contributions, n, size, at, p);
             with_first(p, choice, share, masks)
         }

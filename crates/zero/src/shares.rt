@@ -3,7 +3,7 @@ ghost use mathlib.Core.Path.{_≡_};
 ghost use Prim.Native.Nat.{_+_, _*_, _%_, _≤_, _<_};
 ghost use lib.ListN.{length, getD};
 ghost use Rattle.lists.specs.Blocks.{blocks, sumTo, part, nthPiece};
-ghost use Rattle.counts.specs.Counts.{Counts};
+use lists::byte_number;
 
 // The `k` bytes from place `at` on of each of `n` contributions of `size` bytes.
 pub fn gather(contributions: &[u8], n: usize, k: usize, size: usize, at: usize, out: &mut [u8])
@@ -33,16 +33,10 @@ pub fn share_sum(contributions: &[u8], n: usize, size: usize, at: usize, p: u8) 
     let mut party = 0;
     while party < n {
         let bytes = lists::nth_piece(contributions, size, party);
-        total += widened(bytes[at]);
+        total += byte_number(bytes[at]);
         party += 1;
     }
     reduced(total, p)
-}
-
-fn widened(share: u8) -> u32
-    ensures { λ r. ⌜ Counts 255 share r ⌝ }
-{
-    share as u32
 }
 
 fn reduced(total: u32, p: u8) -> u8

@@ -5,16 +5,16 @@ ghost use lib.ListN.{length};
 ghost use Rattle.lists.specs.Blocks.{nthPiece};
 ghost use Rattle.residue.specs.Vector.{addV, mulV};
 ghost use Rattle.counts.specs.Recipe.{recipe};
-ghost use Rattle.scheme.specs.Zero.{zeroKeyBy};
 ghost use Rattle.zero.specs.Ready.{Contributed, ZeroKeys};
-ghost use Rattle.zero.specs.Turn.{ofWire, keysAt, Stands, KeysAsked, Put};
+ghost use Rattle.zero.specs.Turn.{keyHere, Stands, KeysAsked, Put};
 use super::shares::gather;
 use circuit::Circuit;
 use contribution::first_record;
 use contribution::record_size;
 use contribution::scratch;
+use counts::Recipe;
+use counts::recipe_of;
 use words::Choice;
-use words::Gate;
 use words::Pair;
 use words::Scaling;
 use words::Wire;
@@ -60,19 +60,19 @@ fn put_zero_key(
     keys: &[u8],
     out: &mut [u8],
 )
-    requires { ⌜ KeysAsked n k size at (wire .modulus) (wire .gate) (now contributions) (now keys) ⌝ }
+    requires { ⌜ KeysAsked n k size at (wire .modulus) (recipe wire) (now contributions) (now keys) ⌝ }
     requires { ⌜ length (now out) ≡ n * k ⌝ }
-    ensures { λ _. ⌜ now (out .exit) ≡ zeroKeyBy (ofWire (keysAt n k size (now (contributions .entry)) at) 0) 0 (wire .modulus) (wire .gate) (recipe wire) (λ a. nthPiece (now (keys .entry)) (n * k) a) ⌝ }
+    ensures { λ _. ⌜ now (out .exit) ≡ keyHere n k size at (now (contributions .entry)) (now (keys .entry)) wire ⌝ }
 {
-    let gate = wire.gate;
+    let how = recipe_of(wire);
     let p = wire.modulus;
-    match gate {
-        Gate::Input(_) => gather(contributions, n, k, size, at, out),
-        Gate::Add(pair) => sum(p, pair, keys, out),
-        Gate::Scale(scaling) => multiple(p, scaling, keys, out),
-        Gate::Multiply(_) => gather(contributions, n, k, size, at, out),
-        Gate::Project(_) => gather(contributions, n, k, size, at, out),
-        Gate::Select(choice) => {
+    match how {
+        Recipe::Entered => gather(contributions, n, k, size, at, out),
+        Recipe::Sum(pair) => sum(p, pair, keys, out),
+        Recipe::Multiple(scaling) => multiple(p, scaling, keys, out),
+        Recipe::Table(_) => gather(contributions, n, k, size, at, out),
+        Recipe::Product(_) => gather(contributions, n, k, size, at, out),
+        Recipe::Choice(choice) => {
             gather(contributions, n, k, size, at, &mut *out);
             add_first(p, choice, keys, out);
         }
@@ -91,9 +91,9 @@ fn put_made(
     key: &mut [u8],
     keys: &mut [u8],
 )
-    requires { ⌜ KeysAsked n k size at (wire .modulus) (wire .gate) (now contributions) (now keys) ⌝ }
+    requires { ⌜ KeysAsked n k size at (wire .modulus) (recipe wire) (now contributions) (now keys) ⌝ }
     requires { ⌜ (length (now key) ≡ n * k) × (to + n * k ≤ length (now keys)) ⌝ }
-    ensures { λ _. ⌜ Put n k to (zeroKeyBy (ofWire (keysAt n k size (now (contributions .entry)) at) 0) 0 (wire .modulus) (wire .gate) (recipe wire) (λ a. nthPiece (now (keys .entry)) (n * k) a)) (now (keys .entry)) (now (keys .exit)) ⌝ }
+    ensures { λ _. ⌜ Put n k to (keyHere n k size at (now (contributions .entry)) (now (keys .entry)) wire) (now (keys .entry)) (now (keys .exit)) ⌝ }
 {
     put_zero_key(wire, at, n, k, size, contributions, &*keys, &mut *key);
     lists::put_at(keys, to, &*key);
@@ -109,9 +109,9 @@ fn put_wire(
     contributions: &[u8],
     keys: &mut [u8],
 )
-    requires { ⌜ KeysAsked n k size at (wire .modulus) (wire .gate) (now contributions) (now keys) ⌝ }
+    requires { ⌜ KeysAsked n k size at (wire .modulus) (recipe wire) (now contributions) (now keys) ⌝ }
     requires { ⌜ (n * k ≤ 1024) × (to + n * k ≤ length (now keys)) ⌝ }
-    ensures { λ _. ⌜ Put n k to (zeroKeyBy (ofWire (keysAt n k size (now (contributions .entry)) at) 0) 0 (wire .modulus) (wire .gate) (recipe wire) (λ a. nthPiece (now (keys .entry)) (n * k) a)) (now (keys .entry)) (now (keys .exit)) ⌝ }
+    ensures { λ _. ⌜ Put n k to (keyHere n k size at (now (contributions .entry)) (now (keys .entry)) wire) (now (keys .entry)) (now (keys .exit)) ⌝ }
 {
     let m = n * k;
     let mut key = scratch();

@@ -14,5 +14,5 @@ first-record-spec =
     (tie.spec
     (λ c κs. c .pre .0)
     (λ c κs. tt)
-    (λ c. omega (arith, times-most (c .before .before .args .k) (c .wide .result) 128 256 (c .before .before .pre .1) (omega (arith, c .wide .ensures, c .before .moduli-used .ensures .most))))
-    (λ c. ap (λ (m : ℕ). c .before .before .args .k * m) (c .wide .ensures ∙ c .before .moduli-used .ensures .is) ∙ sym (record-first (c .before .before .args .k) (wiresIn (c .before .before .args .circuit)))))
+    (λ c. omega (arith, times-most (c .before .before .args .k) (c .number-index .result) 128 256 (c .before .before .pre .1) (omega (arith, c .number-index .ensures, c .before .moduli-used .ensures .most))))
+    (λ c. ap (λ (m : ℕ). c .before .before .args .k * m) (c .number-index .ensures ∙ c .before .moduli-used .ensures .is) ∙ sym (record-first (c .before .before .args .k) (wiresIn (c .before .before .args .circuit)))))

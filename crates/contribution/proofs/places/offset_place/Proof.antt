@@ -13,5 +13,5 @@ offset-place-spec =
     (tie.spec
     (λ c. search needs)
     (λ c κs. tt)
-    (λ c. omega (arith, times-most (c .before .before .before .args .k) (c .wide-byte .result) 128 255 (c .before .before .before .pre .1) (c .wide-byte .ensures .1)))
-    (λ c. ap (λ (m : ℕ). c .before .before .before .args .k * m) (c .wide-byte .ensures .0)))
+    (λ c. omega (arith, times-most (c .before .before .before .args .k) (c .byte-index .result) 128 255 (c .before .before .before .pre .1) (c .byte-index .ensures .1)))
+    (λ c. ap (λ (m : ℕ). c .before .before .before .args .k * m) (c .byte-index .ensures .0)))

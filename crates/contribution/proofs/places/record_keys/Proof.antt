@@ -12,5 +12,5 @@ record-keys-spec =
     (tie.spec
     (λ c κs. tt)
     (λ c κs. tt)
-    (λ c. omega (arith, times-most (c .before .before .args .k) (c .wide .result) 128 3 (c .before .before .pre) (omega (arith, c .wide .ensures, c .before .record-count .ensures .most))))
-    (λ c. ap (λ (m : ℕ). c .before .before .args .k * m) (c .wide .ensures ∙ c .before .record-count .ensures .is)))
+    (λ c. omega (arith, times-most (c .before .before .args .k) (c .number-index .result) 128 3 (c .before .before .pre) (omega (arith, c .number-index .ensures, c .before .record-count .ensures .most))))
+    (λ c. ap (λ (m : ℕ). c .before .before .args .k * m) (c .number-index .ensures ∙ c .before .record-count .ensures .is)))

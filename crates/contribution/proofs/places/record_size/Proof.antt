@@ -14,5 +14,5 @@ record-size-spec =
     (λ c. search needs)
     (λ c κs. tt)
     (λ c κs. tt)
-    (λ c. omega (arith, times-most (c .before .before .args .k + 1) (c .wide .result) 129 3 (omega (arith, c .before .before .pre)) (omega (arith, c .wide .ensures, c .before .record-count .ensures .most))))
-    (λ c. ap (λ (m : ℕ). (c .before .before .args .k + 1) * m) (c .wide .ensures ∙ c .before .record-count .ensures .is)))
+    (λ c. omega (arith, times-most (c .before .before .args .k + 1) (c .number-index .result) 129 3 (omega (arith, c .before .before .pre)) (omega (arith, c .number-index .ensures, c .before .record-count .ensures .most))))
+    (λ c. ap (λ (m : ℕ). (c .before .before .args .k + 1) * m) (c .number-index .ensures ∙ c .before .record-count .ensures .is)))

@@ -20,7 +20,7 @@ owned-spec =
     (λ c. search needs)
     (λ c. search needs)
     (λ c. search needs)
-    (λ c. record { is = c .same .ensures .is ∙ ap (λ (o : ℕ). mark (eqb o (c .before .before .before .before .before .args .party))) (c .before .widened .ensures .0) ∙ ap (λ (g : Gate). mark (ownedBy (c .before .before .before .before .before .args .party) g)) (sym (c .before .before .before .gate .given .1)); most = c .same .ensures .most })
+    (λ c. record { is = c .same .ensures .is ∙ ap (λ (o : ℕ). mark (eqb o (c .before .before .before .before .before .args .party))) (c .before .byte-number .ensures .0) ∙ ap (λ (g : Gate). mark (ownedBy (c .before .before .before .before .before .args .party) g)) (sym (c .before .before .before .gate .given .1)); most = c .same .ensures .most })
     (λ c. search needs)
     (λ c. search needs)
     (λ c. search needs)

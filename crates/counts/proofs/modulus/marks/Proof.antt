@@ -28,5 +28,5 @@ marks-spec =
     (λ c. omega arith)
     (λ c. omega arith)
     (λ c. omega arith)
-    (λ c. (omega arith, marks-step (c .before .before .before .before .before .args .t1) (c .before .before .before .before .before .pre) (c .before .before .before .loop .inv .1) (c .before .before .loop-test .taken) (c .place .ensures .0) (c .place .ensures .1)))
+    (λ c. (omega arith, marks-step (c .before .before .before .before .before .args .t1) (c .before .before .before .before .before .pre) (c .before .before .before .loop .inv .1) (c .before .before .loop-test .taken) (c .byte-index .ensures .0) (c .byte-index .ensures .1)))
     (λ c. marks-done (c .before .before .before .args .t1) (c .before .before .before .pre) (c .before .loop .inv .1) (c .before .loop .inv .0) (c .loop-test .left)))

@@ -30,5 +30,5 @@ marks-set-spec =
     (λ c. omega arith)
     (λ c. omega arith)
     (λ c. omega arith)
-    (λ c. summed-step (c .before .before .before .loop .inv) (c .before .before .loop-test .taken) (c .same .ensures) (ap (λ (x : ℕ). mark (eqb x 1)) (c .before .widened .ensures .0)))
+    (λ c. summed-step (c .before .before .before .loop .inv) (c .before .before .loop-test .taken) (c .same .ensures) (ap (λ (x : ℕ). mark (eqb x 1)) (c .before .byte-number .ensures .0)))
     (λ c. all-summed (c .before .loop .inv) (c .loop-test .left)))

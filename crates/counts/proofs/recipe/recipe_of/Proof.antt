@@ -1,7 +1,7 @@
--- `counts::recipe_of` meets its contract: arms that bind nothing are found; the others have the gate that their pattern bound. Assumes nothing.
-use mathlib.Core.Path.{sym, ap}
+-- `counts::recipe_of` meets its contract: each arm has the gate that its pattern bound. Assumes nothing.
+use mathlib.Core.Path.{sym}
 use borrow.Author.Needs.{needs}
-use Rattle.counts.specs.Recipe.{gateRecipe}
+use Rattle.counts.proofs.Recipes.{by-gate}
 use Rattle.counts.proofs.recipe.recipe_of.Statement.{statement}
 use Rattle.counts.proofs.recipe.recipe_of.Tie as tie
 
@@ -15,9 +15,9 @@ recipe-of-spec =
     (λ c. search needs)
     (λ c. search needs)
     (λ c. search needs)
-    (λ c. search needs)
-    (λ c. search needs)
-    (λ c. search needs)
-    (λ c. sym (ap gateRecipe (c .before .gate .given .1)))
-    (λ c. sym (ap gateRecipe (c .before .gate2 .given .1)))
-    (λ c. sym (ap gateRecipe (c .before .gate3 .given .1))))
+    (λ c. sym (by-gate (c .before .before .args .wire) (c .enum-told .given .1)))
+    (λ c. sym (by-gate (c .before .before .before .args .wire) (c .before .gate .given .1)))
+    (λ c. sym (by-gate (c .before .before .before .args .wire) (c .before .gate2 .given .1)))
+    (λ c. sym (by-gate (c .before .before .before .args .wire) (c .before .gate3 .given .1)))
+    (λ c. sym (by-gate (c .before .before .before .args .wire) (c .before .gate4 .given .1)))
+    (λ c. sym (by-gate (c .before .before .before .args .wire) (c .before .gate5 .given .1))))

@@ -10,7 +10,8 @@ lupiknam-inputs-of-spec =
     (tie.spec
     (λ c κs. search needs)
     (λ c. search needs)
+    (λ c κs. search needs)
     (λ c. search needs)
     (λ c κs. search needs)
-    (λ c. inputs-accepted (c .before .before .inputs-of .ensures) (c .enum-told .given .1) (c .before .before .before .before .args .count .now))
-    (λ c. inputs-refused (c .before .before .before .before .inputs-of .ensures) (c .before .before .answer .given .1) (c .number .ensures) (c .before .before .before .before .before .before .args .count .now)))
+    (λ c. inputs-accepted (c .before .before .before .inputs-of .ensures) (c .before .before .before .before .before .args .count .now) (c .before .enum-told .given .1) (c .told .ensures))
+    (λ c. inputs-refused (c .before .before .before .before .inputs-of .ensures) (c .before .before .before .before .before .before .args .count .now) (c .before .before .answer .given .1) (c .told2 .ensures)))

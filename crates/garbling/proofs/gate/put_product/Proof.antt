@@ -1,64 +1,83 @@
--- `garbling::put_product` meets its contract: operands, offsets and record are looked up, and the rows are made of them. Assumes nothing.
-use mathlib.Core.Path.{sym, ap, _∙_}
-use Prim.Native.Nat.{ℕ, _*_}
+use mathlib.Core.Path.{sym, ap, subst, _∙_}
+use Prim.Native.Nat.{ℕ, _<_}
 use native.Mathlib.Omega.{arith}
-use borrow.Author.Needs.{needs}
-use lib.ListN.{getD}
-use Rattle.lists.specs.Blocks.{nthPiece}
-use Rattle.garbling.specs.Source.{productHere}
 use Rattle.contribution.proofs.Sizes.{vector-fits}
-use Rattle.garbling.proofs.Fronts.{front-long, front-vector}
-use Rattle.garbling.proofs.Alike.{product-same, operand-at}
+use Rattle.garbling.proofs.Fronts.{front-long, front-vector, paired}
+use Rattle.garbling.proofs.Called.{product-asked, product-is}
+use borrow.Author.Needs.{needs}
 use Rattle.garbling.proofs.gate.put_product.Statement.{statement}
 use Rattle.garbling.proofs.gate.put_product.Tie as tie
+use Rattle.garbling.proofs.gate.put_product.Reads as reads
+use Rattle.garbling.proofs.gate.put_product.Lts as lts
+use Rattle.garbling.proofs.gate.made_of.Reads as made-of-reads
+use Rattle.garbling.proofs.own.drawn.Reads as drawn-reads
+use Rattle.garbling.proofs.own.lower.Reads as lower-reads
+use Rattle.garbling.proofs.own.offsets.Reads as offsets-reads
+use Rattle.rows.proofs.product_rows.Reads as product-rows-reads
+
+-- src/gate.rt:80:17
+mul-bytes : tie.Need-mul-bytes
+mul-bytes c = search needs
+
+-- src/gate.rt:81:18
+offsets-requires : tie.Need-offsets-requires
+offsets-requires c κs = search needs
+
+-- src/gate.rt:82:9
+lower-requires : tie.Need-lower-requires
+lower-requires c κs = (omega (arith, vector-fits (c .before .before .before .before .before .before .before .pre .0 .0 .own .gathers .sizes)), c .before .before .before .before .before .before .before .pre .0 .1 .a .there)
+
+-- src/gate.rt:83:9
+lower-requires-2 : tie.Need-lower-requires-2
+lower-requires-2 c κs = (omega (arith, vector-fits (c .before .before .before .before .before .before .before .before .pre .0 .0 .own .gathers .sizes)), c .before .before .before .before .before .before .before .before .pre .0 .1 .b .there)
+
+-- src/gate.rt:84:9
+drawn-requires : tie.Need-drawn-requires
+drawn-requires c κs = (c .before .before .before .before .before .before .before .before .before .pre .0 .0 .own, omega (arith, c .before .before .before .before .before .before .before .before .before .pre .0 .0 .count))
+
+-- src/gate.rt:85:9
+drawn-requires-2 : tie.Need-drawn-requires-2
+drawn-requires-2 c κs = (c .before .before .before .before .before .before .before .before .before .before .pre .0 .0 .own, omega (arith, c .before .before .before .before .before .before .before .before .before .before .pre .0 .0 .count))
+
+-- src/gate.rt:86:18
+made-of-requires : tie.Need-made-of-requires
+made-of-requires c κs = search needs
+
+-- src/gate.rt:86:33
+array-share-prefix-offset : tie.Need-array-share-prefix-offset
+array-share-prefix-offset c = omega (arith, vector-fits (c .before .before .before .before .before .before .before .before .before .before .before .before .pre .0 .0 .own .gathers .sizes), c .before .before .before .before .before .offsets .ensures .kept)
+
+-- src/gate.rt:86:33
+slice-aggregate-product-rows : tie.Need-slice-aggregate-product-rows
+slice-aggregate-product-rows c = sym (front-long (c .before .before .before .before .before .before .before .before .before .before .before .before .before .pre .0 .0 .own .gathers .sizes) (c .before .before .before .before .before .before .offsets .ensures))
+
+-- src/gate.rt:86:5
+product-rows-requires : tie.Need-product-rows-requires
+product-rows-requires c κs =
+    let s = c .before .before .before .before .before .before .before .before .before .before .before .before .before .before .pre .0 .0 .own .gathers .sizes in
+    product-asked (c .before .before .before .before .before .before .before .before .before .before .before .before .before .before .args .turn) (c .before .before .made-of .ensures) s (c .before .before .before .before .before .before .before .before .before .before .before .before .before .before .pre .0 .0 .own .modulus) (c .before .before .before .before .before .before .before .before .before .before .before .before .before .before .pre .1) (front-vector s (c .before .before .before .before .before .before .before .offsets .ensures)) (paired (c .before .before .before .before .before .before .before .before .before .before .before .before .before .before .pre .0 .1 .a) (c .before .before .before .before .before .before .lower .ensures)) (paired (c .before .before .before .before .before .before .before .before .before .before .before .before .before .before .pre .0 .1 .b) (c .before .before .before .before .before .lower2 .ensures)) (c .before .before .before .before .drawn .ensures .whole) (c .before .before .before .drawn2 .ensures .whole)
+
+-- src/gate.rt:67:1
+same-length : tie.Need-same-length
+same-length c = search needs
+
+-- src/gate.rt:67:1
+returns : tie.Need-returns
+returns c = product-is (c .before .before .before .before .before .before .before .before .before .before .before .before .before .before .before .before .before .args .turn) (c .before .before .before .before .before .made-of .ensures) (c .before .before .before .before .before .before .before .before .before .lower .result) (c .before .before .before .before .before .before .before .before .lower2 .result) (c .before .before .before .before .before .before .before .drawn .result) (c .before .before .before .before .before .before .drawn2 .result) (c .before .before .product-rows .ensures) (c .before .before .before .before .before .before .before .before .before .before .offsets .ensures .front) (c .before .before .before .before .before .before .before .before .before .lower .ensures .is) (c .before .before .before .before .before .before .before .before .lower2 .ensures .is) (c .before .before .before .before .before .before .before .drawn .ensures .is) (c .before .before .before .before .before .before .drawn2 .ensures .is)
 
 pub put-product-spec : {M : Type 1} → statement M
-unfolding productHere
 put-product-spec =
     tie.close
     (tie.spec
-    (λ c. omega (arith, vector-fits (c .before .before .before .before .before .pre .0 .sizes)))
-    (λ c κs. tt)
-    (λ c κs. tt)
-    (λ c κs. operand-at (c .before .index .ensures) (c .before .before .before .before .before .before .before .pre .1 .0 .a) .key)
-    (λ c κs. operand-at (c .before .index2 .ensures) (c .before .before .before .before .before .before .before .before .pre .1 .0 .b) .key)
-    (λ c κs.
-    let start = c .before .before .before .before .before .before .before .before .before in
-    (start .pre .0 .sizes, (start .pre .0 .all, start .pre .0 .offsets)))
-    (λ c κs.
-    let start = c .before .before .before .before .before .before .before .before .before .before in
-    ((start .pre .0 .sizes, (start .pre .0 .all, start .pre .0 .fits)), (omega arith, omega arith)))
-    (λ c κs.
-    let start = c .before .before .before .before .before .before .before .before .before .before .before in
-    ((start .pre .0 .sizes, (start .pre .0 .all, start .pre .0 .fits)), (omega arith, omega arith)))
-    (λ c κs.
-    let start = c .before .before .before .before .before .before .before .before .before .before .before .before in
-    ((start .pre .0 .sizes, (start .pre .0 .all, start .pre .0 .fits)), (omega arith, (omega arith, omega (arith, start .pre .0 .modulus)))))
-    (λ c κs.
-    let start = c .before .before .before .before .before .before .before .before .before .before .before .before .before in
-    ((start .pre .0 .sizes, (start .pre .0 .all, start .pre .0 .fits)), (omega arith, (omega arith, omega (arith, start .pre .0 .modulus)))))
-    (λ c. omega (arith, vector-fits (c .before .before .before .before .before .before .before .before .before .before .before .before .before .before .pre .0 .sizes), c .before .before .before .before .offsets .ensures .kept))
-    (λ c. sym (front-long (c .before .before .before .before .before .before .before .before .before .before .before .before .before .before .before .pre .0 .sizes) (c .before .before .before .before .before .offsets .ensures)))
-    (λ c. operand-at (c .before .before .before .before .before .before .before .before .before .before .index .ensures) (c .before .before .before .before .before .before .before .before .before .before .before .before .before .before .before .before .pre .1 .0 .a) .held)
-    (λ c. operand-at (c .before .before .before .before .before .before .before .before .before .before .index2 .ensures) (c .before .before .before .before .before .before .before .before .before .before .before .before .before .before .before .before .before .pre .1 .0 .b) .held)
-    (λ c. omega (arith, vector-fits (c .before .before .before .before .before .before .before .before .before .before .before .before .before .before .before .before .before .pre .0 .sizes), c .before .before .before .before .before .before .record-key .ensures .kept))
-    (λ c. sym (front-long (c .before .before .before .before .before .before .before .before .before .before .before .before .before .before .before .before .before .before .pre .0 .sizes) (c .before .before .before .before .before .before .before .record-key .ensures)))
-    (λ c. omega (arith, vector-fits (c .before .before .before .before .before .before .before .before .before .before .before .before .before .before .before .before .before .before .pre .0 .sizes), c .before .before .before .before .before .before .record-key2 .ensures .kept))
-    (λ c. sym (front-long (c .before .before .before .before .before .before .before .before .before .before .before .before .before .before .before .before .before .before .before .pre .0 .sizes) (c .before .before .before .before .before .before .before .record-key2 .ensures)))
-    (λ c κs.
-    let start = c .before .before .before .before .before .before .before .before .before .before .before .before .before .before .before .before .before .before .before .before in
-    let s = start .pre .0 .sizes in (
-      record { sizes = s; modulus = start .pre .0 .modulus; size = start .pre .1 .1 },
-      (
-        (front-vector s (c .before .before .before .before .before .before .before .before .before .before .offsets .ensures), (record { size = c .before .before .before .before .before .before .before .before .before .before .before .before .nth-piece .ensures .1 }, (record { size = c .before .before .before .before .before .before .before .before .before .before .before .nth-piece2 .ensures .1 }, (front-vector s (c .before .before .before .before .before .before .before .before .before .record-key .ensures), front-vector s (c .before .before .before .before .before .before .before .before .record-key2 .ensures))))),
-        (operand-at (c .before .before .before .before .before .before .before .before .before .before .before .before .before .before .index .ensures) (start .pre .1 .0 .a) .below, (operand-at (c .before .before .before .before .before .before .before .before .before .before .before .before .before .index2 .ensures) (start .pre .1 .0 .b) .below, (c .before .before .before .before .before .before .before .record-mask .ensures .1, c .before .before .before .before .before .before .record-mask2 .ensures .1))),
-      ),
-    ))
-    (λ c. search needs)
-    (λ c.
-    let a = c .before .before .before .before .before .before .before .before .before .before .before .before .before .before .before .before .before .before .before .before .before .before .before .args in
-    c .before .before .product-rows .ensures
-    ∙ product-same (a .n) (a .k) (a .w) (a .p) (c .before .before .before .before .before .before .before .before .before .before .before .before .before .offsets .ensures .front)
-    (c .before .before .before .before .before .before .before .before .before .before .before .before .before .before .before .nth-piece .ensures .0 ∙ ap (λ (i : ℕ). nthPiece (a .keys .now) (a .n * a .k) i) (c .before .before .before .before .before .before .before .before .before .before .before .before .before .before .before .before .before .index .ensures)) (ap (λ (i : ℕ). getD (a .masks .now) i 0) (c .before .before .before .before .before .before .before .before .before .before .before .before .before .before .before .before .before .index .ensures))
-    (c .before .before .before .before .before .before .before .before .before .before .before .before .before .before .nth-piece2 .ensures .0 ∙ ap (λ (i : ℕ). nthPiece (a .keys .now) (a .n * a .k) i) (c .before .before .before .before .before .before .before .before .before .before .before .before .before .before .before .before .index2 .ensures)) (ap (λ (i : ℕ). getD (a .masks .now) i 0) (c .before .before .before .before .before .before .before .before .before .before .before .before .before .before .before .before .index2 .ensures))
-    (c .before .before .before .before .before .before .before .before .before .before .before .before .record-key .ensures .front) (c .before .before .before .before .before .before .before .before .before .before .before .record-key2 .ensures .front) (c .before .before .before .before .before .before .before .before .before .before .record-mask .ensures .0) (c .before .before .before .before .before .before .before .before .before .record-mask2 .ensures .0)))
+    mul-bytes
+    offsets-requires
+    lower-requires
+    lower-requires-2
+    drawn-requires
+    drawn-requires-2
+    made-of-requires
+    array-share-prefix-offset
+    slice-aggregate-product-rows
+    product-rows-requires
+    same-length
+    returns)

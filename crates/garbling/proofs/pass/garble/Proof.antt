@@ -1,18 +1,47 @@
--- `garbling::garble` meets its contract: what `garble_in` does, with memory of its own. Assumes nothing.
 use borrow.Author.Needs.{needs}
 use Rattle.garbling.proofs.pass.garble.Statement.{statement}
 use Rattle.garbling.proofs.pass.garble.Tie as tie
+use Rattle.garbling.proofs.pass.garble.Reads as reads
+use Rattle.garbling.proofs.pass.garble.Lts as lts
+use Rattle.garbling.proofs.pass.garble_in.Reads as garble-in-reads
+use Rattle.garbling.proofs.pass.zeros.Reads as zeros-reads
+
+-- src/pass.rt:184:20
+zeros-requires : tie.Need-zeros-requires
+zeros-requires c κs = search needs
+
+-- src/pass.rt:191:9
+slice-aggregate-garble-in : tie.Need-slice-aggregate-garble-in
+slice-aggregate-garble-in c = search needs
+
+-- src/pass.rt:185:5
+garble-in-requires : tie.Need-garble-in-requires
+garble-in-requires c κs = (c .before .before .before .before .before .before .before .before .before .before .pre .0, (search needs, c .before .before .before .before .before .before .before .before .before .before .pre .1))
+
+-- src/pass.rt:167:1
+same-length : tie.Need-same-length
+same-length c = search needs
+
+-- src/pass.rt:167:1
+same-length-2 : tie.Need-same-length-2
+same-length-2 c = search needs
+
+-- src/pass.rt:167:1
+same-length-3 : tie.Need-same-length-3
+same-length-3 c = search needs
+
+-- src/pass.rt:167:1
+returns : tie.Need-returns
+returns c = search needs
 
 pub garble-spec : {M : Type 1} → statement M
 garble-spec =
     tie.close
     (tie.spec
-    (λ c κs. search needs)
-    (λ c. search needs)
-    (λ c κs.
-    let start = c .before .before .before .before .before .before .before .before .before .before in
-    (start .pre .0, (search needs, start .pre .1)))
-    (λ c. search needs)
-    (λ c. search needs)
-    (λ c. search needs)
-    (λ c. search needs))
+    zeros-requires
+    slice-aggregate-garble-in
+    garble-in-requires
+    same-length
+    same-length-2
+    same-length-3
+    returns)

@@ -1,36 +1,72 @@
--- `garbling::garble_from` meets its contract: rows and masks, each from what its call ensures. Assumes nothing.
 use mathlib.Core.Path.{sym, _∙_}
-use borrow.Author.Needs.{needs}
 use Rattle.zero.proofs.Made.{masks-kept}
 use Rattle.garbling.proofs.Garbled.{inputs-fit, inputs-are, gives-masks, outputs-are}
+use borrow.Author.Needs.{needs}
 use Rattle.garbling.proofs.pass.garble_from.Statement.{statement}
 use Rattle.garbling.proofs.pass.garble_from.Tie as tie
+use Rattle.garbling.proofs.pass.garble_from.Reads as reads
+use Rattle.garbling.proofs.pass.garble_from.Lts as lts
+use Rattle.garbling.proofs.handed.put_input_masks.Reads as put-input-masks-reads
+use Rattle.garbling.proofs.handed.put_output_masks.Reads as put-output-masks-reads
+use Rattle.garbling.proofs.pass.put_rows.Reads as put-rows-reads
+use Rattle.zero.proofs.wire_masks.Reads as wire-masks-reads
+
+-- src/pass.rt:110:17
+wire-masks-requires : tie.Need-wire-masks-requires
+wire-masks-requires c κs = search needs
+
+-- src/pass.rt:119:9
+slice-aggregate-put-rows : tie.Need-slice-aggregate-put-rows
+slice-aggregate-put-rows c = search needs
+
+-- src/pass.rt:111:5
+put-rows-requires : tie.Need-put-rows-requires
+put-rows-requires c κs = search needs
+
+-- src/pass.rt:122:21
+slice-aggregate-put-input-masks : tie.Need-slice-aggregate-put-input-masks
+slice-aggregate-put-input-masks c = search needs
+
+-- src/pass.rt:122:5
+put-input-masks-requires : tie.Need-put-input-masks-requires
+put-input-masks-requires c κs = inputs-fit (c .before .before .before .before .before .before .before .before .before .before .before .before .before .before .pre .0) (c .before .before .before .before .before .before .before .wire-masks .ensures) (c .before .before .before .before .before .before .before .before .before .before .before .before .before .before .pre .1 .1 .1 .0)
+
+-- src/pass.rt:123:31
+slice-aggregate-put-output-masks : tie.Need-slice-aggregate-put-output-masks
+slice-aggregate-put-output-masks c = search needs
+
+-- src/pass.rt:123:5
+put-output-masks-requires : tie.Need-put-output-masks-requires
+put-output-masks-requires c κs = gives-masks (c .before .before .before .before .before .before .before .before .before .before .before .before .before .before .before .before .before .before .before .pre .0) (c .before .before .before .before .before .before .before .before .before .before .before .before .wire-masks .ensures) (c .before .before .before .before .before .before .before .before .before .before .before .before .before .before .before .before .before .before .before .pre .1 .1 .1 .1)
+
+-- src/pass.rt:91:1
+same-length : tie.Need-same-length
+same-length c = search needs
+
+-- src/pass.rt:91:1
+same-length-2 : tie.Need-same-length-2
+same-length-2 c = search needs
+
+-- src/pass.rt:91:1
+same-length-3 : tie.Need-same-length-3
+same-length-3 c = search needs
+
+-- src/pass.rt:91:1
+returns : tie.Need-returns
+returns c = (c .before .before .before .before .before .before .before .before .before .before .before .before .put-rows .ensures, (c .before .before .before .before .before .before .before .put-input-masks .ensures ∙ inputs-are (c .before .before .before .before .before .before .before .before .before .before .before .before .before .before .before .before .before .before .before .before .before .before .pre .0) (c .before .before .before .before .before .before .before .before .before .before .before .before .before .before .before .wire-masks .ensures) (c .before .before .before .before .before .before .before .before .before .before .before .before .before .before .before .before .before .before .before .before .before .before .pre .1 .1 .1 .0), c .before .before .put-output-masks .ensures ∙ outputs-are (c .before .before .before .before .before .before .before .before .before .before .before .before .before .before .before .before .before .before .before .before .before .before .pre .0) (c .before .before .before .before .before .before .before .before .before .before .before .before .before .before .before .wire-masks .ensures)))
 
 pub garble-from-spec : {M : Type 1} → statement M
 garble-from-spec =
     tie.close
     (tie.spec
-    (λ c κs. c .before .before .before .before .before .before .pre .0)
-    (λ c. sym (masks-kept (c .before .before .before .before .before .before .before .before .pre .0) (c .before .wire-masks .ensures)))
-    (λ c κs.
-    let start = c .before .before .before .before .before .before .before .before .before in
-    (start .pre .0, ((start .pre .1 .0, c .before .before .wire-masks .ensures), start .pre .1 .1 .0)))
-    (λ c. sym (masks-kept (c .before .before .before .before .before .before .before .before .before .before .before .before .before .pre .0) (c .before .before .before .before .before .before .wire-masks .ensures)))
-    (λ c κs.
-    let start = c .before .before .before .before .before .before .before .before .before .before .before .before .before .before in
-    inputs-fit (start .pre .0) (c .before .before .before .before .before .before .before .wire-masks .ensures) (start .pre .1 .1 .1 .0))
-    (λ c. sym (masks-kept (c .before .before .before .before .before .before .before .before .before .before .before .before .before .before .before .before .before .before .pre .0) (c .before .before .before .before .before .before .before .before .before .before .before .wire-masks .ensures)))
-    (λ c κs.
-    let start = c .before .before .before .before .before .before .before .before .before .before .before .before .before .before .before .before .before .before .before in
-    gives-masks (start .pre .0) (c .before .before .before .before .before .before .before .before .before .before .before .before .wire-masks .ensures) (start .pre .1 .1 .1 .1))
-    (λ c. search needs)
-    (λ c. search needs)
-    (λ c. search needs)
-    (λ c.
-    let start = c .before .before .before .before .before .before .before .before .before .before .before .before .before .before .before .before .before .before .before .before .before .before in (
-      c .before .before .before .before .before .before .before .before .before .before .before .before .put-rows .ensures,
-      (
-        c .before .before .before .before .before .before .before .put-input-masks .ensures ∙ inputs-are (start .pre .0) (c .before .before .before .before .before .before .before .before .before .before .before .before .before .before .before .wire-masks .ensures) (start .pre .1 .1 .1 .0),
-        c .before .before .put-output-masks .ensures ∙ outputs-are (start .pre .0) (c .before .before .before .before .before .before .before .before .before .before .before .before .before .before .before .wire-masks .ensures),
-      ),
-    )))
+    wire-masks-requires
+    slice-aggregate-put-rows
+    put-rows-requires
+    slice-aggregate-put-input-masks
+    put-input-masks-requires
+    slice-aggregate-put-output-masks
+    put-output-masks-requires
+    same-length
+    same-length-2
+    same-length-3
+    returns)

@@ -1,5 +1,4 @@
 -- `opening::multiple` meets its contract: a copy, then a multiple. Assumes nothing.
-use Prim.Native.Nat.{_*_}
 use Rattle.opening.proofs.Turns.{made-multiple}
 use borrow.Author.Needs.{needs}
 use Rattle.opening.proofs.free.multiple.Statement.{statement}
@@ -19,4 +18,4 @@ multiple-spec =
     (λ c. search needs)
     (λ c.
     let start = c .before .before .before .before .before .before .before .before .before .before .before .before .before .before .before .before in
-    made-multiple (start .args .turn .modulus) (start .args .turn .n * start .args .turn .k) (start .args .gate .constant) (start .args .wkeys .now) (start .args .wexternals .now) (start .args .gate .a) (start .pre .0 .0 .modulus) (c .before .before .before .before .before .before .before .before .before .nth-piece .ensures .0) (c .before .before .before .before .before .before .before .before .copy .ensures) (c .before .before .before .before .scale .ensures) (c .mul .ensures)))
+    made-multiple (start .args .turn) (start .args .wkeys .now) (start .args .wexternals .now) (start .args .g) (start .pre .0 .0 .modulus) (c .before .before .before .before .before .before .before .before .before .nth-piece .ensures .0) (c .before .before .before .before .before .before .before .before .copy .ensures) (c .before .before .before .before .scale .ensures) (c .mul .ensures)))

@@ -1,5 +1,4 @@
 -- `opening::sum` meets its contract: once the second vector is that vector. Assumes nothing.
-use Prim.Native.Nat.{_*_}
 use Rattle.opening.proofs.Turns.{made-sum}
 use borrow.Author.Needs.{needs}
 use Rattle.opening.proofs.free.sum.Statement.{statement}
@@ -21,4 +20,4 @@ sum-spec =
     (λ c. search needs)
     (λ c.
     let start = c .before .before .before .before .before .before .before .before .before .before .before .before .before .before .before in
-    made-sum (start .args .turn .modulus) (start .args .turn .n * start .args .turn .k) (start .args .wkeys .now) (start .args .wexternals .now) (start .args .gate .a) (start .args .gate .b) (start .pre .0 .0 .modulus) (c .before .before .before .before .before .before .before .before .nth-piece .ensures .0) (c .before .before .before .before .before .before .before .nth-piece2 .ensures .0) (c .before .before .before .before .before .key-of .ensures) (c .add .ensures)))
+    made-sum (start .args .turn) (start .args .wkeys .now) (start .args .wexternals .now) (start .args .g) (start .pre .0 .0 .modulus) (c .before .before .before .before .before .before .before .before .nth-piece .ensures .0) (c .before .before .before .before .before .before .before .nth-piece2 .ensures .0) (c .before .before .before .before .before .key-of .ensures) (c .add .ensures)))

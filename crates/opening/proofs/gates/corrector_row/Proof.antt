@@ -10,16 +10,14 @@ corrector-row-spec =
     tie.close
     (tie.spec
     (λ c κs. search needs)
-    (λ c. omega (arith, small {j = c .index .result} (omega (arith, c .index .ensures)) (c .before .before .pre .1 .1 .1)))
+    (λ c. omega (arith, small {j = c .byte-index .result} (omega (arith, c .byte-index .ensures .0)) (c .before .before .pre .1 .1)))
     (λ c. search needs)
-    (λ c κs. first-inside _ _ (c .before .before .pre .0) (c .index .ensures))
+    (λ c κs. first-inside _ _ (c .before .before .pre .0) (c .byte-index .ensures .0))
     (λ c. search needs)
-    (λ c κs. second-inside _ _ (c .before .before .before .pre .0) (c .before .index .ensures))
+    (λ c κs. second-inside _ _ (c .before .before .before .pre .0) (c .before .byte-index .ensures .0))
     (λ c κs. search needs)
-    (λ c. omega (arith, small {j = c .index2 .result} (omega (arith, c .index2 .ensures)) (c .before .before .before .before .before .pre .1 .1 .1)))
+    (λ c. omega (arith, small {j = c .byte-index2 .result} (omega (arith, c .byte-index2 .ensures .0)) (c .before .before .before .before .before .pre .1 .1)))
     (λ c κs.
     let start = c .before .before .before .before .before in
-    (within _ _ _ (start .pre .1 .1 .0) (c .index2 .ensures) (c .before .before .before .index .ensures) (c .before .before .piece .ensures .1), within _ _ _ (start .pre .1 .1 .0) (c .index2 .ensures) (c .before .before .before .index .ensures) (c .before .piece2 .ensures .1)))
-    (λ c.
-    let start = c .before .before .before .before .before .before in
-    (corrector-at _ _ _ _ _ (start .pre .1 .0) (start .pre .1 .1 .0) (c .before .index2 .ensures) (c .before .before .before .before .index .ensures) (c .before .before .before .piece .ensures .0) (c .before .before .piece2 .ensures .0) (c .chosen-corrector .ensures .0), c .chosen-corrector .ensures .1)))
+    (within _ _ _ (start .pre .1 .0) (c .byte-index2 .ensures .0) (c .before .before .before .byte-index .ensures .0) (c .before .before .piece .ensures .1), within _ _ _ (start .pre .1 .0) (c .byte-index2 .ensures .0) (c .before .before .before .byte-index .ensures .0) (c .before .piece2 .ensures .1)))
+    (λ c. (corrector-at _ _ _ _ _ (c .before .before .before .before .before .before .pre .1 .0) (c .before .byte-index2 .ensures .0) (c .before .before .before .before .byte-index .ensures .0) (c .before .before .before .piece .ensures .0) (c .before .before .piece2 .ensures .0) (c .chosen-corrector .ensures .0), c .chosen-corrector .ensures .1)))

@@ -14,8 +14,8 @@ open-wires-spec =
     (λ c. search needs)
     (λ c. search needs)
     (λ c.
-    let start = c .before .before .before .before .before .before .before .before .before .before .before .before .before .before .before .before .before .before .before .before .before .before .before in
+    let start = c .before .before .before .before .before .before .before .before .before .before .before .before .before .before .before .before .before .before .before .before .before .before in
     opens-short (start .pre .0) (c .before .before .before .before .before .before .before .before .before .before .before .before .before .pass .ensures) (c .before .before .before .before .before .before .before .before .if1 .taken) (start .pre .1 .0) (start .pre .1 .1) (c .before .before .before .before .before .before .fill .ensures) (c .before .before .fill2 .ensures))
     (λ c. search needs)
     (λ c. search needs)
-    (λ c. opens-all (c .before .before .before .before .before .before .before .before .before .before .before .before .before .before .before .pre .0) (c .before .before .before .before .before .pass .ensures) (c .if1 .left)))
+    (λ c. opens-all (c .before .before .before .before .before .before .before .before .before .before .before .before .before .before .pre .0) (c .before .before .before .before .before .pass .ensures) (c .if1 .left)))

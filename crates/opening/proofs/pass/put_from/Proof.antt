@@ -15,18 +15,18 @@ put-from-spec =
     (tie.spec
     (λ c κs. search needs)
     (λ c κs. search needs)
-    (λ c. omega (arith, vector-fits (c .before .before .before .before .before .before .before .before .before .before .before .before .before .before .before .before .before .pre .0 .0 .sizes)))
+    (λ c. omega (arith, vector-fits (c .before .before .before .before .before .before .before .before .before .before .before .before .before .before .before .before .pre .0 .0 .sizes)))
     (λ c.
-    let start = c .before .before .before .before .before .before .before .before .before .before .before .before .before .before .before .before .before in
-    let h : c .before .before .wide .result * (start .args .turn .n * start .args .turn .k) ≤ length (start .args .wkeys .now) = place-fits (start .args .turn .n * start .args .turn .k) (c .before .before .wide .ensures) (start .pre .0 .1 .1 .0) in
+    let start = c .before .before .before .before .before .before .before .before .before .before .before .before .before .before .before .before in
+    let h : c .before .before .number-index .result * (start .args .turn .n * start .args .turn .k) ≤ length (start .args .wkeys .now) = place-fits (start .args .turn .n * start .args .turn .k) (c .before .before .number-index .ensures) (start .pre .0 .1 .1 .keys) in
     omega (arith, h, start .good))
     (λ c κs.
-    let start = c .before .before .before .before .before .before .before .before .before .before .before .before .before .before .before .before .before .before in
-    put-room (c .before .before .before .wide .ensures) (start .pre .0 .1 .1 .0) (c .before .before .before .before .before .before .open-wire .kept .1 .1 .1 .1 .1 .1 .1 .1 .1 .0 ∙ start .pre .0 .1 .0 .size))
-    (λ c. omega (arith, c .before .before .before .before .before .before .wide .ensures, c .before .before .before .before .before .before .before .before .before .before .before .before .before .before .before .before .before .before .before .before .before .pre .0 .1 .1 .1))
+    let start = c .before .before .before .before .before .before .before .before .before .before .before .before .before .before .before .before .before in
+    put-room (c .before .before .before .number-index .ensures) (start .pre .0 .1 .1 .keys) (c .before .before .before .before .before .before .open-wire .kept .1 .1 .1 .1 .1 .1 .1 .1 .0 ∙ start .pre .0 .1 .0 .size))
+    (λ c. omega (arith, c .before .before .before .before .before .before .number-index .ensures, c .before .before .before .before .before .before .before .before .before .before .before .before .before .before .before .before .before .before .before .before .pre .0 .1 .1 .external))
     (λ c. search needs)
     (λ c. search needs)
     (λ c. search needs)
     (λ c.
-    let start = c .before .before .before .before .before .before .before .before .before .before .before .before .before .before .before .before .before .before .before .before .before in
-    put-is (start .args .turn) (c .before .before .before .before .before .before .wide .ensures) (c .before .before .before .before .before .before .before .before .before .open-wire .kept .1 .1 .1 .1 .1 .1 .1 .1 .1 .0 ∙ start .pre .0 .1 .0 .size) (c .before .before .before .before .before .before .before .before .before .open-wire .ensures) (c .before .before .put-at .ensures)))
+    let start = c .before .before .before .before .before .before .before .before .before .before .before .before .before .before .before .before .before .before .before .before in
+    put-is (start .args .turn) (c .before .before .before .before .before .before .number-index .ensures) (c .before .before .before .before .before .before .before .before .before .open-wire .kept .1 .1 .1 .1 .1 .1 .1 .1 .0 ∙ start .pre .0 .1 .0 .size) (c .before .before .before .before .before .before .before .before .before .open-wire .ensures) (c .before .before .put-at .ensures)))

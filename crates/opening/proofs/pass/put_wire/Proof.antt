@@ -12,11 +12,11 @@ put-wire-spec =
     (tie.spec
     (λ c. search needs)
     (λ c κs. search needs)
-    (λ c. omega (arith, c .scratch .ensures, vector-fits (c .before .before .before .before .before .before .before .before .before .pre .0 .0 .sizes)))
-    (λ c. sym (scratch-cut (c .before .scratch .result) (c .before .before .before .before .before .before .before .before .before .before .pre .0 .0 .sizes) (c .before .scratch .ensures)))
+    (λ c. omega (arith, c .scratch .ensures, vector-fits (c .before .before .before .before .before .before .before .before .pre .0 .0 .sizes)))
+    (λ c. sym (scratch-cut (c .before .scratch .result) (c .before .before .before .before .before .before .before .before .before .pre .0 .0 .sizes) (c .before .scratch .ensures)))
     (λ c κs.
-    let start = c .before .before .before .before .before .before .before .before .before .before .before .before in
-    ((start .pre .0 .0, (record { size = scratch-cut (c .before .before .before .scratch .result) (start .pre .0 .0 .sizes) (c .before .before .before .scratch .ensures) }, (start .pre .0 .1 .0, start .pre .0 .1 .1))), start .pre .1))
+    let start = c .before .before .before .before .before .before .before .before .before .before .before in
+    ((start .pre .0 .0, (record { size = scratch-cut (c .before .before .before .scratch .result) (start .pre .0 .0 .sizes) (c .before .before .before .scratch .ensures) }, start .pre .0 .1)), start .pre .1))
     (λ c. search needs)
     (λ c. search needs)
     (λ c. search needs))

@@ -15,6 +15,9 @@ row-bytes-spec =
     (λ c κs. search needs)
     (λ c. omega (arith, vector-fits (c .before .before .before .pre)))
     (λ c.
-    let b : c .wide .result ≤ 512 = omega (arith, c .wide .ensures, c .before .row-count .ensures .most) in
-    omega (arith, times-most (c .wide .result) (c .before .before .before .args .n * c .before .before .before .args .k) 512 1024 b (vector-fits (c .before .before .before .pre))))
-    (λ c. ap (λ (x : ℕ). x * (c .before .before .before .args .n * c .before .before .before .args .k)) (c .wide .ensures ∙ c .before .row-count .ensures .is)))
+    let start = c .before .before .before in
+    let b : c .number-index .result ≤ 512 = omega (arith, c .number-index .ensures, c .before .row-count .ensures .most) in
+    omega (arith, times-most (c .number-index .result) (start .args .n * start .args .k) 512 1024 b (vector-fits (start .pre))))
+    (λ c.
+    let start = c .before .before .before in
+    ap (λ (x : ℕ). x * (start .args .n * start .args .k)) (c .number-index .ensures ∙ c .before .row-count .ensures .is)))

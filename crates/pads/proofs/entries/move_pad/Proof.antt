@@ -5,7 +5,7 @@ use native.Mathlib.Omega.{arith}
 use borrow.Author.Needs.{needs}
 use lib.ListN.{length}
 use lib.Seq.{length-take-le, length-front}
-use Rattle.pads.specs.Pad.{padInput, placed}
+use Rattle.pads.specs.Binding.{boundBy}
 use Rattle.pads.proofs.Reduced.{front-back, pad-moved}
 use Rattle.pads.proofs.entries.move_pad.Statement.{statement}
 use Rattle.pads.proofs.entries.move_pad.Tie as tie
@@ -19,17 +19,17 @@ move-pad-spec = tie.close (tie.spec
     (λ c κs. search needs)
     (λ c.
     let a = c .before .before .before .before .before .before .before .args in
-    omega (arith, length-front (a .numbers .now) (c .before .before .pad-numbers .last .1 .1 .1 .1 .1 .0) (length (a .out .now)) (c .before .before .pad-numbers .kept .1 .1 .1 .1 .1 .0), c .before .before .before .before .before .before .before .pre .1 .0 .short, c .before .before .before .before .before .before .before .pre .1 .1))
+    omega (arith, length-front (a .numbers .now) (c .before .before .pad-numbers .last .1 .1 .1 .0) (length (a .out .now)) (c .before .before .pad-numbers .kept .1 .1 .1 .0), c .before .before .before .before .before .before .before .pre .1 .0 .short, c .before .before .before .before .before .before .before .pre .1 .1))
     (λ c.
     let a = c .before .before .before .before .before .before .before .before .args in
-    sym (ap length (front-back (length (a .out .now)) (a .numbers .now) (c .before .before .before .pad-numbers .last .1 .1 .1 .1 .1 .0) (omega (arith, c .before .before .before .before .before .before .before .before .pre .1 .0 .short, c .before .before .before .before .before .before .before .before .pre .1 .1)) (c .before .before .before .pad-numbers .kept .1 .1 .1 .1 .1 .0)) ∙ c .before .before .before .pad-numbers .kept .1 .1 .1 .1 .1 .0 ∙ length-take-le (length (a .out .now)) (a .numbers .now) (omega (arith, c .before .before .before .before .before .before .before .before .pre .1 .0 .short, c .before .before .before .before .before .before .before .before .pre .1 .1))))
+    sym (ap length (front-back (length (a .out .now)) (a .numbers .now) (c .before .before .before .pad-numbers .last .1 .1 .1 .0) (omega (arith, c .before .before .before .before .before .before .before .before .pre .1 .0 .short, c .before .before .before .before .before .before .before .before .pre .1 .1)) (c .before .before .before .pad-numbers .kept .1 .1 .1 .0)) ∙ c .before .before .before .pad-numbers .kept .1 .1 .1 .0 ∙ length-take-le (length (a .out .now)) (a .numbers .now) (omega (arith, c .before .before .before .before .before .before .before .before .pre .1 .0 .short, c .before .before .before .before .before .before .before .before .pre .1 .1))))
     (λ c κs.
     let a = c .before .before .before .before .before .before .before .before .before .args in
-    (c .before .before .before .before .before .before .before .before .before .pre .0, sym (ap length (front-back (length (a .out .now)) (a .numbers .now) (c .before .before .before .before .pad-numbers .last .1 .1 .1 .1 .1 .0) (omega (arith, c .before .before .before .before .before .before .before .before .before .pre .1 .0 .short, c .before .before .before .before .before .before .before .before .before .pre .1 .1)) (c .before .before .before .before .pad-numbers .kept .1 .1 .1 .1 .1 .0)) ∙ c .before .before .before .before .pad-numbers .kept .1 .1 .1 .1 .1 .0 ∙ length-take-le (length (a .out .now)) (a .numbers .now) (omega (arith, c .before .before .before .before .before .before .before .before .before .pre .1 .0 .short, c .before .before .before .before .before .before .before .before .before .pre .1 .1)))))
+    (c .before .before .before .before .before .before .before .before .before .pre .0, sym (ap length (front-back (length (a .out .now)) (a .numbers .now) (c .before .before .before .before .pad-numbers .last .1 .1 .1 .0) (omega (arith, c .before .before .before .before .before .before .before .before .before .pre .1 .0 .short, c .before .before .before .before .before .before .before .before .before .pre .1 .1)) (c .before .before .before .before .pad-numbers .kept .1 .1 .1 .0)) ∙ c .before .before .before .before .pad-numbers .kept .1 .1 .1 .0 ∙ length-take-le (length (a .out .now)) (a .numbers .now) (omega (arith, c .before .before .before .before .before .before .before .before .before .pre .1 .0 .short, c .before .before .before .before .before .before .before .before .before .pre .1 .1)))))
     (λ c.
     let a = c .before .before .before .before .before .before .before .before .before .before .before .before .args in
-    length-front (a .numbers .now) (c .before .before .before .before .before .before .before .pad-numbers .last .1 .1 .1 .1 .1 .0) (length (a .out .now)) (c .before .before .before .before .before .before .before .pad-numbers .kept .1 .1 .1 .1 .1 .0))
+    length-front (a .numbers .now) (c .before .before .before .before .before .before .before .pad-numbers .last .1 .1 .1 .0) (length (a .out .now)) (c .before .before .before .before .before .before .before .pad-numbers .kept .1 .1 .1 .0))
     (λ c. search needs)
     (λ c.
     let a = c .before .before .before .before .before .before .before .before .before .before .before .before .args in
-    pad-moved (a .minus) (a .q) (padInput (placed (a .modulus) (a .wire) (a .component)) (a .receiver) (a .key .now)) (a .out .now) (a .numbers .now) (c .before .before .before .before .before .before .before .pad-numbers .last .1 .1 .1 .1 .1 .0) (omega (arith, c .before .before .before .before .before .before .before .before .before .before .before .before .pre .1 .0 .short, c .before .before .before .before .before .before .before .before .before .before .before .before .pre .1 .1)) (c .before .before .before .before .before .before .before .pad-numbers .kept .1 .1 .1 .1 .1 .0) (c .before .before .before .before .before .before .before .pad-numbers .ensures) (c .before .before .move-numbers .ensures)))
+    pad-moved (a .minus) (a .q) (boundBy (a .bound) (a .receiver) (a .key .now)) (a .out .now) (a .numbers .now) (c .before .before .before .before .before .before .before .pad-numbers .last .1 .1 .1 .0) (omega (arith, c .before .before .before .before .before .before .before .before .before .before .before .before .pre .1 .0 .short, c .before .before .before .before .before .before .before .before .before .before .before .before .pre .1 .1)) (c .before .before .before .before .before .before .before .pad-numbers .kept .1 .1 .1 .0) (c .before .before .before .before .before .before .before .pad-numbers .ensures) (c .before .before .move-numbers .ensures)))

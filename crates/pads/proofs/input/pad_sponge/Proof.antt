@@ -2,7 +2,8 @@
 -- Assumes nothing.
 use borrow.Author.Needs.{needs}
 use Rattle.pads.proofs.Taken.{takes-input}
-use Rattle.pads.specs.Pad.{rowpad, placed}
+use Rattle.pads.specs.Pad.{rowpad}
+use Rattle.pads.specs.Binding.{underOf}
 use Rattle.pads.proofs.input.pad_sponge.Statement.{statement}
 use Rattle.pads.proofs.input.pad_sponge.Tie as tie
 
@@ -18,4 +19,4 @@ pad-sponge-spec = tie.close (tie.spec
     (λ c κs. search needs)
     (λ c.
     let a = c .before .before .before .before .before .before .before .before .args in
-    takes-input (placed (a .modulus) (a .wire) (a .component)) (a .receiver) (a .key .now) (c .before .before .before .before .before .before .wire-bytes .result) (c .before .before .before .before .before .before .wire-bytes .ensures) (c .six-fields .ensures)))
+    takes-input (underOf (a .bound)) (a .receiver) (a .key .now) (c .before .before .before .before .before .before .wire-bytes .result) (c .before .before .before .before .before .before .wire-bytes .ensures) (c .six-fields .ensures)))

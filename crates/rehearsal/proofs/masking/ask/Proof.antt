@@ -16,4 +16,4 @@ ask-spec =
     (λ c. sym (length-take-le (c .before .before .before .before .before .before .before .args .count) (c .before .before .before .before .before .before .before .args .out .now) (c .before .before .before .before .before .before .before .pre .1 .1)))
     (λ c κs. search needs)
     (λ c. search needs)
-    (λ c. let a = c .before .before .before .before .before .before .before .before .before .before .args in ask-ends (a .file .now) (a .n) (a .party) (a .count) (a .values .now) (a .masks .now) (a .out .now) (c .before .before .before .before .before .before .before .before .before .before .pre .1 .1) (c .before .before .before .before .before .piece .ensures .0) (c .before .before .before .before .piece2 .ensures .0) (c .before .before .externals .kept .1 .1 .1 .1 .1 .0) (c .before .before .externals .ensures .0) (c .before .before .externals .ensures .1)))
+    (λ c. let a = c .before .before .before .before .before .before .before .before .before .before .args in ask-ends (a .file .now) (a .n) (a .party) (a .count) (a .values .now) (a .masks .now) (a .out .now) (c .before .before .before .before .before .before .before .before .before .before .pre .1 .1) (c .before .before .before .before .before .piece .ensures .0) (c .before .before .before .before .piece2 .ensures .0) (c .before .before .lupiknam-externals .kept .1 .1 .1 .1 .1 .0) (c .before .before .lupiknam-externals .ensures)))

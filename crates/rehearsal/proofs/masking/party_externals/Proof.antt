@@ -24,4 +24,4 @@ party-externals-spec =
     (λ c. search needs)
     (λ c κs. search needs)
     (λ c. search needs)
-    (λ c. let a = c .before .before .before .before .before .before .before .before .before .before .before .before .before .before .before .before .before .before .before .args in party-ends (c .before .before .before .before .before .before .before .before .before .before .before .before .before .before .before .before .before .before .before .pre .0) (a .file .now) (a .n) (a .party) (c .before .before .before .before .before .before .before .before .before .before .before .before .before .counted .result) (a .values .now) (a .masks .now) (a .externals .now) (c .before .before .before .before .before .before .ask .last .1 .1 .1 .1 .1 .1 .0) (c .before .before .before .before .before .before .before .before .before .before .before .before .before .before .before .before .before .before .before .pre .1) (c .before .before .before .before .before .before .before .before .before .before .before .before .before .counted .ensures ∙ c .before .before .before .before .before .before .before .before .before .before .before .before .before .before .inputs-of .ensures .is ∙ sym (own-length (a .party) (wiresIn (a .circuit)))) (omega (arith, c .before .before .before .before .before .before .before .before .before .before .before .before .before .counted .ensures, c .before .before .before .before .before .before .before .before .before .before .before .before .before .before .inputs-of .ensures .most)) (c .before .before .before .before .before .before .before .before .before .before .before .before .picked .ensures) (c .before .before .before .before .before .before .before .before .before .before .before .picked2 .ensures) (c .before .before .before .before .before .before .before .before .before .before .blank .ensures) (c .before .before .before .before .before .before .ask .ensures .0) (c .before .before .before .before .before .before .ask .ensures .1) (c .before .before .scatter .ensures)))
+    (λ c. let a = c .before .before .before .before .before .before .before .before .before .before .before .before .before .before .before .before .before .before .before .args in party-ends (c .before .before .before .before .before .before .before .before .before .before .before .before .before .before .before .before .before .before .before .pre .0) (a .file .now) (a .n) (a .party) (c .before .before .before .before .before .before .before .before .before .before .before .before .before .counted .result) (a .values .now) (a .masks .now) (a .externals .now) (c .before .before .before .before .before .before .ask .last .1 .1 .1 .1 .1 .1 .0) (c .before .before .before .before .before .before .before .before .before .before .before .before .before .before .before .before .before .before .before .pre .1) (c .before .before .before .before .before .before .before .before .before .before .before .before .before .counted .ensures ∙ c .before .before .before .before .before .before .before .before .before .before .before .before .before .before .inputs-of .ensures .is ∙ sym (own-length (a .party) (wiresIn (a .circuit)))) (omega (arith, c .before .before .before .before .before .before .before .before .before .before .before .before .before .counted .ensures, c .before .before .before .before .before .before .before .before .before .before .before .before .before .before .inputs-of .ensures .most)) (c .before .before .before .before .before .before .before .before .before .before .before .before .picked .ensures) (c .before .before .before .before .before .before .before .before .before .before .before .picked2 .ensures) (c .before .before .before .before .before .before .before .before .before .before .blank .ensures) (c .before .before .before .before .before .before .ask .ensures) (c .before .before .scatter .ensures)))

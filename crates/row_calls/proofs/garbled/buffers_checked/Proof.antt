@@ -1,8 +1,4 @@
 -- `row_calls::buffers_checked` meets its contract: a wrong length, or what the checks of the bytes answer. Assumes nothing.
-use Prim.Native.Nat.{_*_}
-use native.Mathlib.Omega.{arith}
-use Rattle.party_calls.proofs.KeyPlaces.{small-product}
-use Rattle.session.proofs.LentLengths.{lengths-met}
 use Rattle.row_calls.proofs.Garbles.{draws-lent, draws-next, draws-stop}
 use borrow.Author.Needs.{needs}
 use Rattle.row_calls.proofs.garbled.buffers_checked.Statement.{statement}
@@ -14,21 +10,9 @@ buffers-checked-spec =
     (tie.spec
     (λ c κs. tt)
     (λ c κs. tt)
-    (λ c κs. (c .before .before .before .pre .0 .room, omega (arith, c .counted2 .ensures, c .before .before .before .pre .1 .1)))
-    (λ c κs. c .before .before .before .before .pre .0 .room)
-    (λ c κs. tt)
-    (λ c. omega (arith, small-product {a = c .before .before .before .before .counted .result} {b = c .before .before .contribution-size .result} {m = 8} {n = 429056} (omega (arith, c .before .before .before .before .counted .ensures, c .before .before .before .before .before .before .pre .1 .0)) (c .before .before .contribution-size .ensures .most)))
-    (λ c. omega (arith, small-product {a = c .before .before .before .before .counted .result} {b = c .before .before .before .counted2 .result} {m = 8} {n = 128} (omega (arith, c .before .before .before .before .counted .ensures, c .before .before .before .before .before .before .pre .1 .0)) (omega (arith, c .before .before .before .counted2 .ensures, c .before .before .before .before .before .before .pre .1 .1))))
-    (λ c. omega (arith, small-product {a = c .counted3 .result} {b = c .before .before .before .before .counted .result * c .before .before .before .counted2 .result} {m = 524288} {n = 1024} (omega (arith, c .counted3 .ensures, c .before .rows .ensures .most)) (omega (arith, small-product {a = c .before .before .before .before .counted .result} {b = c .before .before .before .counted2 .result} {m = 8} {n = 128} (omega (arith, c .before .before .before .before .counted .ensures, c .before .before .before .before .before .before .pre .1 .0)) (omega (arith, c .before .before .before .counted2 .ensures, c .before .before .before .before .before .before .pre .1 .1))))))
-    (λ c κs. tt)
-    (λ c κs. tt)
-    (λ c κs. tt)
-    (λ c κs. tt)
-    (λ c κs. tt)
-    (λ c κs. tt)
-    (λ c κs. tt)
+    (λ c κs. c .before .before .before .pre)
     (λ c. search needs)
-    (λ c κs. let s = c .before .before .before .before .before .before .before .before .before .before .before .before .before .before .before in draws-lent (s .pre .0) (s .args .n) (s .args .k) (s .pre .1 .0) (s .pre .1 .1) (s .args .contributions .now) (s .args .lent .rows) (s .args .lent .inputs) (s .args .lent .outputs) (c .before .before .before .before .before .before .before .before .before .before .before .before .before .counted .ensures) (c .before .before .before .before .before .before .before .before .before .before .before .before .counted2 .ensures) (c .before .before .before .before .before .before .before .before .before .before .before .contribution-size .ensures) (c .before .before .before .before .before .before .before .before .before .before .rows .ensures) (c .before .before .before .before .before .before .before .before .before .counted3 .ensures) (lengths-met _ _ _ _ (c .before .before .before .before .before .before .before .before .length-checked .ensures) (lengths-met _ _ _ _ (c .before .before .before .before .before .before .before .length-checked2 .ensures) (lengths-met _ _ _ _ (c .before .before .before .before .before .before .length-checked3 .ensures) (c .before .before .before .before .before .length-checked4 .ensures) (c .before .before .before .before .followed .ensures)) (c .before .before .before .followed2 .ensures)) (c .before .before .followed3 .ensures)) (c .enum-told .given .1))
+    (λ c κs. let s = c .before .before .before .before .before .before in draws-lent (s .pre .0) (s .args .n) (s .args .k) (s .args .contributions .now) (s .args .lent .rows) (s .args .lent .inputs) (s .args .lent .outputs) (c .before .before .lengths-checked .ensures) (c .before .before .before .before .counted .ensures) (c .before .before .before .counted2 .ensures) (s .pre .1 .0) (s .pre .1 .1) (c .enum-told .given .1))
     (λ c. search needs)
-    (λ c. let s = c .before .before .before .before .before .before .before .before .before .before .before .before .before .before .before .before in draws-next (s .pre .0) (s .args .n) (s .args .k) (s .pre .1 .0) (s .pre .1 .1) (s .args .contributions .now) (s .args .lent .rows) (s .args .lent .inputs) (s .args .lent .outputs) (c .before .before .before .before .before .before .before .before .before .before .before .before .before .before .counted .ensures) (c .before .before .before .before .before .before .before .before .before .before .before .before .before .counted2 .ensures) (c .before .before .before .before .before .before .before .before .before .before .before .before .contribution-size .ensures) (c .before .before .before .before .before .before .before .before .before .before .before .rows .ensures) (c .before .before .before .before .before .before .before .before .before .before .counted3 .ensures) (lengths-met _ _ _ _ (c .before .before .before .before .before .before .before .before .before .length-checked .ensures) (lengths-met _ _ _ _ (c .before .before .before .before .before .before .before .before .length-checked2 .ensures) (lengths-met _ _ _ _ (c .before .before .before .before .before .before .before .length-checked3 .ensures) (c .before .before .before .before .before .before .length-checked4 .ensures) (c .before .before .before .before .before .followed .ensures)) (c .before .before .before .before .followed2 .ensures)) (c .before .before .before .followed3 .ensures)) (c .before .enum-told .given .1) (c .draws-checked .ensures))
-    (λ c. let s = c .before .before .before .before .before .before .before .before .before .before .before .before .before .before .before .before in draws-stop (s .pre .0) (s .args .n) (s .args .k) (s .pre .1 .0) (s .pre .1 .1) (s .args .contributions .now) (s .args .lent .rows) (s .args .lent .inputs) (s .args .lent .outputs) (c .before .before .before .before .before .before .before .before .before .before .before .before .before .before .counted .ensures) (c .before .before .before .before .before .before .before .before .before .before .before .before .before .counted2 .ensures) (c .before .before .before .before .before .before .before .before .before .before .before .before .contribution-size .ensures) (c .before .before .before .before .before .before .before .before .before .before .before .rows .ensures) (c .before .before .before .before .before .before .before .before .before .before .counted3 .ensures) (lengths-met _ _ _ _ (c .before .before .before .before .before .before .before .before .before .length-checked .ensures) (lengths-met _ _ _ _ (c .before .before .before .before .before .before .before .before .length-checked2 .ensures) (lengths-met _ _ _ _ (c .before .before .before .before .before .before .before .length-checked3 .ensures) (c .before .before .before .before .before .before .length-checked4 .ensures) (c .before .before .before .before .before .followed .ensures)) (c .before .before .before .before .followed2 .ensures)) (c .before .before .before .followed3 .ensures)) (c .before .lengths .given .1)))
+    (λ c. let s = c .before .before .before .before .before .before .before in draws-next (s .pre .0) (s .args .n) (s .args .k) (s .args .contributions .now) (s .args .lent .rows) (s .args .lent .inputs) (s .args .lent .outputs) (c .before .before .before .lengths-checked .ensures) (c .before .before .before .before .before .counted .ensures) (c .before .before .before .before .counted2 .ensures) (c .before .enum-told .given .1) (c .draws-checked .ensures))
+    (λ c. let s = c .before .before .before .before .before .before .before in draws-stop (s .pre .0) (s .args .n) (s .args .k) (s .args .contributions .now) (s .args .lent .rows) (s .args .lent .inputs) (s .args .lent .outputs) (c .before .before .before .lengths-checked .ensures) (c .before .before .before .before .before .counted .ensures) (c .before .before .before .before .counted2 .ensures) (c .before .lengths .given .1)))

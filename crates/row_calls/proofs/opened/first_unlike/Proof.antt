@@ -8,7 +8,7 @@ pub first-unlike-spec : {M : Type 1} → statement M
 first-unlike-spec =
     tie.close
     (tie.spec
-    (λ c κs. own-fit (c .before .before .before .before .before .before .before .pre .0) (c .before .before .before .before .before .before .before .pre .1))
-    (λ c κs. own-compared (c .before .before .before .before .before .before .before .before .before .before .before .pre .0) (c .before .before .before .put-keys .ensures))
+    (λ c κs. own-fit (c .before .before .before .before .before .before .pre .0) (c .before .before .before .before .before .before .pre .1))
+    (λ c κs. own-compared (c .before .before .before .before .before .before .before .before .before .before .pre .0) (c .before .before .before .put-keys .ensures))
     (λ c. search needs)
-    (λ c. wrong-is (c .before .before .before .before .before .before .before .before .before .before .before .before .pre .0) (c .before .before .before .before .put-keys .ensures) (c .first-other .ensures)))
+    (λ c. wrong-is (c .before .before .before .before .before .before .before .before .before .before .before .pre .0) (c .before .before .before .before .put-keys .ensures) (c .first-other .ensures)))

@@ -12,7 +12,7 @@ open-asked-spec =
     (tie.spec
     (λ c κs. tt)
     (λ c. search needs)
-    (λ c κs. let s = c .before .before .before .before .before .before .before in (s .pre, session-in-range (s .args .n) (s .args .k) (c .before .before .session-checked .ensures) (c .enum-told .given .1)))
+    (λ c κs. let s = c .before .before .before .before .before .before .before in (s .pre, session-in-range (s .args .asked .n) (s .args .asked .k) (c .before .before .session-checked .ensures) (c .enum-told .given .1)))
     (λ c. search needs)
-    (λ c. let s = c .before .before .before .before .before .before .before .before in open-next (s .args .n) (s .args .k) (wiresIn (s .args .circuit)) (s .args .contribution .now) (s .args .externals .now) (s .args .keys .now) (s .args .rows .now) (s .args .party) (s .args .wkeys) (s .args .wexternals) (c .before .before .before .session-checked .ensures) (c .before .enum-told .given .1) (c .open-party .ensures))
-    (λ c. let s = c .before .before .before .before .before .before .before .before in open-stop (s .args .n) (s .args .k) (wiresIn (s .args .circuit)) (s .args .contribution .now) (s .args .externals .now) (s .args .keys .now) (s .args .rows .now) (s .args .party) (s .args .wkeys) (s .args .wexternals) (c .before .before .before .session-checked .ensures) (c .before .session .given .1)))
+    (λ c. let s = c .before .before .before .before .before .before .before .before in open-next (s .args .asked .n) (s .args .asked .k) (wiresIn (s .args .circuit)) (s .args .contribution .now) (s .args .externals .now) (s .args .keys .now) (s .args .rows .now) (s .args .asked .party) (s .args .wkeys) (s .args .wexternals) (c .before .before .before .session-checked .ensures) (c .before .enum-told .given .1) (c .open-party .ensures))
+    (λ c. let s = c .before .before .before .before .before .before .before .before in open-stop (s .args .asked .n) (s .args .asked .k) (wiresIn (s .args .circuit)) (s .args .contribution .now) (s .args .externals .now) (s .args .keys .now) (s .args .rows .now) (s .args .asked .party) (s .args .wkeys) (s .args .wexternals) (c .before .before .before .session-checked .ensures) (c .before .session .given .1)))

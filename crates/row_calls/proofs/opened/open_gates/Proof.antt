@@ -8,8 +8,8 @@ pub open-gates-spec : {M : Type 1} → statement M
 open-gates-spec =
     tie.close
     (tie.spec
-    (λ c κs. c .before .before .before .before .before .before .before .before .before .pre)
+    (λ c κs. c .before .before .before .before .before .before .before .before .pre)
     (λ c κs. tt)
     (λ c. search needs)
     (λ c. search needs)
-    (λ c. gates-met (c .before .before .before .before .before .before .before .before .before .before .before .before .before .before .before .pre .0) (c .before .before .before .before .before .open-wires .ensures) (c .named .ensures)))
+    (λ c. gates-met (c .before .before .before .before .before .before .before .before .before .before .before .before .before .before .pre .0) (c .before .before .before .before .before .open-wires .ensures) (c .named .ensures)))

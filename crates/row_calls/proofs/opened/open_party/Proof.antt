@@ -13,4 +13,4 @@ open-party-spec =
     (λ c κs. tt)
     (λ c κs. tt)
     (λ c κs. tt)
-    (λ c. let s = c .before .before .before .before .before .before .before .before .before in party-followed (s .args .n) (s .args .k) (wiresIn (s .args .circuit)) (s .args .contribution .now) (s .args .externals .now) (s .args .keys .now) (s .args .rows .now) (s .args .party) (s .args .wkeys) (s .args .wexternals) (c .before .before .before .before .open-lent .ensures) (c .before .before .before .owners-checked .ensures) (c .before .before .followed .ensures) (c .before .party-checked .ensures) (c .followed2 .ensures)))
+    (λ c. let s = c .before .before .before .before .before .before .before .before .before in party-followed (s .args .asked .n) (s .args .asked .k) (wiresIn (s .args .circuit)) (s .args .contribution .now) (s .args .externals .now) (s .args .keys .now) (s .args .rows .now) (s .args .asked .party) (s .args .wkeys) (s .args .wexternals) (c .before .before .before .before .open-lent .ensures) (c .before .before .before .owners-checked .ensures) (c .before .before .followed .ensures) (c .before .party-checked .ensures) (c .followed2 .ensures)))

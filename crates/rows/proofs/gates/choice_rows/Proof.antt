@@ -1,7 +1,10 @@
--- `rows::gates::choice_rows` meets its contract: what `put_choice` does, on work memory of its own.
+-- `rows::gates::choice_rows` meets its contract: the chooser's rows, then the correctors'.
 -- Assumes nothing.
-use Rattle.rows.proofs.Sizes.{work-fits, work-long, work-vector}
-use borrow.Author.Needs.{needs}
+use mathlib.Core.Path.{_∙_}
+use Prim.Native.Nat.{_+_, _*_}
+use native.Mathlib.Omega.{arith}
+use Rattle.rows.proofs.Sizes.{small, room-as, front-fits, front-long, front-rows, rest-fits, rest-rows, both-length, both-parts}
+use Rattle.rows.proofs.Messages.{choice-is}
 use Rattle.rows.proofs.gates.choice_rows.Statement.{statement}
 use Rattle.rows.proofs.gates.choice_rows.Tie as tie
 
@@ -9,24 +12,27 @@ pub choice-rows-spec : {M : Type 1} → statement M
 choice-rows-spec =
     tie.close
     (tie.spec
-    (λ c κs. search needs)
-    (λ c κs. search needs)
-    (λ c.
-    let start = c .before .before .before .before .before .before .before .before .before .before in
-    work-fits (c .before .scratch .result) (start .pre .0 .sizes) (start .pre .1 .0 .1 .1 .1 .0 .size) (c .before .scratch .ensures))
-    (λ c.
-    let start = c .before .before .before .before .before .before .before .before .before .before .before in
-    work-long (c .before .before .scratch .result) (start .pre .0 .sizes) (start .pre .1 .0 .1 .1 .1 .0 .size) (c .before .before .scratch .ensures))
-    (λ c.
-    let start = c .before .before .before .before .before .before .before .before .before .before .before in
-    work-fits (c .before .scratch2 .result) (start .pre .0 .sizes) (start .pre .1 .0 .1 .1 .1 .0 .size) (c .before .scratch2 .ensures))
-    (λ c.
-    let start = c .before .before .before .before .before .before .before .before .before .before .before .before in
-    work-long (c .before .before .scratch2 .result) (start .pre .0 .sizes) (start .pre .1 .0 .1 .1 .1 .0 .size) (c .before .before .scratch2 .ensures))
-    (λ c κs.
-    let the-scratch2 = c .before .before .before .scratch2 in
-    let the-scratch = c .before .before .before .before .scratch in
-    let start = c .before .before .before .before .before .before .before .before .before .before .before .before .before in
-    (start .pre .0, (start .pre .1 .0, (start .pre .1 .1, (work-vector (the-scratch .result) (start .pre .0 .sizes) (start .pre .1 .0 .1 .1 .1 .0 .size) (the-scratch .ensures), work-vector (the-scratch2 .result) (start .pre .0 .sizes) (start .pre .1 .0 .1 .1 .1 .0 .size) (the-scratch2 .ensures))))))
-    (λ c. c .before .before .before .before .put-choice .kept .1 .1 .1 .1 .1 .1 .1 .1 .1 .1 .1 .1 .1 .1 .1 .1 .1 .1 .0)
-    (λ c. c .before .before .before .before .put-choice .ensures))
+    (λ c. omega (arith, small (c .before .before .before .before .pre .0 .0 .sizes)))
+    (λ c. omega (arith, small (c .before .before .before .before .pre .0 .0 .sizes)))
+    (λ c κs. (c .before .before .before .before .pre .1 .1 .1 .1, (c .before .before .before .before .pre .1 .0 .1, small (c .before .before .before .before .pre .0 .0 .sizes))))
+    (λ c. let made = c .before .before .before .before .before .args .made in
+    front-fits 2 (2 * made .modulus) (2 * (made .n * made .k)) (room-as (c .before .before .before .before .before .pre .0 .0) (omega arith)) (omega arith))
+    (λ c. let made = c .before .before .before .before .before .before .args .made in
+    front-long 2 (2 * made .modulus) (2 * (made .n * made .k)) (room-as (c .before .before .before .before .before .before .pre .0 .0) (omega arith)) (omega arith))
+    (λ c κs. let made = c .before .before .before .before .before .before .args .made in
+    ((front-rows 2 (2 * made .modulus) (2 * (made .n * made .k)) (room-as (c .before .before .before .before .before .before .pre .0 .0) (omega arith)) (omega arith), c .before .before .before .before .before .before .pre .0 .1), (c .before .before .before .before .before .before .pre .1 .0 .0, (c .before .before .before .before .before .before .pre .1 .1 .1 .0, c .before .less .ensures .0))))
+    (λ c κs. (c .before .before .before .before .before .before .before .before .before .pre .1 .1 .0, (c .before .before .before .before .before .before .before .before .before .pre .1 .1 .1 .0, small (c .before .before .before .before .before .before .before .before .before .pre .0 .0 .sizes))))
+    (λ c κs. (c .before .before .before .before .before .before .before .before .before .before .pre .1 .1 .0, (c .before .before .before .before .before .before .before .before .before .before .pre .1 .1 .1 .1, small (c .before .before .before .before .before .before .before .before .before .before .pre .0 .0 .sizes))))
+    (λ c. let made = c .before .before .before .before .before .before .before .before .before .before .before .args .made in
+    omega (arith, rest-fits 2 (2 * made .modulus) (2 * (made .n * made .k)) (room-as (c .before .before .before .before .before .before .before .before .before .before .before .pre .0 .0) (omega arith)) (omega arith) (c .before .before .before .before .chooser .last .1 .1 .1 .1 .1 .1 .0) (c .before .before .before .before .chooser .kept .1 .1 .1 .1 .1 .1 .0)))
+    (λ c. let made = c .before .before .before .before .before .before .before .before .before .before .before .args .made in
+    omega (arith, rest-fits 2 (2 * made .modulus) (2 * (made .n * made .k)) (room-as (c .before .before .before .before .before .before .before .before .before .before .before .pre .0 .0) (omega arith)) (omega arith) (c .before .before .before .before .chooser .last .1 .1 .1 .1 .1 .1 .0) (c .before .before .before .before .chooser .kept .1 .1 .1 .1 .1 .1 .0)))
+    (λ c. let made = c .before .before .before .before .before .before .before .before .before .before .before .args .made in
+    omega (arith, rest-fits 2 (2 * made .modulus) (2 * (made .n * made .k)) (room-as (c .before .before .before .before .before .before .before .before .before .before .before .pre .0 .0) (omega arith)) (omega arith) (c .before .before .before .before .chooser .last .1 .1 .1 .1 .1 .1 .0) (c .before .before .before .before .chooser .kept .1 .1 .1 .1 .1 .1 .0)))
+    (λ c κs. let made = c .before .before .before .before .before .before .before .before .before .before .before .before .args .made in
+    ((rest-rows 2 (2 * made .modulus) (2 * (made .n * made .k)) (room-as (c .before .before .before .before .before .before .before .before .before .before .before .before .pre .0 .0) (omega arith)) (omega arith) (c .before .before .before .before .before .chooser .last .1 .1 .1 .1 .1 .1 .0) (c .before .before .before .before .before .chooser .kept .1 .1 .1 .1 .1 .1 .0), (c .before .before .before .before .before .before .before .before .before .before .before .before .pre .0 .1 .0, c .before .before .before .before .before .before .before .before .before .before .before .before .pre .1 .0 .0 .below)), (c .before .before .before .before .before .before .before .before .before .before .before .before .pre .1 .0 .1, (c .before .before .less2 .ensures .0, c .before .less3 .ensures .0))))
+    (λ c. let made = c .before .before .before .before .before .before .before .before .before .before .before .before .before .before .before .args .made in
+    both-length 2 (2 * made .modulus) (2 * (made .n * made .k)) (room-as (c .before .before .before .before .before .before .before .before .before .before .before .before .before .before .before .pre .0 .0) (omega arith)) (omega arith) (c .before .before .before .before .before .before .before .before .chooser .last .1 .1 .1 .1 .1 .1 .0) (c .before .before .before .before .before .before .before .before .chooser .kept .1 .1 .1 .1 .1 .1 .0) (c .before .before .correctors .last .1 .1 .1 .1 .1 .1 .0) (c .before .before .correctors .kept .1 .1 .1 .1 .1 .1 .0))
+    (λ c. let made = c .before .before .before .before .before .before .before .before .before .before .before .before .before .before .before .args .made in
+    both-parts 2 (2 * made .modulus) (2 * (made .n * made .k)) (room-as (c .before .before .before .before .before .before .before .before .before .before .before .before .before .before .before .pre .0 .0) (omega arith)) (omega arith) (c .before .before .before .before .before .before .before .before .chooser .last .1 .1 .1 .1 .1 .1 .0) (c .before .before .before .before .before .before .before .before .chooser .kept .1 .1 .1 .1 .1 .1 .0) (c .before .before .before .before .before .before .before .before .chooser .ensures) (c .before .before .correctors .kept .1 .1 .1 .1 .1 .1 .0) (c .before .before .correctors .ensures)
+    ∙ choice-is _ _ _ _ _ _ _ _ (c .before .before .before .before .before .before .before .before .before .before .less .ensures .1) (c .before .before .before .before .before .less2 .ensures .1) (c .before .before .before .before .less3 .ensures .1)))

@@ -1,6 +1,11 @@
--- `rows::gates::product_rows` meets its contract: what `put_product` does, on work memory of its own.
+-- `rows::gates::product_rows` meets its contract: two components, one behind the other.
 -- Assumes nothing.
-use Rattle.rows.proofs.Sizes.{work-fits, work-long, work-vector}
+use mathlib.Core.Path.{_∙_}
+use Prim.Native.Nat.{_/_}
+use native.Mathlib.Omega.{arith}
+use lib.ListN.{length}
+use Rattle.rows.proofs.Sizes.{small, twice, half-of, front-fits, front-long, front-rows, rest-fits, rest-rows, both-length, both-parts}
+use Rattle.rows.proofs.Messages.{mul-small, add-small, first-is, product-is}
 use borrow.Author.Needs.{needs}
 use Rattle.rows.proofs.gates.product_rows.Statement.{statement}
 use Rattle.rows.proofs.gates.product_rows.Tie as tie
@@ -9,35 +14,27 @@ pub product-rows-spec : {M : Type 1} → statement M
 product-rows-spec =
     tie.close
     (tie.spec
-    (λ c κs. search needs)
-    (λ c κs. search needs)
-    (λ c κs. search needs)
-    (λ c.
-    let start = c .before .before .before .before .before .before .before .before .before in
-    work-fits (c .before .before .scratch .result) (start .pre .0 .sizes) (start .pre .1 .0 .1 .1 .1 .0 .size) (c .before .before .scratch .ensures))
-    (λ c.
-    let the-scratch = c .before .before .before .scratch in
-    let start = c .before .before .before .before .before .before .before .before .before .before in
-    work-long (the-scratch .result) (start .pre .0 .sizes) (start .pre .1 .0 .1 .1 .1 .0 .size) (the-scratch .ensures))
-    (λ c.
-    let start = c .before .before .before .before .before .before .before .before .before .before in
-    work-fits (c .before .before .scratch2 .result) (start .pre .0 .sizes) (start .pre .1 .0 .1 .1 .1 .0 .size) (c .before .before .scratch2 .ensures))
-    (λ c.
-    let the-scratch2 = c .before .before .before .scratch2 in
-    let start = c .before .before .before .before .before .before .before .before .before .before .before in
-    work-long (the-scratch2 .result) (start .pre .0 .sizes) (start .pre .1 .0 .1 .1 .1 .0 .size) (the-scratch2 .ensures))
-    (λ c.
-    let start = c .before .before .before .before .before .before .before .before .before .before .before in
-    work-fits (c .before .before .scratch3 .result) (start .pre .0 .sizes) (start .pre .1 .0 .1 .1 .1 .0 .size) (c .before .before .scratch3 .ensures))
-    (λ c.
-    let the-scratch3 = c .before .before .before .scratch3 in
-    let start = c .before .before .before .before .before .before .before .before .before .before .before .before in
-    work-long (the-scratch3 .result) (start .pre .0 .sizes) (start .pre .1 .0 .1 .1 .1 .0 .size) (the-scratch3 .ensures))
-    (λ c κs.
-    let the-scratch3 = c .before .before .before .before .scratch3 in
-    let the-scratch2 = c .before .before .before .before .before .scratch2 in
-    let the-scratch = c .before .before .before .before .before .before .scratch in
-    let start = c .before .before .before .before .before .before .before .before .before .before .before .before .before in
-    (start .pre .0, (start .pre .1 .0, (start .pre .1 .1 .1, (work-vector (the-scratch .result) (start .pre .0 .sizes) (start .pre .1 .0 .1 .1 .1 .0 .size) (the-scratch .ensures), (work-vector (the-scratch2 .result) (start .pre .0 .sizes) (start .pre .1 .0 .1 .1 .1 .0 .size) (the-scratch2 .ensures), work-vector (the-scratch3 .result) (start .pre .0 .sizes) (start .pre .1 .0 .1 .1 .1 .0 .size) (the-scratch3 .ensures)))))))
-    (λ c. c .before .before .before .before .before .put-product .kept .1 .1 .1 .1 .1 .1 .1 .1 .1 .1 .1 .1 .1 .1 .1 .1 .0)
-    (λ c. c .before .before .before .before .before .put-product .ensures))
+    (λ c. search needs)
+    (λ c κs. omega (arith, c .before .before .before .pre .0 .0 .modulus))
+    (λ c κs. (mul-small _ _ (omega (arith, c .before .before .before .before .pre .0 .0 .modulus)) (c .mul .ensures), c .before .before .before .before .pre .1 .1 .1 .below))
+    (λ c κs. (omega (arith, c .before .before .before .before .before .pre .0 .0 .modulus), c .before .before .before .before .before .pre .1 .0 .1 .below))
+    (λ c. let p = c .before .before .before .before .before .before .args .made .modulus in
+    front-fits p p (length (c .before .before .before .before .before .before .args .out .now) / 2) (twice p (c .before .before .before .before .before .before .pre .0 .0)) (half-of p (c .before .before .before .before .before .before .pre .0 .0)))
+    (λ c. let p = c .before .before .before .before .before .before .before .args .made .modulus in
+    front-long p p (length (c .before .before .before .before .before .before .before .args .out .now) / 2) (twice p (c .before .before .before .before .before .before .before .pre .0 .0)) (half-of p (c .before .before .before .before .before .before .before .pre .0 .0)))
+    (λ c κs. let p = c .before .before .before .before .before .before .before .args .made .modulus in
+    ((front-rows p p (length (c .before .before .before .before .before .before .before .args .out .now) / 2) (twice p (c .before .before .before .before .before .before .before .pre .0 .0)) (half-of p (c .before .before .before .before .before .before .before .pre .0 .0)), (add-small _ _ (omega (arith, c .before .before .before .before .before .before .before .pre .0 .0 .modulus)) (c .before .before .add .ensures), c .before .before .before .before .before .before .before .pre .0 .1)), (c .before .before .before .before .before .before .before .pre .1 .0 .0, c .before .before .before .before .before .before .before .pre .1 .1 .1)))
+    (λ c κs. (c .before .before .before .before .before .before .before .before .before .before .pre .1 .1 .0, (c .before .before .before .before .before .before .before .before .before .before .pre .1 .1 .1, small (c .before .before .before .before .before .before .before .before .before .before .pre .0 .0 .sizes))))
+    (λ c. let p = c .before .before .before .before .before .before .before .before .before .before .before .args .made .modulus in
+    omega (arith, rest-fits p p (length (c .before .before .before .before .before .before .before .before .before .before .before .args .out .now) / 2) (twice p (c .before .before .before .before .before .before .before .before .before .before .before .pre .0 .0)) (half-of p (c .before .before .before .before .before .before .before .before .before .before .before .pre .0 .0)) (c .before .before .before .linear-rows .last .1 .1 .1 .1 .1 .1 .1 .0) (c .before .before .before .linear-rows .kept .1 .1 .1 .1 .1 .1 .1 .0)))
+    (λ c. let p = c .before .before .before .before .before .before .before .before .before .before .before .args .made .modulus in
+    omega (arith, rest-fits p p (length (c .before .before .before .before .before .before .before .before .before .before .before .args .out .now) / 2) (twice p (c .before .before .before .before .before .before .before .before .before .before .before .pre .0 .0)) (half-of p (c .before .before .before .before .before .before .before .before .before .before .before .pre .0 .0)) (c .before .before .before .linear-rows .last .1 .1 .1 .1 .1 .1 .1 .0) (c .before .before .before .linear-rows .kept .1 .1 .1 .1 .1 .1 .1 .0)))
+    (λ c. let p = c .before .before .before .before .before .before .before .before .before .before .before .args .made .modulus in
+    omega (arith, rest-fits p p (length (c .before .before .before .before .before .before .before .before .before .before .before .args .out .now) / 2) (twice p (c .before .before .before .before .before .before .before .before .before .before .before .pre .0 .0)) (half-of p (c .before .before .before .before .before .before .before .before .before .before .before .pre .0 .0)) (c .before .before .before .linear-rows .last .1 .1 .1 .1 .1 .1 .1 .0) (c .before .before .before .linear-rows .kept .1 .1 .1 .1 .1 .1 .1 .0)))
+    (λ c κs. let p = c .before .before .before .before .before .before .before .before .before .before .before .before .args .made .modulus in
+    ((rest-rows p p (length (c .before .before .before .before .before .before .before .before .before .before .before .before .args .out .now) / 2) (twice p (c .before .before .before .before .before .before .before .before .before .before .before .before .pre .0 .0)) (half-of p (c .before .before .before .before .before .before .before .before .before .before .before .before .pre .0 .0)) (c .before .before .before .before .linear-rows .last .1 .1 .1 .1 .1 .1 .1 .0) (c .before .before .before .before .linear-rows .kept .1 .1 .1 .1 .1 .1 .1 .0), c .before .before .before .before .before .before .before .before .before .before .before .before .pre .0 .1), (c .before .before .before .before .before .before .before .before .before .before .before .before .pre .1 .0 .0, (c .before .before .before .before .before .before .before .before .before .before .before .before .pre .1 .0 .1, c .before .less .ensures .0))))
+    (λ c. let p = c .before .before .before .before .before .before .before .before .before .before .before .before .before .before .before .args .made .modulus in
+    both-length p p (length (c .before .before .before .before .before .before .before .before .before .before .before .before .before .before .before .args .out .now) / 2) (twice p (c .before .before .before .before .before .before .before .before .before .before .before .before .before .before .before .pre .0 .0)) (half-of p (c .before .before .before .before .before .before .before .before .before .before .before .before .before .before .before .pre .0 .0)) (c .before .before .before .before .before .before .before .linear-rows .last .1 .1 .1 .1 .1 .1 .1 .0) (c .before .before .before .before .before .before .before .linear-rows .kept .1 .1 .1 .1 .1 .1 .1 .0) (c .before .before .second-rows .last .1 .1 .1 .1 .1 .0) (c .before .before .second-rows .kept .1 .1 .1 .1 .1 .0))
+    (λ c. let p = c .before .before .before .before .before .before .before .before .before .before .before .before .before .before .before .args .made .modulus in
+    both-parts p p (length (c .before .before .before .before .before .before .before .before .before .before .before .before .before .before .before .args .out .now) / 2) (twice p (c .before .before .before .before .before .before .before .before .before .before .before .before .before .before .before .pre .0 .0)) (half-of p (c .before .before .before .before .before .before .before .before .before .before .before .before .before .before .before .pre .0 .0)) (c .before .before .before .before .before .before .before .linear-rows .last .1 .1 .1 .1 .1 .1 .1 .0) (c .before .before .before .before .before .before .before .linear-rows .kept .1 .1 .1 .1 .1 .1 .1 .0) (first-is _ _ _ _ _ _ _ (omega (arith, c .before .before .before .before .before .before .before .before .before .before .before .before .before .before .before .pre .0 .0 .modulus)) (c .before .before .before .before .before .before .before .before .before .before .before .mul .ensures) (c .before .before .before .before .before .before .before .before .before .before .add .ensures) (c .before .before .before .before .before .before .before .before .before .sub .ensures) (c .before .before .before .before .before .before .before .linear-rows .ensures)) (c .before .before .second-rows .kept .1 .1 .1 .1 .1 .0) (c .before .before .second-rows .ensures)
+    ∙ product-is _ _ _ _ _ _ _ (c .before .before .before .before .less .ensures .1)))

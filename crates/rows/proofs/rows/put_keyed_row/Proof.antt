@@ -11,10 +11,10 @@ put-keyed-row-spec =
     (tie.spec
     (λ c κs.
     let start = c .before .before .before .before .before .before .before in
-    (aligned (start .pre .0 .1) (start .pre .1 .0 .0) (start .pre .1 .0 .1 .0), same-size (start .pre .1 .1) (start .pre .1 .0 .0)))
+    (aligned (start .pre .1 .0 .positive) (start .pre .1 .0 .zero) (start .pre .1 .0 .offset), same-size (start .pre .1 .1) (start .pre .1 .0 .zero)))
     (λ c κs.
     let start = c .before .before .before .before .before .before .before .before .before .before .before .before in
-    (start .pre .0 .0, (vector-kept (start .pre .1 .1) (c .before .before .before .before .key-of .kept .1 .1 .1 .1 .0), (start .pre .1 .0 .1 .1 .0, start .pre .1 .0 .1 .1 .1))))
+    (start .pre .0, (vector-kept (start .pre .1 .1) (c .before .before .before .before .key-of .kept .1 .1 .1 .1 .0), (start .pre .1 .0 .base, start .pre .1 .0 .given))))
     (λ c. c .before .before .before .before .before .before .before .key-of .kept .1 .1 .1 .1 .0)
-    (λ c. c .before .before .put-row .kept .1 .1 .1 .1 .1 .1 .1 .1 .1 .1 .0)
-    (λ c. row-under _ _ _ _ _ _ _ (c .before .before .before .before .before .before .before .key-of .ensures) (c .before .before .put-row .ensures)))
+    (λ c. c .before .before .put-row .kept .1 .1 .1 .1 .1 .0)
+    (λ c. row-under _ _ (c .before .before .before .before .before .before .before .key-of .ensures) (c .before .before .put-row .ensures)))

@@ -18,5 +18,5 @@ put-row-spec =
     let the-key-of = c .before .before .before .key-of in
     let start = c .before .before .before .before .before .before .before .before .before in
     (row-asked _ _ _ (start .pre .0) (the-key-of .ensures), row-sizes (start .pre .0) (start .pre .1 .0) (the-key-of .kept .1 .1 .1 .1 .0)))
-    (λ c. c .before .before .add-pad-row .kept .1 .1 .1 .1 .1 .1 .1 .0 ∙ c .before .before .before .before .before .before .key-of .kept .1 .1 .1 .1 .0)
-    (λ c. row-made _ _ _ _ _ _ _ _ _ _ (c .before .before .before .before .before .before .key-of .ensures) (c .before .before .add-pad-row .ensures)))
+    (λ c. c .before .before .add-pad-row .kept .1 .1 .1 .1 .1 .0 ∙ c .before .before .before .before .before .before .key-of .kept .1 .1 .1 .1 .0)
+    (λ c. row-made _ _ _ _ _ (c .before .before .before .before .before .before .key-of .ensures) (c .before .before .add-pad-row .ensures)))

@@ -28,10 +28,10 @@ share-sum-spec =
     (λ c κs. omega (arith, times-fits (c .before .loop .party) (c .before .before .before .args .n) (c .before .before .before .args .size) (c .loop-test .taken), c .before .before .before .pre .0 .0))
     (λ c. omega (arith, c .before .nth-piece .ensures .1, c .before .before .before .before .before .pre .0 .1))
     (λ c κs. search needs)
-    (λ c. omega (arith, c .before .before .before .before .loop .inv .most, c .before .before .before .loop-test .taken, c .widened .ensures .most, c .before .before .before .before .before .before .pre .1 .0))
+    (λ c. omega (arith, c .before .before .before .before .loop .inv .most, c .before .before .before .loop-test .taken, c .byte-number .ensures .1, c .before .before .before .before .before .before .pre .1 .0))
     (λ c. omega (arith, c .before .before .before .loop-test .taken))
     (λ c. omega (arith, c .before .before .before .loop-test .taken))
-    (λ c. summed-step (c .before .before .before .before .loop .inv) (c .before .before .before .loop-test .taken) (c .widened .ensures) (ap (λ (l : List ℕ). getD l (c .before .before .before .before .before .before .args .at) 0) (c .before .before .nth-piece .ensures .0)))
+    (λ c. summed-step (c .before .before .before .before .loop .inv) (c .before .before .before .loop-test .taken) (record { is = c .byte-number .ensures .0; most = c .byte-number .ensures .1 }) (ap (λ (l : List ℕ). getD l (c .before .before .before .before .before .before .args .at) 0) (c .before .before .nth-piece .ensures .0)))
     (λ c κs. omega (arith, c .before .before .before .pre .1 .1))
     (λ c.
     let start = c .before .before .before .before in

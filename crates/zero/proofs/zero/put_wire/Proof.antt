@@ -4,13 +4,11 @@ use mathlib.Core.Path.{sym}
 use Prim.Native.Nat.{_*_}
 use native.Mathlib.Omega.{arith}
 use borrow.Author.Needs.{needs}
-use borrow.Rule.Slice.Relend.{CountIs}
 use lib.Seq.{length-take-le}
 use Rattle.zero.proofs.zero.put_wire.Statement.{statement}
 use Rattle.zero.proofs.zero.put_wire.Tie as tie
 
 pub put-wire-spec : {M : Type 1} → statement M
-unfolding CountIs
 put-wire-spec =
     tie.close
     (tie.spec

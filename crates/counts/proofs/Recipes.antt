@@ -1,0 +1,63 @@
+-- The recipe of a gate that is known, and what acceptance says of a wire by its recipe: which wires it is made of, and that they fit. Whoever goes by
+-- recipe needs no other account of acceptance.
+-- Assumes nothing.
+use mathlib.Core.Path.{_≡_, sym, ap}
+use mathlib.Core.List.{List}
+use Prim.Native.Nat.{ℕ, _+_, _*_, _/_, _<_}
+use native.Mathlib.Omega.{arith}
+use borrow.Author.Tests.{ltb-true}
+use lib.Dec.{ltb}
+use lib.ListN.{length}
+use Rattle.words.specs.declared.gate.Gate.{Gate}
+use Rattle.words.specs.declared.gate.Wire.{Wire}
+use Rattle.words.specs.declared.gate.Pair.{Pair}
+use Rattle.words.specs.declared.gate.Scaling.{Scaling}
+use Rattle.words.specs.declared.gate.Choice.{Choice as Chosen}
+use Rattle.circuit.specs.Wires.{wireAt, modulusAt, isInput, inputsIn}
+use Rattle.circuit.specs.Accepted.{GateFits, PairFits, ScalingFits, ChoiceFits, AcceptedCircuit}
+use Rattle.counts.specs.declared.recipe.Lookup.{Lookup}
+use Rattle.counts.specs.declared.recipe.Recipe.{Recipe}
+use Rattle.counts.specs.declared.recipe.Recipe.the-variants.{Entered, Sum, Multiple, Table, Product, Choice}
+use Rattle.counts.specs.Recipe.{recipeOf, recipe, imageOf}
+use Rattle.counts.specs.Images.{ImagesFit}
+
+-- where the gate is known, so is the recipe
+pub by-gate : (wire : Wire) {gate : Gate} → wire .gate ≡ gate → recipe wire ≡ recipeOf gate (wire .modulus)
+unfolding recipe
+by-gate wire e = ap (λ (g : Gate). recipeOf g (wire .modulus)) e
+
+-- a table: over a lower wire, with images below the modulus of the wire that it makes
+pub record TableFits (file : List ℕ) (wires : List Wire) (w : ℕ) (g : Lookup) : Type 0 where
+  pub lower : g .a < w
+  pub images : ImagesFit file (g .images) (modulusAt wires (g .a)) (modulusAt wires w)
+
+-- wire w, by its recipe
+pub data RecipeFits (file : List ℕ) (wires : List Wire) (w : ℕ) : Recipe → Type 0 where
+  entered : w < inputsIn wires → RecipeFits file wires w Entered
+  sum : {g : Pair} → PairFits wires w g → RecipeFits file wires w (Sum g)
+  multiple : {g : Scaling} → ScalingFits wires w g → RecipeFits file wires w (Multiple g)
+  table : {g : Lookup} → TableFits file wires w g → RecipeFits file wires w (Table g)
+  product : {g : Pair} → PairFits wires w g → RecipeFits file wires w (Product g)
+  choice : {g : Chosen} → ChoiceFits wires w g → RecipeFits file wires w (Choice g)
+
+inside : (i n : ℕ) → i < n / 4 → 4 * i < n
+inside i n l = omega arith
+
+module _ {file : List ℕ} {wires : List Wire} {outputs : List ℕ} (accepted : AcceptedCircuit file wires outputs) (w : ℕ) (made : w < length wires) where
+  by-kind : {gate : Gate} → GateFits file wires w gate → isInput gate ≡ ltb w (inputsIn wires) → RecipeFits file wires w (recipeOf gate (modulusAt wires w))
+  unfolding imageOf
+  by-kind (GateFits.input fits) first = entered (ltb-true w (inputsIn wires) (sym first))
+  by-kind (GateFits.add fits) first = sum fits
+  by-kind (GateFits.scale fits) first = multiple fits
+  by-kind (GateFits.multiply fits) first = product fits
+  by-kind (GateFits.project fits) first =
+      table
+      (record {
+        lower = fits .lower;
+        images = record { held = λ v h. record { inFile = inside _ _ (fits .entries v h .inside) }; below = λ v h. fits .entries v h .image };
+      })
+  by-kind (GateFits.select fits) first = choice fits
+
+  pub recipe-fits : RecipeFits file wires w (recipe (wireAt wires w))
+  unfolding recipe
+  recipe-fits = by-kind (accepted .fits w made .gate) (accepted .inputsFirst w made)

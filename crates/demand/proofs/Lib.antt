@@ -1,2 +1,0 @@
--- Demand 3 over the calls' contracts.
-pub mod Demand

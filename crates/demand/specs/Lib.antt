@@ -1,2 +1,0 @@
--- A round as it is played with the calls.
-pub mod Played

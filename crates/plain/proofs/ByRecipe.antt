@@ -1,0 +1,62 @@
+-- The plain value of a wire by its recipe, from the values of lower wires: what a gate is garbled as computes what the gate does.
+-- Assumes nothing.
+use mathlib.Core.Path.{_≡_, refl, ap, ap₂, _∙_}
+use mathlib.Core.List.{List}
+use Prim.Native.Nat.{ℕ, _<_}
+use native.Mathlib.Omega.{arith}
+use lib.Dec.{eqb}
+use lib.ListN.{length, getD}
+use Rattle.lists.proofs.Grown.{getD-grown, getD-grown-below}
+use Rattle.residue.specs.Residue.{add, mul}
+use Rattle.words.specs.declared.gate.Gate.{Gate}
+use Rattle.words.specs.declared.gate.Gate.the-variants.{Input, Add, Scale, Multiply, Project, Select}
+use Rattle.words.specs.declared.gate.Wire.{Wire}
+use Rattle.circuit.specs.Wires.{wireAt, modulusAt}
+use Rattle.circuit.specs.Accepted.{GateFits, AcceptedCircuit}
+use Rattle.counts.specs.declared.recipe.Recipe.{Recipe}
+use Rattle.counts.specs.declared.recipe.Recipe.the-variants.{Entered, Sum, Multiple, Table, Product, Choice}
+use Rattle.counts.specs.Recipe.{recipeOf, recipe, imageOf}
+use Rattle.plain.specs.Plain.{chosenBy, plainBy, plainTo, plainValues}
+
+-- the value of wire w, of modulus p, by its recipe
+unfoldable pub valueBy : List ℕ → List ℕ → ℕ → ℕ → Recipe → (ℕ → ℕ) → ℕ
+valueBy file inputs w p Entered value = getD inputs w 0
+valueBy file inputs w p (Sum g) value = add p (value (g .a)) (value (g .b))
+valueBy file inputs w p (Multiple g) value = mul p (g .constant) (value (g .a))
+valueBy file inputs w p (Table g) value = imageOf file (g .images) p (value (g .a))
+valueBy file inputs w p (Product g) value = mul p (value (g .a)) (value (g .b))
+valueBy file inputs w p (Choice g) value = chosenBy (eqb (value (g .bit)) 0) (value (g .a)) (value (g .b))
+
+-- it is that of the gate
+same-value : (file inputs : List ℕ) (w p : ℕ) (gate : Gate) (value : ℕ → ℕ)
+    → plainBy file inputs w p gate value ≡ valueBy file inputs w p (recipeOf gate p) value
+unfolding plainBy valueBy imageOf
+same-value file inputs w p (Input g) value = refl
+same-value file inputs w p (Add g) value = refl
+same-value file inputs w p (Scale g) value = refl
+same-value file inputs w p (Multiply g) value = refl
+same-value file inputs w p (Project g) value = refl
+same-value file inputs w p (Select g) value = refl
+
+-- a gate looks at lower wires alone
+by-lower-wires : {file : List ℕ} {wires : List Wire} {w : ℕ} {gate : Gate} (values : List ℕ) (p : ℕ) (f g : ℕ → ℕ)
+    → GateFits file wires w gate → ((a : ℕ) → a < w → f a ≡ g a) → plainBy file values w p gate f ≡ plainBy file values w p gate g
+unfolding plainBy
+by-lower-wires values p f g (GateFits.input fits) e = refl
+by-lower-wires values p f g (GateFits.add {gate} fits) e = ap₂ (add p) (e (gate .a) (fits .a .lower)) (e (gate .b) (fits .b .lower))
+by-lower-wires values p f g (GateFits.scale {gate} fits) e = ap (mul p (gate .constant)) (e (gate .a) (fits .a .lower))
+by-lower-wires values p f g (GateFits.multiply {gate} fits) e = ap₂ (mul p) (e (gate .a) (fits .a .lower)) (e (gate .b) (fits .b .lower))
+by-lower-wires values p f g (GateFits.project {gate} fits) e = rw (e (gate .a) (fits .lower))
+by-lower-wires values p f g (GateFits.select {gate} fits) e =
+    rw (e (gate .bit) (fits .lower), e (gate .a) (fits .a .lower), e (gate .b) (fits .b .lower))
+
+-- the value of a wire of an accepted circuit is one step from those of lower wires
+pub plain-step : {file : List ℕ} {wires : List Wire} {outputs : List ℕ} → AcceptedCircuit file wires outputs → (w : ℕ) → w < length wires
+    → (values : List ℕ) → getD (plainValues file wires values) w 0
+    ≡ valueBy file values w (modulusAt wires w) (recipe (wireAt wires w)) (λ a. getD (plainValues file wires values) a 0)
+unfolding plainValues plainTo recipe
+plain-step {file} {wires} accepted w made values =
+    getD-grown _ (length wires) w 0 made
+    ∙ by-lower-wires values (modulusAt wires w) _ (λ a. getD (plainValues file wires values) a 0) (accepted .fits w made .gate)
+    (λ a l. getD-grown-below _ w (length wires) a 0 l (omega arith))
+    ∙ same-value file values w (modulusAt wires w) (wireAt wires w .gate) (λ a. getD (plainValues file wires values) a 0)
