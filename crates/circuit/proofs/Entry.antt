@@ -9,7 +9,7 @@ use lib.Dec.{leb·suc-suc}
 use lib.ListN.{take}
 use borrow.Author.Tests.{le-leb, lt-leb}
 use Rattle.words.specs.Bits.{wordAt}
-use Rattle.words.specs.Reading.{afterEntry}
+use Rattle.words.specs.Items.{afterEntry}
 use Rattle.words.specs.Entries.{goodEntry, GoodEntries}
 use Rattle.words.proofs.Steps.{good-entry}
 use Rattle.words.specs.declared.gate.Wire.{Wire}

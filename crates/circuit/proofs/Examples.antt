@@ -7,7 +7,8 @@ use Prim.Native.Nat.{ℕ, _/_, _%_}
 use Rattle.residue.specs.Prime.{remaindersBelow, isPrime}
 use Rattle.checks.specs.declared.Refusal.the-variants.{NotMade, NoOutput, WrongEnd}
 use Rattle.checks.specs.declared.Answer.the-variants.{Accepted, Refused}
-use Rattle.words.specs.Reading.{check, afterEntry, readWord}
+use Rattle.words.specs.Items.{check, afterEntry}
+use Rattle.words.specs.Reading.{said, readWord}
 use Rattle.circuit.specs.File.{ended, after, readFrom, headed, readFile}
 use Rattle.circuit.specs.Accepted.{AcceptedCircuit}
 use Rattle.circuit.proofs.Accepted.{accepted}
@@ -26,7 +27,7 @@ abbrev sixKinds : List ℕ
 sixKinds = bytes (gates ++ (0xa000_0006 ∷ 0xb000_0000 ∷ []))
 
 six-kinds : (readFile sixKinds) .answer ≡ Accepted
-unfolding readFile headed readFrom after ended readWord check afterEntry isPrime remaindersBelow
+unfolding readFile headed readFrom after ended readWord said check afterEntry isPrime remaindersBelow
 six-kinds = refl
 
 pub six-kinds-accepted : AcceptedCircuit sixKinds ((readFile sixKinds) .wires) ((readFile sixKinds) .outputs)
@@ -34,17 +35,17 @@ six-kinds-accepted = accepted sixKinds six-kinds
 
 -- an output that is not made; no output; no end word, with a byte left over or not; a byte after the end word
 not-made : (readFile (bytes (gates ++ (0xa000_0007 ∷ 0xb000_0000 ∷ [])))) .answer ≡ Refused NotMade 11
-unfolding readFile headed readFrom after ended readWord check afterEntry isPrime remaindersBelow
+unfolding readFile headed readFrom after ended readWord said check afterEntry isPrime remaindersBelow
 not-made = refl
 
 no-output : (readFile (bytes (gates ++ (0xb000_0000 ∷ 0xb000_0000 ∷ [])))) .answer ≡ Refused NoOutput 11
-unfolding readFile headed readFrom after ended readWord check afterEntry isPrime remaindersBelow
+unfolding readFile headed readFrom after ended readWord said check afterEntry isPrime remaindersBelow
 no-output = refl
 
 no-end : (readFile (bytes (gates ++ (0xa000_0006 ∷ [])) ++ (0 ∷ []))) .answer ≡ Refused WrongEnd 12
-unfolding readFile headed readFrom after ended readWord check afterEntry isPrime remaindersBelow
+unfolding readFile headed readFrom after ended readWord said check afterEntry isPrime remaindersBelow
 no-end = refl
 
 byte-left : (readFile (sixKinds ++ (0 ∷ []))) .answer ≡ Refused WrongEnd 13
-unfolding readFile headed readFrom after ended readWord check afterEntry isPrime remaindersBelow
+unfolding readFile headed readFrom after ended readWord said check afterEntry isPrime remaindersBelow
 byte-left = refl

@@ -16,7 +16,8 @@ use Rattle.residue.specs.Prime.{isPrime}
 use Rattle.residue.proofs.Table.{and-left}
 use Rattle.checks.specs.declared.Refusal.{Refusal}
 use Rattle.words.specs.Bits.{wordAt}
-use Rattle.words.specs.Reading.{inputDue, gateDue, outputDue, afterEntry, wireOf, readWord}
+use Rattle.words.specs.Items.{inputDue, gateDue, outputDue, afterEntry, wireOf}
+use Rattle.words.specs.Reading.{readWord}
 use Rattle.words.specs.declared.gate.Projection.{Projection}
 use Rattle.words.specs.declared.gate.Choice.{Choice}
 use Rattle.words.specs.declared.gate.Gate.the-variants.{Project, Select}
@@ -28,7 +29,8 @@ use Rattle.words.specs.declared.gate.Step.the-variants.{Refused, Makes, Goes, G
 use Rattle.circuit.specs.Wires.{wireAt, modulusAt, moduliOf, isInput, inputsIn}
 use Rattle.circuit.specs.File.{wordsIn}
 use Rattle.circuit.specs.Accepted.{Alike, EntryFits, GateFits, WireFits}
-use Rattle.circuit.proofs.Word.{Room, Two, Did, did}
+use Rattle.words.proofs.Judged.{Room, Two}
+use Rattle.circuit.proofs.Word.{Did, did}
 use Rattle.circuit.proofs.More.{made, modulus-of, length-more, modulus-kept, fits-kept, wire-kept, wire-new, modulus-new, fits-new, each, inputs-le, inputs-more}
 
 -- what is true of the wires and outputs before an index: all of `AcceptedCircuit` but that there is an output; and the index is not

@@ -12,23 +12,15 @@ use Rattle.residue.specs.Prime.{isPrime}
 use Rattle.residue.proofs.Table.{and-left, and-right}
 use Rattle.checks.specs.declared.Refusal.{Refusal}
 use Rattle.words.specs.Bits.{kind, owner, inputModulus, wireA, wireB, oneWire, constant, outputModulus, image}
-use Rattle.words.specs.Reading.{check, inputDue, gateDue, outputDue, afterEntry, wireOf, pairOf, entryWhere, branchesWhere, readWord}
+use Rattle.words.specs.Items.{check, judged, inputDue, gateDue, outputDue, afterEntry, wireOf, pairOf, entryItem, branchesItem}
+use Rattle.words.specs.Reading.{said, does, readWord}
+use Rattle.words.proofs.Judged.{Room, Two, room, two}
 use Rattle.words.specs.declared.gate.Gate.the-variants.{Input, Add, Scale, Multiply, Project, Select}
+use Rattle.words.specs.declared.item.Item.{Item}
 use Rattle.words.specs.declared.gate.Due.{Due}
 use Rattle.words.specs.declared.gate.Due.the-variants.{Inputs, Gates, Outputs, Entries, Branches}
 use Rattle.words.specs.declared.gate.Step.{Step}
 use Rattle.words.specs.declared.gate.Step.the-variants.{Refused, Makes, Goes, Gives, Ends}
-
--- an input or a gate may stand here, and there is room for its wire
-pub record Room (here : Bool) (made : ℕ) : Type 0 where
-  pub due : here ≡ true
-  pub room : made < 1024
-
--- two wires that are made, of one modulus
-pub record Two (moduli : List ℕ) (a b : ℕ) : Type 0 where
-  pub first : a < length moduli
-  pub second : b < length moduli
-  pub same : getD moduli a 0 ≡ getD moduli b 0
 
 pub data Did (moduli : List ℕ) (given at : ℕ) (due : Due) (w : ℕ) : Step → Type 0 where
   refused : {reason : Refusal} → Did moduli given at due w (Refused reason)
@@ -40,11 +32,11 @@ pub data Did (moduli : List ℕ) (given at : ℕ) (due : Due) (w : ℕ) : Step �
   add :
       Room (gateDue due) (length moduli)
       → Two moduli (wireA w) (wireB w)
-      → Did moduli given at due w (Makes (wireOf (Add (pairOf w)) (getD moduli (wireA w) 0)) Gates)
+      → Did moduli given at due w (Makes (wireOf (Add (pairOf (wireA w) (wireB w))) (getD moduli (wireA w) 0)) Gates)
   multiply :
       Room (gateDue due) (length moduli)
       → Two moduli (wireA w) (wireB w)
-      → Did moduli given at due w (Makes (wireOf (Multiply (pairOf w)) (getD moduli (wireA w) 0)) Gates)
+      → Did moduli given at due w (Makes (wireOf (Multiply (pairOf (wireA w) (wireB w))) (getD moduli (wireA w) 0)) Gates)
   scale :
       Room (gateDue due) (length moduli)
       → oneWire w < length moduli
@@ -86,20 +78,11 @@ module _ {moduli : List ℕ} {given at : ℕ} {due : Due} {w : ℕ} where
   checked true reason f = f refl
   checked false reason f = refused
 
-room : (here : Bool) (made : ℕ) → here ≡ true → ltb made 1024 ≡ true → Room here made
-room here made h e = record { due = h; room = ltb-true made 1024 e }
-
-two :
-    (moduli : List ℕ) (a b : ℕ)
-    → (ltb a (length moduli) && ltb b (length moduli)) ≡ true
-    → eqb (getD moduli a 0) (getD moduli b 0) ≡ true
-    → Two moduli a b
-two moduli a b e f =
-    record {
-      first = ltb-true a (length moduli) (and-left _ (ltb b (length moduli)) e);
-      second = ltb-true b (length moduli) (and-right (ltb a (length moduli)) _ e);
-      same = eqb-true (getD moduli a 0) (getD moduli b 0) f;
-    }
+  -- the bits that must be zero are zero, or nothing is said
+  whether : (b : Bool) (item : Item) → (b ≡ true → Did moduli given at due w (judged moduli given at due item)) → Did moduli given at due w (does moduli given at due (said b item))
+  unfolding said
+  whether true item f = f refl
+  whether false item f = refused
 
 positive : (c p : ℕ) → (ltb 0 c && ltb c p) ≡ true → 0 < c
 positive c p e = ltb-true 0 c (and-left (ltb 0 c) (ltb c p) e)
@@ -109,14 +92,14 @@ below c p e = ltb-true c p (and-right (ltb 0 c) (ltb c p) e)
 
 -- an entry and a branches word go by what is due
 entry-where :
-    (moduli : List ℕ) (given at : ℕ) (due other : Due) (w : ℕ) → kind w ≡ 7 → due ≡ other → Did moduli given at due w (entryWhere w other)
+    (moduli : List ℕ) (given at : ℕ) (due other : Due) (w : ℕ) → kind w ≡ 7 → due ≡ other → Did moduli given at due w (entryItem other (image w))
 entry-where moduli given at due Inputs w k e = refused
 entry-where moduli given at due Gates w k e = refused
 entry-where moduli given at due Outputs w k e = refused
 entry-where moduli given at due (Entries left modulus) w k e = checked _ _ λ fits. entry e k (ltb-true _ _ fits)
 entry-where moduli given at due (Branches bit) w k e = refused
 
-branches-where : (moduli : List ℕ) (given at : ℕ) (due other : Due) (w : ℕ) → due ≡ other → Did moduli given at due w (branchesWhere moduli w other)
+branches-where : (moduli : List ℕ) (given at : ℕ) (due other : Due) (w : ℕ) → due ≡ other → Did moduli given at due w (branchesItem moduli other (wireA w) (wireB w))
 branches-where moduli given at due Inputs w e = refused
 branches-where moduli given at due Gates w e = refused
 branches-where moduli given at due Outputs w e = refused
@@ -129,53 +112,53 @@ by-kind moduli given at due w zero e = rw e refused
 -- head
 by-kind moduli given at due w (suc zero) e =
     rw e
-    (checked _ _ λ clean. refused)
+    (whether _ _ λ clean. refused)
 -- input
 by-kind moduli given at due w (suc (suc zero)) e =
     rw e
-    (checked _ _ λ clean. checked _ _ λ here. checked _ _ λ prime. checked _ _ λ owner. checked _ _ λ space.
-    input (room _ _ here space) prime (ltb-true _ _ owner))
+    (whether _ _ λ clean. checked _ _ λ here. checked _ _ λ prime. checked _ _ λ owner. checked _ _ λ space.
+    input (room _ _ here space) (and-right (ltb (inputModulus w) 256) _ prime) (ltb-true _ _ owner))
 -- add
 by-kind moduli given at due w (suc (suc (suc zero))) e =
     rw e
-    (checked _ _ λ clean. checked _ _ λ here. checked _ _ λ made. checked _ _ λ same. checked _ _ λ space.
+    (whether _ _ λ clean. checked _ _ λ here. checked _ _ λ made. checked _ _ λ same. checked _ _ λ space.
     add (room _ _ here space) (two moduli _ _ made same))
 -- scale
 by-kind moduli given at due w (suc (suc (suc (suc zero)))) e =
     rw e
-    (checked _ _ λ clean. checked _ _ λ here. checked _ _ λ made. checked _ _ λ range. checked _ _ λ space.
+    (whether _ _ λ clean. checked _ _ λ here. checked _ _ λ made. checked _ _ λ range. checked _ _ λ space.
     scale (room _ _ here space) (ltb-true _ _ made) (positive _ _ range) (below _ _ range))
 -- multiply
 by-kind moduli given at due w (suc (suc (suc (suc (suc zero))))) e =
     rw e
-    (checked _ _ λ clean. checked _ _ λ here. checked _ _ λ made. checked _ _ λ same. checked _ _ λ space.
+    (whether _ _ λ clean. checked _ _ λ here. checked _ _ λ made. checked _ _ λ same. checked _ _ λ space.
     multiply (room _ _ here space) (two moduli _ _ made same))
 -- project
 by-kind moduli given at due w (suc (suc (suc (suc (suc (suc zero)))))) e =
     rw e
-    (checked _ _ λ clean. checked _ _ λ here. checked _ _ λ prime. checked _ _ λ made. checked _ _ λ space.
-    project (room _ _ here space) prime (ltb-true _ _ made))
+    (whether _ _ λ clean. checked _ _ λ here. checked _ _ λ prime. checked _ _ λ made. checked _ _ λ space.
+    project (room _ _ here space) (and-right (ltb (outputModulus w) 256) _ prime) (ltb-true _ _ made))
 -- entry
 by-kind moduli given at due w (suc (suc (suc (suc (suc (suc (suc zero))))))) e =
     rw e
-    (checked _ _ λ clean. entry-where moduli given at due due w e refl)
+    (whether _ _ λ clean. entry-where moduli given at due due w e refl)
 -- select
 by-kind moduli given at due w (suc (suc (suc (suc (suc (suc (suc (suc zero)))))))) e =
     rw e
-    (checked _ _ λ clean. checked _ _ λ here. checked _ _ λ made. checked _ _ λ bit. checked _ _ λ space.
+    (whether _ _ λ clean. checked _ _ λ here. checked _ _ λ made. checked _ _ λ bit. checked _ _ λ space.
     select (room _ _ here space) (ltb-true _ _ made) (eqb-true _ _ bit))
 -- branches
 by-kind moduli given at due w (suc (suc (suc (suc (suc (suc (suc (suc (suc zero))))))))) e =
     rw e
-    (checked _ _ λ clean. branches-where moduli given at due due w refl)
+    (whether _ _ λ clean. branches-where moduli given at due due w refl)
 -- output
 by-kind moduli given at due w (suc (suc (suc (suc (suc (suc (suc (suc (suc (suc zero)))))))))) e =
     rw e
-    (checked _ _ λ clean. checked _ _ λ here. checked _ _ λ made. checked _ _ λ space. output here (ltb-true _ _ made) (ltb-true _ _ space))
+    (whether _ _ λ clean. checked _ _ λ here. checked _ _ λ made. checked _ _ λ space. output here (ltb-true _ _ made) (ltb-true _ _ space))
 -- end
 by-kind moduli given at due w (suc (suc (suc (suc (suc (suc (suc (suc (suc (suc (suc zero))))))))))) e =
     rw e
-    (checked _ _ λ clean. checked _ _ λ here. checked _ _ λ some. end here (ltb-true _ _ some))
+    (whether _ _ λ clean. checked _ _ λ here. checked _ _ λ some. end here (ltb-true _ _ some))
 -- no kind
 by-kind moduli given at due w (suc (suc (suc (suc (suc (suc (suc (suc (suc (suc (suc (suc k)))))))))))) e = rw e refused
 

@@ -10,7 +10,8 @@ use Rattle.residue.specs.Residue.{add, sub, mul}
 use Rattle.residue.specs.Vector.{addV, subV, mulV, keyV}
 use Rattle.shake.specs.Numbers.{bytesOf}
 use Rattle.checks.specs.Checked.{answered, andThen, unless, noneBad, afterwards}
-use Rattle.words.specs.Reading.{check, readWord, afterEntry}
+use Rattle.words.specs.Items.{check, afterEntry}
+use Rattle.words.specs.Reading.{said, readWord}
 use Rattle.circuit.specs.Wires.{inputsIn}
 use Rattle.circuit.specs.File.{accepted, readFile, headed, readFrom, after, ended}
 use Rattle.pads.specs.Pad.{padSum, padRow}
@@ -29,13 +30,13 @@ use Rattle.examples.specs.Marked.{noPad, drew, inputs, keys, rows, opene
 
 -- the files that are decoded are those of the circuits that are garbled and opened
 pub product-reads : readFile productFile ≡ accepted productWires (3 ∷ [])
-unfolding productFile productWires fileOf bytesOf readFile headed readFrom after ended readWord check afterEntry isPrime remaindersBelow
+unfolding productFile productWires fileOf bytesOf readFile headed readFrom after ended readWord said check afterEntry isPrime remaindersBelow
 product-reads = refl
 
 pub choice-reads : readFile choiceFile ≡ accepted choiceWires (3 ∷ [])
-unfolding choiceFile choiceWires fileOf bytesOf readFile headed readFrom after ended readWord check afterEntry isPrime remaindersBelow
+unfolding choiceFile choiceWires fileOf bytesOf readFile headed readFrom after ended readWord said check afterEntry isPrime remaindersBelow
 choice-reads = refl
 
 pub table : cases ≡ printed
-unfolding cases printed wire scaled product select productDecoded choiceDecoded counts input productExternals productKeys choiceExternals choiceKeys productWires productDraw choiceWires choiceDraw drew noPad inputs keys rows openedKeys openedExternals inputsIn blocks part sumTo grown extended first firstFrom add sub mul zipWith addV subV mulV keyV recipe zeroKeyBy maskBy zeroKeysTo masksTo zeroKey mask padSum padRow productMessage₀ productMessage₁ chooserMessage₀ chooserMessage₁ correctorMessage₀ correctorMessage₁ row productRow₀ productRow₁ productRows chooserRow₀ chooserRow₁ correctorRow₀ correctorRow₁ choiceRows rowsFrom gateRows garbledRows outputMasks chosen corrector bared keysOfProduct keysOfChoice searched added openFrom rowAt ownRows openInput multiplierOf openWire openedTo opened wireKeys wireExternals same multiplier inputKey decodeChecked decodeAfter answered andThen unless noneBad afterwards fileChecked sameNumbers lengthsChecked productFile choiceFile fileOf bytesOf readFile headed readFrom after ended readWord check afterEntry isPrime remaindersBelow
+unfolding cases printed wire scaled product select productDecoded choiceDecoded counts input productExternals productKeys choiceExternals choiceKeys productWires productDraw choiceWires choiceDraw drew noPad inputs keys rows openedKeys openedExternals inputsIn blocks part sumTo grown extended first firstFrom add sub mul zipWith addV subV mulV keyV recipe zeroKeyBy maskBy zeroKeysTo masksTo zeroKey mask padSum padRow productMessage₀ productMessage₁ chooserMessage₀ chooserMessage₁ correctorMessage₀ correctorMessage₁ row productRow₀ productRow₁ productRows chooserRow₀ chooserRow₁ correctorRow₀ correctorRow₁ choiceRows rowsFrom gateRows garbledRows outputMasks chosen corrector bared keysOfProduct keysOfChoice searched added openFrom rowAt ownRows openInput multiplierOf openWire openedTo opened wireKeys wireExternals same multiplier inputKey decodeChecked decodeAfter answered andThen unless noneBad afterwards fileChecked sameNumbers lengthsChecked productFile choiceFile fileOf bytesOf readFile headed readFrom after ended readWord said check afterEntry isPrime remaindersBelow
 table = refl

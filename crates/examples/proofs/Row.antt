@@ -12,7 +12,8 @@ use Rattle.keccak.specs.RoundConstants.{addLast, turn, register, rc, constantBi
 use Rattle.shake.specs.Numbers.{littleEndian, firstNumbers, numbers, bytesOf}
 use Rattle.shake.specs.Padding.{bitsOf, messageBits, number, packed, pad10*1, suffix, suffixed, paddedBits, paddedMessage}
 use Rattle.shake.specs.Shake.{xored, absorbBlock, absorbBlocks, zeroState, absorbed, laneBytes, squeezeBlocks, squeezed, shake256}
-use Rattle.words.specs.Reading.{check, readWord, afterEntry}
+use Rattle.words.specs.Items.{check, afterEntry}
+use Rattle.words.specs.Reading.{said, readWord}
 use Rattle.circuit.specs.File.{readFile, headed, readFrom, after, ended}
 use Rattle.counts.specs.Recipe.{recipe, imageOf}
 use Rattle.counts.specs.Moduli.{someBelow}
@@ -26,5 +27,5 @@ use Rattle.round.specs.Example.{fileOf}
 use Rattle.examples.specs.Row.{circuit, contributions, rowZero, computed}
 
 pub row-computed : rowZero ≡ computed
-unfolding rowZero computed circuit fileOf contributions readFile headed readFrom after ended readWord check isPrime remaindersBelow afterEntry blocks part sumTo grown extended add sub mul zipWith addV mulV keyV keccakF rounds round addLast turn register rc constantBit roundConstant littleEndian firstNumbers numbers bytesOf bitsOf messageBits number packed pad10*1 suffix suffixed paddedBits paddedMessage xored absorbBlock absorbBlocks zeroState absorbed laneBytes squeezeBlocks squeezed shake256 someBelow contributionSize offsetAt recordAt keyAt shareAt drawn zeroKey mask zeroKeysTo masksTo zeroKeyBy maskBy rowpad bound padInput shakePad padSum padRow projectMessage recipe imageOf row tableRow
+unfolding rowZero computed circuit fileOf contributions readFile headed readFrom after ended readWord said check isPrime remaindersBelow afterEntry blocks part sumTo grown extended add sub mul zipWith addV mulV keyV keccakF rounds round addLast turn register rc constantBit roundConstant littleEndian firstNumbers numbers bytesOf bitsOf messageBits number packed pad10*1 suffix suffixed paddedBits paddedMessage xored absorbBlock absorbBlocks zeroState absorbed laneBytes squeezeBlocks squeezed shake256 someBelow contributionSize offsetAt recordAt keyAt shareAt drawn zeroKey mask zeroKeysTo masksTo zeroKeyBy maskBy rowpad bound padInput shakePad padSum padRow projectMessage recipe imageOf row tableRow
 row-computed = refl

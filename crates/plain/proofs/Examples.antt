@@ -6,7 +6,8 @@ use Prim.Native.Nat.{ℕ}
 use Rattle.residue.specs.Prime.{isPrime, remaindersBelow}
 use Rattle.residue.specs.Residue.{add, mul}
 use Rattle.checks.specs.declared.Refusal.the-variants.{WrongLength, ValueTooLarge, NoHead}
-use Rattle.words.specs.Reading.{readWord, check}
+use Rattle.words.specs.Items.{check}
+use Rattle.words.specs.Reading.{said, readWord}
 use Rattle.circuit.specs.Wires.{inputsIn}
 use Rattle.circuit.specs.File.{readFile, headed, readFrom, ended}
 use Rattle.circuit.specs.File.{after as afterWord}
@@ -32,19 +33,19 @@ file =
     ∷ []
 
 accepted : plainChecked file (3 ∷ 4 ∷ []) (0 ∷ []) ≡ passed
-unfolding file readFile headed readFrom ended afterWord readWord check isPrime remaindersBelow plainChecked fileChecked answered lengthsChecked sameNumbers valuesChecked inputsIn noneBad first firstFrom unless andThen
+unfolding file readFile headed readFrom ended afterWord readWord said check isPrime remaindersBelow plainChecked fileChecked answered lengthsChecked sameNumbers valuesChecked inputsIn noneBad first firstFrom unless andThen
 accepted = refl
 
 outputs : plainOutputs file (readFile file .wires) (readFile file .outputs) (3 ∷ 4 ∷ []) ≡ 2 ∷ []
-unfolding file readFile headed readFrom ended afterWord readWord check isPrime remaindersBelow blocks plainOutputs plainValues plainTo plainBy grown extended add mul
+unfolding file readFile headed readFrom ended afterWord readWord said check isPrime remaindersBelow blocks plainOutputs plainValues plainTo plainBy grown extended add mul
 outputs = refl
 
 one-value : plainChecked file (3 ∷ []) (0 ∷ []) ≡ refused WrongLength (at 0)
-unfolding file readFile headed readFrom ended afterWord readWord check isPrime remaindersBelow plainChecked fileChecked answered lengthsChecked sameNumbers valuesChecked inputsIn noneBad first firstFrom unless andThen
+unfolding file readFile headed readFrom ended afterWord readWord said check isPrime remaindersBelow plainChecked fileChecked answered lengthsChecked sameNumbers valuesChecked inputsIn noneBad first firstFrom unless andThen
 one-value = refl
 
 too-large : plainChecked file (3 ∷ 5 ∷ []) (0 ∷ []) ≡ refused ValueTooLarge (at 1)
-unfolding file readFile headed readFrom ended afterWord readWord check isPrime remaindersBelow plainChecked fileChecked answered lengthsChecked sameNumbers valuesChecked inputsIn noneBad first firstFrom unless andThen
+unfolding file readFile headed readFrom ended afterWord readWord said check isPrime remaindersBelow plainChecked fileChecked answered lengthsChecked sameNumbers valuesChecked inputsIn noneBad first firstFrom unless andThen
 too-large = refl
 
 no-file : plainChecked [] (3 ∷ 5 ∷ []) (0 ∷ []) ≡ refused NoHead (at 0)

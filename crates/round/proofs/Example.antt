@@ -15,7 +15,8 @@ use Rattle.residue.specs.Residue.{add, mul}
 use Rattle.checks.specs.Checked.{unless, noneBad, unlessFree, noneBadFree}
 use Rattle.checks.specs.Checked.Checked.{passed}
 use Rattle.words.specs.declared.gate.Wire.{Wire}
-use Rattle.words.specs.Reading.{check, afterEntry, readWord}
+use Rattle.words.specs.Items.{check, afterEntry}
+use Rattle.words.specs.Reading.{said, readWord}
 use Rattle.circuit.specs.Wires.{modulusAt, inputsIn}
 use Rattle.circuit.specs.File.{Read, accepted, ended, after, readFrom, headed, readFile}
 use Rattle.counts.specs.Recipe.{recipe}
@@ -32,7 +33,7 @@ use Rattle.round.specs.Example.{fileOf, file, wires, outputs, contributi
 use Rattle.round.proofs.RealPad.{shake-claim}
 
 reads : readFile file ≡ accepted wires outputs
-unfolding file fileOf bytesOf wires outputs readFile headed readFrom after ended readWord check afterEntry isPrime remaindersBelow
+unfolding file fileOf bytesOf wires outputs readFile headed readFrom after ended readWord said check afterEntry isPrime remaindersBelow
 reads = refl
 
 three : (P : ℕ → Type 0) → P 0 → P 1 → P 2 → (w : ℕ) → w < 3 → P w

@@ -4,7 +4,7 @@ use mathlib.Core.Path.{_≡_, refl, sym, ap, ap₂, _∙_}
 use mathlib.Core.Logic.{_⊎_, inl, inr, ⊎-elim}
 use mathlib.Core.Bool.{Bool, true, false, true≢false, not, _&&_}
 use mathlib.Core.List.{List}
-use Prim.Native.Nat.{ℕ, zero, suc, _+_, _-_, _≤_, _<_}
+use Prim.Native.Nat.{ℕ, zero, suc, _+_, _-_, _^_, _≤_, _<_}
 use native.Mathlib.Nat.{eq-or-lt-of-le}
 use native.Mathlib.Omega.{arith}
 use lib.Dec.{eqb, leb, ltb}
@@ -20,7 +20,9 @@ use Rattle.words.specs.declared.gate.Due.the-variants.{Gates, Entries}
 use Rattle.words.specs.declared.gate.Step.{Step}
 use Rattle.words.specs.declared.gate.Step.the-variants.{Refused, Goes}
 use Rattle.words.specs.Bits.{bits, kind, clear, image}
-use Rattle.words.specs.Reading.{check, afterEntry, byKind, readWord}
+use Rattle.words.specs.Items.{check, judged, afterEntry, isModulus}
+use Rattle.words.specs.declared.item.Item.{Item}
+use Rattle.words.specs.Reading.{said, byKind, saidBy, does, readWord, Said, Nothing}
 use Rattle.words.specs.Entries.{goodEntry}
 
 pub after-last : (left modulus : ℕ) → left ≤ 1 → Gates ≡ afterEntry left modulus
@@ -54,24 +56,30 @@ module _ (moduli : List ℕ) (made wire : ℕ) where
   pub modulus-none : made ≤ wire → 0 ≡ getD (take made moduli) wire 0
   modulus-none h = sym (List·getD-eq-default (take made moduli) 0 (simp length-take (omega arith)))
 
-module _ (moduli : List ℕ) (given at : ℕ) (due : Due) (w : ℕ) where
+module _ (w : ℕ) where
   -- a word of a kind
-  pub of-kind : (k : ℕ) → kind w ≡ k → getD (byKind moduli given at due w) k (Refused UnknownWord) ≡ readWord moduli given at due w
-  unfolding readWord
-  of-kind k e = ap (λ j. getD (byKind moduli given at due w) j (Refused UnknownWord)) (sym e)
+  pub of-kind : (k : ℕ) → kind w ≡ k → getD (byKind w) k Nothing ≡ saidBy w
+  of-kind k e = ap (λ j. getD (byKind w) j Nothing) (sym e)
 
   -- a word of no kind from 1 to 11
-  pub no-kind : (k : ℕ) → kind w ≡ k → (k ≡ 0) ⊎ (12 ≤ k) → Refused UnknownWord ≡ readWord moduli given at due w
+  pub no-kind : (k : ℕ) → kind w ≡ k → (k ≡ 0) ⊎ (12 ≤ k) → Nothing ≡ saidBy w
   no-kind k e (inl none) = of-kind 0 (e ∙ none)
-  no-kind k e (inr past) =
-      sym (List·getD-eq-default (byKind moduli given at due w) (Refused UnknownWord) past) ∙ of-kind k e
+  no-kind k e (inr past) = sym (List·getD-eq-default (byKind w) Nothing past) ∙ of-kind k e
 
-  -- a good entry, where so many are due, only changes what is due
-  pub good-entry : (left modulus : ℕ) → goodEntry modulus w ≡ true → due ≡ Entries left modulus → readWord moduli given at due w ≡ Goes (afterEntry left modulus)
-  unfolding check
-  good-entry left modulus g e =
-      sym (of-kind 7 (eqb-true (kind w) 7 (and-left _ _ g)))
-      ∙ rw (e, and-left (clear w 27 8) _ (and-right (eqb (kind w) 7) _ g), and-right (clear w 27 8) _ (and-right (eqb (kind w) 7) _ g))
+-- check 2, and then what is said is judged
+pub said-so : (moduli : List ℕ) (given at : ℕ) (due : Due) (clean : Bool) (item : Item)
+    → check clean UnknownWord (judged moduli given at due item) ≡ does moduli given at due (said clean item)
+unfolding check said
+said-so moduli given at due true item = refl
+said-so moduli given at due false item = refl
+
+-- a good entry, where so many are due, only changes what is due
+pub good-entry : (moduli : List ℕ) (given at : ℕ) (due : Due) (w left modulus : ℕ) → goodEntry modulus w ≡ true → due ≡ Entries left modulus
+    → readWord moduli given at due w ≡ Goes (afterEntry left modulus)
+unfolding check said readWord
+good-entry moduli given at due w left modulus g e =
+    ap (does moduli given at due) (sym (of-kind w 7 (eqb-true (kind w) 7 (and-left _ _ g))))
+    ∙ rw (e, and-left (clear w 27 8) _ (and-right (eqb (kind w) 7) _ g), and-right (clear w 27 8) _ (and-right (eqb (kind w) 7) _ g))
 
 -- a nest of checks, told check by check: one that holds, and the first that does not
 pub passed : {ok : Bool} (reason : Refusal) {next r : Step} → ok ≡ true → r ≡ next → r ≡ check ok reason next
@@ -124,11 +132,8 @@ one-made e f h = sym (h ∙ ap₂ ltb f (sym e))
 pub two-tests : {ra rb r : Bool} {x y : Bool} → ra ≡ x → rb ≡ y → r ≡ (ra && rb) → (x && y) ≡ r
 two-tests e f h = sym (h ∙ ap₂ _&&_ e f)
 
-pub in-bounds : {k m k′ m′ : ℕ} {r : Bool} → k ≡ k′ → m ≡ m′ → r ≡ (ltb 0 k && ltb k m) → (ltb 0 k′ && ltb k′ m′) ≡ r
-in-bounds e f h = sym (h ∙ ap₂ _&&_ (ap (ltb 0) e) (ap₂ ltb e f))
-
-pub prime-told : {p p′ : ℕ} {r : Bool} → p ≡ p′ → r ≡ isPrime p → isPrime p′ ≡ r
-prime-told e h = sym (h ∙ ap isPrime e)
+pub in-bounds : (k : ℕ) {m m′ : ℕ} {r : Bool} → m ≡ m′ → r ≡ (ltb 0 k && ltb k m) → (ltb 0 k && ltb k m′) ≡ r
+in-bounds k f h = sym (h ∙ ap (λ (m : ℕ). ltb 0 k && ltb k m) f)
 
 module _ (xs : List ℕ) {a a′ m : ℕ} (f : a ≡ a′) (h : m ≡ getD xs a 0) where
   pub modulus-told : m ≡ getD xs a′ 0
@@ -168,3 +173,32 @@ module _ (modulus w : ℕ) (byte : modulus < 256) (word : w < 4294967296) where
       let z : bits w 27 8 ≡ 0 = eqb-true (bits w 27 8) 0 (and-left (clear w 27 8) _ (and-right (eqb (kind w) 7) _ e)) in
       let i : image w < modulus = ltb-true (image w) modulus (and-right (clear w 27 8) _ (and-right (eqb (kind w) 7) _ e)) in
       rw (le-leb 0x7000_0000 w (omega (arith, k, z, word)), lt-ltb w (0x7000_0000 + modulus) (omega (arith, k, z, i, word))) refl)
+
+pub at-most : {made : ℕ} → made < 1024 → made ≤ 1024
+at-most h = omega arith
+
+-- a wire that is made has a number below 1,024, and one of two that are
+pub narrow : (made a : ℕ) {r : Bool} → r ≡ ltb a made → r ≡ true → made ≤ 1024 → a < 65536
+narrow made a e f h = omega (arith, ltb-true a made (sym e ∙ f), h)
+
+module _ (made a b : ℕ) {r : Bool} (e : r ≡ (ltb a made && ltb b made)) (f : r ≡ true) (h : made ≤ 1024) where
+  pub narrow-left : a < 65536
+  narrow-left = narrow made a refl (and-left (ltb a made) (ltb b made) (sym e ∙ f)) h
+
+  pub narrow-right : b < 65536
+  narrow-right = narrow made b refl (and-right (ltb a made) (ltb b made) (sym e ∙ f)) h
+
+-- a modulus is a byte, a byte is one if it is prime, and no wider number is one
+module _ (p : ℕ) where
+  pub modulus-byte : isModulus p ≡ true → p < 256
+  modulus-byte e = ltb-true p 256 (and-left (ltb p 256) (isPrime p) e)
+
+  pub modulus-small : p < 256 → isPrime p ≡ isModulus p
+  modulus-small h = rw (lt-ltb p 256 h) refl
+
+  pub modulus-wide : 256 ≤ p → false ≡ isModulus p
+  modulus-wide h = rw (le-ltb p 256 h) refl
+
+-- a constant below a byte is one
+pub below-byte : (k m : ℕ) {r : Bool} → r ≡ (ltb 0 k && ltb k m) → r ≡ true → m < 256 → k < 256
+below-byte k m e f h = omega (arith, ltb-true k m (and-right (ltb 0 k) (ltb k m) (sym e ∙ f)), h)

@@ -34,19 +34,19 @@ pub fn kind(w: u32) -> u32
 }
 
 // The eight bits of a word from bit `low` up.
-pub fn byte_from(w: u32, low: u32) -> u8
+pub fn byte_from(w: u32, low: u32) -> u32
     requires { ⌜ low < 25 ⌝ }
     ensures { λ r. ⌜ r ≡ bits w (low + 7) low ⌝ }
 {
-    ((w >> low) % 256) as u8
+    (w >> low) % 256
 }
 
 // The ten bits of a word from bit `low` up.
-pub fn wire_from(w: u32, low: u32) -> u16
+pub fn wire_from(w: u32, low: u32) -> u32
     requires { ⌜ low < 23 ⌝ }
     ensures { λ r. ⌜ r ≡ bits w (low + 9) low ⌝ }
 {
-    ((w >> low) % 1024) as u16
+    (w >> low) % 1024
 }
 
 // Four bytes, little-endian.

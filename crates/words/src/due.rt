@@ -1,6 +1,6 @@
 // What may come next in a circuit file.
 ghost use mathlib.Core.Path.{_≡_};
-ghost use Rattle.words.specs.Reading.{inputDue, gateDue, outputDue, afterEntry};
+ghost use Rattle.words.specs.Items.{inputDue, gateDue, outputDue, afterEntry};
 use super::gate::Due;
 
 pub fn input_due(due: Due) -> bool

@@ -7,4 +7,4 @@ use Rattle.words.proofs.bits.byte_from.Tie as tie
 
 pub byte-from-spec : {M : Type 1} → statement M
 byte-from-spec =
-    tie.close (tie.spec (λ c. search needs) (λ c. search needs) (λ c. bits-from (c .args .w) (c .args .low) 7))
+    tie.close (tie.spec (λ c. search needs) (λ c. bits-from (c .args .w) (c .args .low) 7))

@@ -7,4 +7,4 @@ use Rattle.words.proofs.bits.wire_from.Tie as tie
 
 pub wire-from-spec : {M : Type 1} → statement M
 wire-from-spec =
-    tie.close (tie.spec (λ c. search needs) (λ c. search needs) (λ c. bits-from (c .args .w) (c .args .low) 9))
+    tie.close (tie.spec (λ c. search needs) (λ c. bits-from (c .args .w) (c .args .low) 9))
