@@ -34,7 +34,7 @@ impl fmt::Display for Answer {
 }
 
 /// What stands in a number or byte that no call has written.
-const BLANK_NUMBER: u32 = 0xA5C3_5A3C;
+pub const BLANK_NUMBER: u32 = 0xA5C3_5A3C;
 const BLANK_BYTE: u8 = 0xA5;
 
 /// Bytes on either side of a lent buffer, which nobody was lent.
@@ -57,8 +57,14 @@ pub struct Lent {
 }
 
 impl Lent {
-    fn file(content: &[u8]) -> Self {
+    pub fn file(content: &[u8]) -> Self {
         Lent::guarded(content, AFTER_FILE)
+    }
+
+    /// Tables to be read. What stands right after them are entries that every table can have, so
+    /// that a writer that runs past tables that are cut off finds what it was missing.
+    pub fn tables(content: &[u8]) -> Self {
+        Lent::guarded(content, [0; GUARD])
     }
 
     /// A buffer with this content.

@@ -14,6 +14,7 @@ pub mod open;
 pub mod pad;
 pub mod plain;
 pub mod price_sheet;
+pub mod record;
 #[cfg(test)]
 mod refusal_tests;
 pub mod rng;
@@ -22,3 +23,6 @@ mod round_tests;
 pub mod session;
 pub mod shake;
 pub mod word;
+pub mod writer;
+#[cfg(test)]
+mod writer_tests;

@@ -9,6 +9,7 @@ mod hex;
 mod round;
 mod second;
 mod sheets;
+mod writes;
 
 use call::Call;
 use compare::price_sheet::price_sheet;
@@ -26,6 +27,8 @@ compare show FILE inputs_of N PARTY
 compare show FILE plain VALUES OUTPUTS   (values in hexadecimal, - for none; number of outputs)
 compare rounds SEED COUNT            whole rounds of calls, and such calls with faults
 compare round SEED CASE              the calls of one case of such a run, printed
+compare writes SEED COUNT            lists of records written as files, and files taken back
+compare write SEED CASE              the calls of one case of such a run, printed
 compare examples                     the specification's examples on both programs
 compare sheet                        the price sheet of standard input, by this program
 compare sheets SEED COUNT PROGRAM    a price-sheet program on generated texts
@@ -49,6 +52,8 @@ fn run(arguments: &[&str]) -> Result<ExitCode, String> {
         ["show", file, call @ ..] => show(file, call),
         ["rounds", seed, count] => Ok(round::run(number(seed)?, number(count)?)),
         ["round", seed, case] => Ok(round::one(number(seed)?, number(case)?)),
+        ["writes", seed, count] => Ok(writes::run(number(seed)?, number(count)?)),
+        ["write", seed, case] => Ok(writes::one(number(seed)?, number(case)?)),
         ["examples"] => Ok(examples::run()),
         ["sheet"] => sheet(),
         ["sheets", seed, count, program] => {

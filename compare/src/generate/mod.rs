@@ -1,7 +1,10 @@
-//! Generators of circuit files and texts, good and damaged.
+//! Generators of circuit files, lists of records and texts, good and damaged.
 
 pub mod circuits;
 pub mod damage;
+mod drawing;
+pub mod record_sweep;
+pub mod records;
 mod round_sweep;
 pub mod settings;
 pub mod sweep;
