@@ -38,6 +38,7 @@ if [ -z "$programs" ]; then
     programs=target/bin
 fi
 
+version=$(sed -n 's/^#define LUPIKNAM_VERSION //p' include/lupiknam.h)
 install -d "$to/lib/pkgconfig" "$to/include" "$to/bin"
 install -m 644 "$library/libengine.a" "$to/lib/liblupiknam.a"
 install -m 644 include/lupiknam.h "$to/include/lupiknam.h"
@@ -50,7 +51,7 @@ includedir=\${prefix}/include
 
 Name: lupiknam
 Description: Garbled circuits for two to eight parties, proved
-Version: 1
+Version: $version
 Cflags: -I\${includedir}
 Libs: -L\${libdir} -llupiknam
 EOF

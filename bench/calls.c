@@ -1,6 +1,11 @@
-// Times garbling and one party's opening. Each line is `name ratio=R ns=T rows=N`: T is the time of one call, R that time divided by
-// the time of as many of the baseline's Keccak permutations as its pads need. The two are timed in turn, and medians of many runs are
-// taken, so that a busy machine slows both alike. N is the number of rows garbled or opened.
+// Times the writing of a file, and garbling and one party's opening. A call and what it is set against are timed in turn, and medians of
+// many runs are taken, so that a busy machine slows both alike.
+//
+// First, on the first file, `write-usual` and `records-usual`: `name ratio=R ns=T`, where T is the time of one call and R that time divided
+// by the time of reading the file.
+//
+// Of garbling and opening, each line is `name ratio=R ns=T rows=N`: R is the time divided by that of as many of the baseline's Keccak
+// permutations as the call's pads need, N the number of rows garbled or opened.
 //
 // After each such line stands the same measurement as a point, for bench/plot: `point call=C n=N k=K rows=R ms=T permutations=P ratio=Q`.
 // Here R is the number of rows of the circuit, in opening too, and P the permutations that the call's pads need.
@@ -13,7 +18,7 @@
 #include <string.h>
 #include <time.h>
 
-enum { MOST_RUNS = 31, LEAST_RUNS = 5 };
+enum { MOST_RUNS = 31, LEAST_RUNS = 5, SHORT_RUNS = 41, SHORT_CALLS = 200 };
 
 // a circuit, and a round on it
 static struct {
@@ -26,6 +31,14 @@ static struct {
     uint8_t *contributions, *row_bytes, *keys, *wire_keys, *wire_externals;
     uint8_t values[1024], externals[1024], input_masks[1024], output_masks[256], decoded[256], plain[256];
 } r;
+
+// a circuit's records, and the file written from them
+static struct {
+    lupiknam_record list[1024 + 256];
+    uint8_t *tables, *file;
+    size_t tables_length;
+    uint32_t words;
+} w;
 
 static uint64_t random_state = 1;
 
@@ -202,6 +215,53 @@ static void time_call(const char *name, const char *kind, void (*call)(void), ui
     fflush(stdout);
 }
 
+static void read_again(void) {
+    uint32_t c[6];
+    must(lupiknam_read(r.file, r.file_length, c, c + 1, c + 2, c + 3, c + 4, c + 5), "read");
+}
+
+static void load_records(void) {
+    must(lupiknam_records(r.file, r.file_length, w.list, r.wires + r.outputs, w.tables, w.tables_length), "records");
+}
+
+static void write_records(void) {
+    must(lupiknam_write(w.list, r.wires + r.outputs, w.tables, w.tables_length, w.file, r.file_length, &w.words), "write");
+}
+
+// the time of one of many calls, each too short for the clock
+static double time_of(void (*call)(void)) {
+    double start = now();
+    for (int i = 0; i < SHORT_CALLS; i++)
+        call();
+    return (now() - start) / SHORT_CALLS;
+}
+
+static void beside_reading(const char *name, void (*call)(void)) {
+    double times[SHORT_RUNS], ratios[SHORT_RUNS];
+    for (int run = 0; run < SHORT_RUNS; run++) {
+        times[run] = time_of(call);
+        ratios[run] = times[run] / time_of(read_again);
+    }
+    printf("%s ratio=%.2f ns=%.0f\n", name, median(ratios, SHORT_RUNS), median(times, SHORT_RUNS));
+    fflush(stdout);
+}
+
+// the file must come back out of its records before the calls are timed
+static void writing(void) {
+    for (size_t at = 0; 4 * at < r.file_length; at++)
+        w.tables_length += word(at) >> 28 == 7;
+    w.tables = room(w.tables_length);
+    w.file = room(r.file_length);
+    load_records();
+    write_records();
+    if (4 * (size_t)w.words != r.file_length || memcmp(w.file, r.file, r.file_length) != 0) {
+        puts("a file's records are not written as the same bytes");
+        exit(1);
+    }
+    beside_reading("write-usual", write_records);
+    beside_reading("records-usual", load_records);
+}
+
 static void both(const char *what, uint32_t n, uint32_t k) {
     char name[60];
     make_room(n, k);
@@ -216,6 +276,7 @@ int main(int count, char **files) {
     if (count < 2)
         return 2;
     read_file(files[1]);
+    writing();
     for (size_t at = 0; at < 6; at++)
         both("", (uint32_t[]){3, 5, 8}[at / 2], (uint32_t[]){16, 128}[at % 2]);
     // growth with the number of parties; the inputs have three owners

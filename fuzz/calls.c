@@ -1,10 +1,11 @@
 /*
- * Fuzzing of the C face: a libFuzzer harness over the eight calls of lupiknam.h. fuzz/run builds and runs it; docs/ROBUSTNESS.md says what
+ * Fuzzing of the C face: a libFuzzer harness over the ten calls of lupiknam.h. fuzz/run builds and runs it; docs/ROBUSTNESS.md says what
  * it can see and what it cannot.
  *
  * An input is a head, `struct head`, and a circuit file. The file is lent as it stands, or mended into one that the reader must accept, or
- * mended and then damaged in one place. Each call is made once with loose lengths and contents; where the circuit is accepted and n, K and
- * party are in range, a whole round is played, and then some of its calls again with one fault each, whose answer is known.
+ * mended and then damaged in one place. Each call is made once with loose lengths and contents. The file's words are written again from
+ * their records, as they are and with one fault each. Where the circuit is accepted and n, K and party are in range, a whole round is
+ * played, and then some of its calls again with one fault each, whose answer is known.
  *
  * Every buffer lies against a page that faults when it is touched; what a call only reads is lent by a mapping that faults when it is
  * written. What a call writes is filled first with 255, which is below no modulus: so a byte that an accepted call leaves out shows, and so
@@ -18,7 +19,7 @@
 #include <sys/mman.h>
 #include <unistd.h>
 
-enum { MOST_WIRES = 1024, MOST_OUTPUTS = 256, MOST_WORDS = 1 << 16, MOST_ROWS = 1 << 19, PRIMES = 54, NUMBERS = 22 };
+enum { MOST_WIRES = 1024, MOST_OUTPUTS = 256, MOST_WORDS = 1 << 16, MOST_ROWS = 1 << 19, PRIMES = 54, NUMBERS = 23 };
 enum { FILL = 255, SLACK = 256 };   /* what written buffers hold before a call, and how far around them it is looked at afterwards */
 enum { MOST_PERMUTATIONS = 60000 }; /* of a round: about 20 ms; a dearer one is not played */
 
@@ -77,10 +78,12 @@ static struct buffer values = ROOM(4096), figures = ROOM(4096), input_masks = RO
 static struct buffer own_values = ROOM(4096), own_masks = ROOM(4096), own_externals = ROOM(4096), externals = ROOM(4096);
 static struct buffer contributions = ROOM(1 << 22), contribution = ROOM(1 << 20), rows = ROOM(1 << 21);
 static struct buffer own_keys = ROOM(1 << 18), keys = ROOM(1 << 21), wire_keys = ROOM(1 << 21), wire_externals = ROOM(4096);
-static struct buffer decoded = ROOM(4096);
+static struct buffer decoded = ROOM(4096), records = ROOM(1 << 21), tables = ROOM(1 << 17), written_file = ROOM(1 << 19);
+static struct buffer written_words = ROOM(4096);
 
 static struct buffer *const all[] = {&file, &numbers, &count, &meter, &values, &figures, &input_masks, &output_masks, &own_values,
-    &own_masks, &own_externals, &externals, &contributions, &contribution, &rows, &own_keys, &keys, &wire_keys, &wire_externals, &decoded};
+    &own_masks, &own_externals, &externals, &contributions, &contribution, &rows, &own_keys, &keys, &wire_keys, &wire_externals, &decoded,
+    &records, &tables, &written_file, &written_words};
 enum { BUFFERS = sizeof all / sizeof all[0] };
 
 /* Room bytes of a shared object, with a page before and after that faults. */
@@ -124,9 +127,15 @@ static const uint8_t *shown(const struct buffer *b) {
     return b->length == 0 && head.lying & 2 ? NULL : b->theirs + start(b);
 }
 
+/* The bytes that a buffer's length counts in. */
+static size_t unit(const struct buffer *b) {
+    return b == &records ? sizeof(lupiknam_record) : 1;
+}
+
 /* A length, but no more than there is space for. */
 static void set_length(struct buffer *b, size_t length) {
     b->length = length < b->room - SLACK ? length : b->room - SLACK;
+    b->length -= b->length % unit(b);
 }
 
 static void set_bytes(struct buffer *b, const uint8_t *from) {
@@ -158,6 +167,7 @@ static lupiknam_answer reading; /* what lupiknam_read answers */
 static struct {
     uint32_t wires, inputs, outputs, rows, moduli, records; /* in the order of lupiknam_read */
 } counts;
+static size_t entries; /* of all tables */
 
 static uint8_t primes[PRIMES], modulus[MOST_WIRES], owner[MOST_WIRES], records_of[MOST_WIRES], row_modulus[MOST_ROWS];
 static uint8_t contribution_modulus[128 * PRIMES + 129 * 3 * MOST_WIRES];
@@ -214,6 +224,9 @@ static void list_word(uint32_t w) {
     case 6:
         list_wire((uint8_t)(w >> 10), 1, low, 1);
         break;
+    case 7:
+        entries++;
+        break;
     case 9: /* the second word of a select */
         list_wire(low, 3, 2u * low + 2, 2);
         break;
@@ -227,6 +240,7 @@ static void list_word(uint32_t w) {
 static void list_circuit(void) {
     memset(&counts, 0, sizeof counts);
     opened_rows = 0;
+    entries = 0;
     for (size_t i = 1; i < file.length / 4; i++)
         list_word(word_at(bytes(&file), i));
     for (size_t i = 0; i < PRIMES; i++)
@@ -262,7 +276,9 @@ static void list_own(void) {
 /* The length that a buffer must have, and below what each of its bytes must be. */
 static size_t exact(const struct buffer *b) {
     const size_t row = (size_t)n * k;
-    return b == &numbers ? 24 : b == &count || b == &meter ? 4
+    return b == &numbers ? 24 : b == &count || b == &meter || b == &written_words ? 4
+        : b == &records ? (counts.wires + counts.outputs) * sizeof(lupiknam_record) : b == &tables ? entries
+        : b == &written_file ? file.length
         : b == &contributions ? n * contribution_size() : b == &contribution ? contribution_size()
         : b == &rows ? counts.rows * row : b == &keys ? counts.inputs * row : b == &wire_keys ? counts.wires * row
         : b == &own_keys ? (size_t)counts.inputs * k : b == &wire_externals ? counts.wires
@@ -280,11 +296,11 @@ static unsigned modulus_at(const struct buffer *b, size_t i) {
 
 /* ---- one call, and what holds of every call */
 
-enum call { READ, INPUTS_OF, PLAIN, GARBLE, EXTERNALS, INPUT_KEYS, OPEN, DECODE, CALLS };
+enum call { READ, INPUTS_OF, PLAIN, GARBLE, EXTERNALS, INPUT_KEYS, OPEN, DECODE, RECORDS, WRITE, CALLS };
 enum { TAKES_N = 1, TAKES_K = 2, TAKES_PARTY = 4 };
 #define BITS(from, to) ((2u << (to)) - (1u << (from)))
 
-/* What each call is given besides the file, what it writes, and with which numbers it may refuse. */
+/* What each call is given besides the file, what it writes, and with which numbers it may refuse. WRITE alone is given no file. */
 static const struct {
     const char *name;
     uint32_t given, refusals;
@@ -299,13 +315,23 @@ static const struct {
     {"input_keys", TAKES_N | TAKES_K | TAKES_PARTY, BITS(1, 17), {&contribution, &externals}, {&own_keys}},
     {"open", TAKES_N | TAKES_K | TAKES_PARTY, BITS(1, 20), {&contribution, &externals, &keys, &rows}, {&wire_keys, &wire_externals}},
     {"decode", 0, BITS(1, 10) | BITS(14, 15), {&wire_externals, &output_masks}, {&decoded}},
+    {"records", 0, BITS(1, 10) | BITS(14, 14), {0}, {&records, &tables}},
+    {"write", 0, BITS(2, 9) | BITS(14, 14) | BITS(22, 22), {&records, &tables}, {&written_file, &written_words}},
 };
 
-/* What libFuzzer is told besides its own coverage of this file: which call gave which answer, and which word met which refusal. */
+/* What libFuzzer is told besides its own coverage of this file: which call gave which answer, which word or record met which refusal. */
 #define COUNTERS __attribute__((section("__libfuzzer_extra_counters")))
 COUNTERS static uint8_t met_answer[CALLS][NUMBERS];
-COUNTERS static uint8_t met_word[11][16];
+COUNTERS static uint8_t met_word[11][16], met_record[NUMBERS][16];
 static uint64_t met[CALLS][NUMBERS], made_calls, rounds, faulty;
+
+static lupiknam_record *record(size_t index) {
+    return (lupiknam_record *)(void *)bytes(&records) + index;
+}
+
+static size_t record_count(void) {
+    return records.length / sizeof(lupiknam_record);
+}
 
 static lupiknam_answer call(enum call c) {
     uint32_t *u = (uint32_t *)(void *)bytes(&numbers), *m = (uint32_t *)(void *)bytes(&meter);
@@ -328,8 +354,13 @@ static lupiknam_answer call(enum call c) {
     case OPEN:
         return lupiknam_open(f, file.length, n, k, party, IN(contribution), IN(externals), IN(keys), IN(rows), OUT(wire_keys),
             OUT(wire_externals));
-    default:
+    case DECODE:
         return lupiknam_decode(f, file.length, IN(wire_externals), IN(output_masks), OUT(decoded));
+    case RECORDS:
+        return lupiknam_records(f, file.length, (lupiknam_record *)(void *)lent(&records), record_count(), OUT(tables));
+    default:
+        return lupiknam_write((const lupiknam_record *)(const void *)shown(&records), record_count(), IN(tables), OUT(written_file),
+            (uint32_t *)(void *)bytes(&written_words));
     }
 }
 
@@ -337,6 +368,9 @@ static lupiknam_answer call(enum call c) {
 static int place_fits(enum call c, lupiknam_answer a) {
     const size_t words = file.length / 4;
     size_t longest = 0;
+    if (c == WRITE) /* 0 and 22 name no place */
+        return a.number == 0 || a.number == 22 ? a.place == 0 : a.number == 9 ? a.place == record_count()
+            : a.place < record_count() + (a.number == 14);
     for (int i = 0; i < 4 && calls[c].read[i]; i++)
         longest = calls[c].read[i]->length > longest ? calls[c].read[i]->length : longest;
     switch (a.number) {
@@ -359,6 +393,21 @@ static int place_fits(enum call c, lupiknam_answer a) {
     }
 }
 
+/* What writing laid down: the reader takes it back to the same records and tables; the buffer is as it was past the words. */
+static void judge_file(void) {
+    static lupiknam_record back[MOST_WIRES + MOST_OUTPUTS];
+    static uint8_t back_tables[1 << 17];
+    const size_t length = 4 * (size_t)word_at(bytes(&written_words), 0);
+    const uint8_t *from = bytes(&written_file);
+    uint32_t c[6];
+    check(length <= written_file.length && all_are(from + length, from + written_file.length, FILL), "nothing is written past the words");
+    lupiknam_answer a = lupiknam_read(from, length, c, c + 1, c + 2, c + 3, c + 4, c + 5);
+    check(a.number == 0 && c[0] + c[2] == record_count(), "the reader accepts what was written");
+    a = lupiknam_records(from, length, back, record_count(), back_tables, tables.length);
+    check(a.number == 0 && memcmp(back, record(0), records.length) == 0 && memcmp(back_tables, bytes(&tables), tables.length) == 0,
+        "what was written reads back as it was lent");
+}
+
 /* A written buffer after a call: nothing around it is changed, and its bytes are as the answer says. */
 static void judge_written(const struct buffer *b, uint32_t number, uint32_t meter_before) {
     const uint8_t *from = bytes(b), *to = from + b->length;
@@ -367,8 +416,10 @@ static void judge_written(const struct buffer *b, uint32_t number, uint32_t mete
         check((uint64_t)word_at(from, 0) == meter_before + (number == 0 ? (uint64_t)counts.rows : 0), "the meter counts accepted rows");
     else if (number != 0)
         check(all_are(from, to, number == 20 ? 0 : FILL), "a refused call leaves written buffers as they were, or zero after 20");
-    else if (b == &numbers || b == &count)
-        return;
+    else if (b == &numbers || b == &count || b == &records || b == &tables || b == &written_words)
+        return; /* looked at where they are read */
+    else if (b == &written_file)
+        judge_file();
     else
         for (size_t i = 0; i < b->length; i++)
             check(from[i] < modulus_at(b, i), "what an accepted call writes is below its modulus");
@@ -385,14 +436,16 @@ static lupiknam_answer make(enum call c) {
     check(place_fits(c, a), "the place of an answer is one that there is");
     if (c == READ)
         reading = a;
-    if (reading.number != 0)
+    if (c == WRITE)
+        met_record[a.number][a.place < record_count() ? record(a.place)->kind % 16 : 0] = 1;
+    else if (reading.number != 0)
         check(a.number == reading.number && a.place == reading.place, "every call refuses a bad file alike");
     else
         check(a.number == 0 || a.number > 10, "no call finds a fault in an accepted file");
     met_answer[c][a.number] = 1;
     met[c][a.number]++;
     made_calls++;
-    if (a.number > 0 && a.number <= 10 && a.place < file.length / 4)
+    if (c != WRITE && a.number > 0 && a.number <= 10 && a.place < file.length / 4)
         met_word[a.number][word_at(bytes(&file), a.place) >> 28] = 1;
     if (c == READ && a.number == 0)
         list_circuit();
@@ -476,7 +529,7 @@ static size_t mend_word(uint32_t w, const uint8_t *from, size_t words, size_t at
     if (kind == 2 && *stage == 0 && made < MOST_WIRES) {
         uint8_t m = prime_near(w);
         put_wire(2u << 28 | ((w >> 16 & 255) % n) << 16 | m, m);
-    } else if (kind >= 3 && kind <= 8 && kind != 7 && *stage <= 1 && made > 0 && made < MOST_WIRES) {
+    } else if (kind >= 3 && kind <= 8 && kind != 7 && *stage <= 1 && made > 0 && made < MOST_WIRES && mended_words < MOST_WORDS - 1024) {
         *stage = 1;
         if (kind == 6)
             return put_project(w, from, words, at);
@@ -571,7 +624,7 @@ static int in_range(void) {
 
 static void loosen(struct buffer *b) {
     static const uint8_t contents[] = {0, 1, 2, 250, 254, 255};
-    size_t right = in_range() && reading.number == 0 ? exact(b) : drawn(64);
+    size_t right = in_range() && reading.number == 0 ? exact(b) / unit(b) : drawn(64);
     switch (head.loose & 8 ? 3 : drawn(8)) {
     case 0:
         right += 1 + drawn(4);
@@ -583,17 +636,225 @@ static void loosen(struct buffer *b) {
         right = drawn(4096);
         break;
     }
-    set_length(b, right);
+    set_length(b, right * unit(b));
     memset(bytes(b), in_range() && dear() ? FILL : contents[head.loose % 8 % sizeof contents], b->length);
 }
 
 static void call_loosely(void) {
     for (size_t i = 1; i < BUFFERS; i++)
-        if (all[i] != &numbers && all[i] != &count && all[i] != &meter)
+        if (all[i] != &numbers && all[i] != &count && all[i] != &meter && all[i] != &written_words)
             loosen(all[i]);
     for (enum call c = INPUTS_OF; c < CALLS; c++) {
         memcpy(bytes(&meter), &head.meter, 4);
         make(c);
+    }
+}
+
+/* ---- writing: the file's words as records; where the file is accepted, these again with one fault each, whose answer is known */
+
+enum { KIND, MODULUS, OWNER, CONSTANT, BIT, A, B, FIELDS };
+_Static_assert(sizeof(lupiknam_record) == FIELDS * sizeof(uint32_t), "a record is its fields");
+
+/* The fields that each kind of record uses. */
+static const uint8_t uses[11] = {[2] = 1 << MODULUS | 1 << OWNER, [3] = 1 << A | 1 << B, [4] = 1 << CONSTANT | 1 << A,
+    [5] = 1 << A | 1 << B, [6] = 1 << MODULUS | 1 << A, [8] = 1 << BIT | 1 << A | 1 << B, [10] = 1 << A};
+
+static struct {
+    lupiknam_record records[MOST_WORDS + 1024];
+    uint8_t entries[MOST_WORDS + 1024];
+    size_t records_taken, entries_taken;
+} taken;
+
+/* What a word adds: a record of its own, a select's branches or an entry. */
+static void take_word(uint32_t w) {
+    const uint32_t kind = w >> 28, high = w >> 10 & 1023, low = w & 1023;
+    lupiknam_record *next = &taken.records[taken.records_taken];
+    if (kind == 7) {
+        taken.entries[taken.entries_taken++] = (uint8_t)w;
+    } else if (kind == 9 && taken.records_taken > 0) {
+        next[-1].a = high;
+        next[-1].b = low;
+    } else {
+        const int two_wires = kind == 3 || kind == 5;
+        *next = (lupiknam_record){.kind = kind, .b = two_wires ? low : 0};
+        next->modulus = kind == 2 ? w & 255 : kind == 6 ? high & 255 : 0;
+        next->owner = kind == 2 ? w >> 16 & 255 : 0;
+        next->constant = kind == 4 ? high & 255 : 0;
+        next->bit = kind == 8 ? low : 0;
+        next->a = two_wires ? high : kind == 4 || kind == 6 || kind == 10 ? low : 0;
+        taken.records_taken++;
+    }
+}
+
+static void lend_taken(void) {
+    set_length(&records, taken.records_taken * sizeof(lupiknam_record));
+    set_bytes(&records, (const uint8_t *)taken.records);
+    set_length(&tables, taken.entries_taken);
+    set_bytes(&tables, taken.entries);
+    set_length(&written_file, reading.number == 0 ? file.length : drawn(4096));
+}
+
+/* The records of the file's words, up to its end word or to the word that the reader refuses. */
+static void take_words(void) {
+    const size_t words = file.length / 4, place = reading.place;
+    const size_t stop = reading.number == 0 ? words - 1 : reading.number == 9 ? place
+        : reading.number >= 2 && reading.number <= 8 ? place + 1 : words;
+    taken.records_taken = taken.entries_taken = 0;
+    for (size_t at = 1; at < stop; at++)
+        take_word(word_at(bytes(&file), at));
+    lend_taken();
+}
+
+enum { ODD_KIND, UNUSED_FIELD, ODD_FIELD, OTHER_MODULUS, OUT_OF_ORDER, NO_OUTPUT, BAD_ENTRY, FEW_ENTRIES, MANY_ENTRIES, SHORT_FILE,
+    LONG_FILE, OTHER_LENGTH, ANY_FIELDS, WRITING_FAULTS };
+COUNTERS static uint8_t met_writing[WRITING_FAULTS];
+
+static const uint32_t wide_numbers[] = {256, 257, 258, 1024, 1025, 1 << 16 | 2, 1u << 31 | 5, UINT32_MAX};
+
+static uint32_t *field(size_t index, unsigned number) {
+    return (uint32_t *)(void *)record(index) + number;
+}
+
+/* A field that a record uses, or one that it does not use. */
+static unsigned some_field(size_t index, unsigned used, unsigned from) {
+    unsigned number = 1 + from % (FIELDS - 1);
+    while ((uses[record(index)->kind] >> number & 1) != used)
+        number = 1 + number % (FIELDS - 1);
+    return number;
+}
+
+/* A field with a number that is too large for it: judged by its value, however wide that is. */
+static void spoil_field(size_t index, struct fault f) {
+    const unsigned number = some_field(index, 1, f.where), by = f.where / 8;
+    const uint32_t wire = index < counts.wires ? (uint32_t)index : counts.wires;
+    const uint32_t limit = number == MODULUS ? 252 : number == OWNER ? 8 : number == CONSTANT ? modulus[record(index)->a] : wire;
+    const uint32_t value = by & 1 ? wide_numbers[by / 2 % 8] : limit + by / 2 % 4;
+    *field(index, number) = value < limit ? limit : value;
+    must(WRITE, number == MODULUS ? 4 : number == OWNER || number == CONSTANT ? 7 : 5, index);
+}
+
+/* A wire that is there, but of another modulus than is due. */
+static void spoil_modulus(size_t index, struct fault f) {
+    const lupiknam_record *r = record(index);
+    const unsigned number = r->kind == 8 && f.where & 1 ? BIT : B;
+    const unsigned due = number == BIT ? 2 : modulus[r->a];
+    uint32_t wire = 0;
+    while (wire < index && modulus[wire] == due)
+        wire++;
+    if (index >= counts.wires || wire == index || (r->kind != 3 && r->kind != 5 && r->kind != 8))
+        return;
+    *field(index, number) = wire;
+    must(WRITE, 6, index);
+}
+
+/* A record that is none, one where it is not due, or no output at all. */
+static void spoil_kind(size_t index, struct fault f) {
+    static const uint32_t odd[] = {0, 1, 7, 9, 11, 12, 15, 16 + 2, 256 + 3, 1u << 31 | 10, UINT32_MAX};
+    if (f.kind == ODD_KIND) {
+        record(index)->kind = odd[f.where / 8 % 11];
+        must(WRITE, 2, index);
+    } else if (f.kind == UNUSED_FIELD) {
+        *field(index, some_field(index, 0, f.where)) = 1u << f.where / 8 % 32;
+        must(WRITE, 2, index);
+    } else if (f.kind == NO_OUTPUT) {
+        set_length(&records, counts.wires * sizeof(lupiknam_record));
+        set_bytes(&records, (const uint8_t *)taken.records);
+        must(WRITE, 9, counts.wires);
+    } else if (index > 0 && index + 1 < counts.wires) { /* an output among the wires */
+        *record(index) = (lupiknam_record){.kind = 10};
+        must(WRITE, 3, index + 1);
+    }
+}
+
+/* The record of the project whose table has this entry. */
+static size_t project_of(size_t entry) {
+    size_t index = 0, end = 0;
+    for (;; index++)
+        if (record(index)->kind == 6 && entry < (end += modulus[record(index)->a]))
+            return index;
+}
+
+static void spoil_tables(struct fault f) {
+    if (f.kind == MANY_ENTRIES) {
+        set_length(&tables, entries + 1 + f.where % 4);
+        set_bytes(&tables, taken.entries);
+        must(WRITE, 14, record_count());
+    } else if (entries > 0) {
+        const size_t entry = f.where % entries, index = project_of(entry);
+        if (f.kind == FEW_ENTRIES) {
+            set_length(&tables, entry);
+            set_bytes(&tables, taken.entries);
+            must(WRITE, 14, index);
+        } else {
+            const unsigned q = record(index)->modulus;
+            bytes(&tables)[entry] = (uint8_t)(q + f.where / 8 % (256 - q));
+            must(WRITE, 7, index);
+        }
+    }
+}
+
+/* Writing minds only a buffer that is too short; reading records minds every length. */
+static void spoil_lengths(struct fault f) {
+    if (f.kind == SHORT_FILE) {
+        set_length(&written_file, file.length - 1 - f.where % file.length);
+        must(WRITE, 22, 0);
+    } else if (f.kind == LONG_FILE) {
+        set_length(&written_file, file.length + 1 + f.where % 64);
+        must(WRITE, 0, 0);
+    } else {
+        struct buffer *b = f.where & 1 ? &records : &tables;
+        const size_t step = (1 + f.where / 4 % 8) * unit(b);
+        set_length(b, f.where & 2 && b->length >= step ? b->length - step : b->length + step);
+        must(RECORDS, 14, 0);
+    }
+}
+
+/* Some fields of some records as they come: what holds of every call must hold, and what is accepted reads back. */
+static void spoil_any(void) {
+    for (uint32_t changes = 1 + drawn(3); changes > 0 && record_count() > 0; changes--) {
+        const uint32_t value = drawn(2) ? drawn(12) : drawn(2) ? wide_numbers[drawn(8)] : drawn(1024);
+        *field(drawn((uint32_t)record_count()), drawn(FIELDS)) = value;
+    }
+    make(WRITE);
+}
+
+static void spoil_writing(struct fault f) {
+    const uint64_t before = made_calls;
+    f.kind = (uint8_t)((f.call + f.kind) % WRITING_FAULTS);
+    met_writing[f.kind] = 1;
+    const size_t index = drawn((uint32_t)record_count());
+    if (f.kind == ODD_FIELD)
+        spoil_field(index, f);
+    else if (f.kind == OTHER_MODULUS)
+        spoil_modulus(index, f);
+    else if (f.kind <= NO_OUTPUT)
+        spoil_kind(index, f);
+    else if (f.kind <= MANY_ENTRIES)
+        spoil_tables(f);
+    else if (f.kind <= OTHER_LENGTH)
+        spoil_lengths(f);
+    else
+        spoil_any();
+    faulty += made_calls - before;
+    lend_taken();
+}
+
+/* An accepted file comes out of its records as it is; a word that is refused by 4 to 9 is refused alike as a record. */
+static void write_again(void) {
+    take_words();
+    if (reading.number >= 4 && reading.number <= 9) {
+        must(WRITE, reading.number, taken.records_taken - (reading.number != 9));
+    } else if (reading.number != 0) {
+        make(WRITE);
+        spoil_any();
+    } else {
+        must(RECORDS, 0, 0);
+        check(memcmp(record(0), taken.records, records.length) == 0 && memcmp(bytes(&tables), taken.entries, tables.length) == 0,
+            "the records are those of the file");
+        must(WRITE, 0, 0);
+        check(memcmp(bytes(&written_file), bytes(&file), file.length) == 0, "an accepted file is written again as it is");
+        for (int i = 0; i < FAULTS; i++)
+            spoil_writing(head.faults[i]);
     }
 }
 
@@ -810,10 +1071,10 @@ static int can_have(enum call c, unsigned kind) {
 
 static void spoil(struct fault f) {
     const uint64_t before = made_calls;
-    enum call c = INPUTS_OF + f.call % (CALLS - INPUTS_OF);
+    enum call c = INPUTS_OF + f.call % (DECODE + 1 - INPUTS_OF);
     f.kind %= FAULT_KINDS;
     while (!can_have(c, f.kind))
-        c = c + 1 < CALLS ? c + 1 : INPUTS_OF;
+        c = c < DECODE ? c + 1 : INPUTS_OF;
     met_fault[c][f.kind] = 1;
     if (f.kind <= OWNER_ABSENT)
         spoil_number(c, f);
@@ -847,7 +1108,7 @@ static void spoil_all(void) {
 /* ---- what libFuzzer calls */
 
 static void report(void) {
-    fprintf(stderr, "%llu calls, %llu whole rounds, %llu calls of a round with a fault; answers:\n", (unsigned long long)made_calls,
+    fprintf(stderr, "%llu calls, %llu whole rounds, %llu calls with one fault; answers:\n", (unsigned long long)made_calls,
         (unsigned long long)rounds, (unsigned long long)faulty);
     for (enum call c = READ; c < CALLS; c++) {
         fprintf(stderr, "%s:", calls[c].name);
@@ -877,10 +1138,11 @@ int LLVMFuzzerTestOneInput(const uint8_t *data, size_t size) {
         k = 1 + k % 128;
         party %= n;
     }
-    numbers.length = 24, count.length = meter.length = 4;
+    numbers.length = 24, count.length = meter.length = written_words.length = 4;
     read_file(data + sizeof head, size - sizeof head);
     list_own();
     call_loosely();
+    write_again();
     for (uint32_t w = 0; w < counts.inputs; w++)
         if (owner[w] >= n)
             return 0;

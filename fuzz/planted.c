@@ -6,7 +6,7 @@
 #include <stdlib.h>
 #include <string.h>
 
-enum { FAULTS = 15 }; /* fuzz/run reads this line */
+enum { FAULTS = 21 }; /* fuzz/run reads this line */
 
 #define FILE_PARAMETERS const uint8_t *file, size_t length
 #define READ_ONLY(name) const uint8_t *name, size_t name##_length
@@ -23,6 +23,8 @@ lupiknam_answer engine_input_keys(FILE_PARAMETERS, uint32_t, uint32_t, uint32_t,
 lupiknam_answer engine_open(FILE_PARAMETERS, uint32_t, uint32_t, uint32_t, READ_ONLY(contribution), READ_ONLY(externals), READ_ONLY(keys),
     READ_ONLY(rows), WRITTEN(wire_keys), WRITTEN(wire_externals));
 lupiknam_answer engine_decode(FILE_PARAMETERS, READ_ONLY(externals), READ_ONLY(masks), WRITTEN(outputs));
+lupiknam_answer engine_records(FILE_PARAMETERS, lupiknam_record *, size_t, WRITTEN(tables));
+lupiknam_answer engine_write(const lupiknam_record *, size_t, READ_ONLY(tables), WRITTEN(file), uint32_t *);
 
 static int planted(int number) {
     const char *given = getenv("PLANTED");
@@ -104,5 +106,37 @@ lupiknam_answer lupiknam_decode(FILE_PARAMETERS, READ_ONLY(externals), READ_ONLY
         memset(outputs - 1, 0, 1);
     while (planted(15) && a.number == 0 && outputs_length == 2) // does not end
         continue;
+    return a;
+}
+
+lupiknam_answer lupiknam_records(FILE_PARAMETERS, lupiknam_record *records, size_t count, WRITTEN(tables)) {
+    lupiknam_answer a = engine_records(file, length, records, count, tables, tables_length);
+    if (planted(16) && a.number == 0 && records[count - 1].a == 2) // a field that an output does not use
+        records[count - 1].modulus = 5;
+    if (planted(17) && a.number == 0 && tables_length > 2) // the last entry not written
+        tables[tables_length - 1] = 255;
+    return a;
+}
+
+/* Wires as the low ten bits of a word have them. */
+static lupiknam_answer write_narrowed(const lupiknam_record *records, size_t count, READ_ONLY(tables), WRITTEN(file), uint32_t *words) {
+    static lupiknam_record narrow[1 << 17];
+    for (size_t i = 0; i < count; i++) {
+        narrow[i] = records[i];
+        narrow[i].a &= 1023;
+    }
+    return engine_write(narrow, count, tables, tables_length, file, file_length, words);
+}
+
+lupiknam_answer lupiknam_write(const lupiknam_record *records, size_t count, READ_ONLY(tables), WRITTEN(file), uint32_t *words) {
+    if (planted(18)) // a field too wide for its bits
+        return write_narrowed(records, count, tables, tables_length, file, file_length, words);
+    lupiknam_answer a = engine_write(records, count, tables, tables_length, file, file_length, words);
+    if (planted(19) && a.number == 0 && file_length > 4 * (size_t)*words) // a byte past the words
+        file[4 * (size_t)*words] = 0;
+    if (planted(20) && a.number == 22) // a number written though the call is refused
+        *words = 0;
+    if (planted(21) && a.number == 9 && a.place > 0) // the last record's place
+        a.place--;
     return a;
 }

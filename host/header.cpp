@@ -2,8 +2,17 @@
 // those at the edge of what may be lent: no file, and buffers of length 0 that are NULL. What they must answer follows from document 01.
 #include "lupiknam.h"
 #include "lupiknam.h"
+#include <cstddef>
 #include <cstdio>
 #include <cstring>
+
+// seven numbers without a gap, in the order of the header: an editor in another language lays them out itself
+static_assert(sizeof(lupiknam_record) == 28 && alignof(lupiknam_record) == 4, "layout of a record");
+static_assert(offsetof(lupiknam_record, kind) == 0 && offsetof(lupiknam_record, modulus) == 4 && offsetof(lupiknam_record, owner) == 8
+        && offsetof(lupiknam_record, constant) == 12 && offsetof(lupiknam_record, bit) == 16 && offsetof(lupiknam_record, a) == 20
+        && offsetof(lupiknam_record, b) == 24,
+    "fields of a record");
+static_assert(LUPIKNAM_VERSION == 1, "version of the header");
 
 static int failed = 0;
 
@@ -31,6 +40,20 @@ int main()
         wires == 77 && inputs == 77 && outputs == 77 && rows == 77 && moduli == 77 && records == 77);
     check("product", answers(lupiknam_read(product, sizeof product, &wires, &inputs, &outputs, &rows, &moduli, &records), 0, 0));
     check("product: counts", wires == 3 && inputs == 2 && outputs == 1 && rows == 10 && moduli == 1 && records == 4);
+
+    // the same file as records: two inputs, the product, the output
+    static const lupiknam_record list[] = {{2, 5, 0, 0, 0, 0, 0}, {2, 5, 1, 0, 0, 0, 0}, {5, 0, 0, 0, 0, 0, 1}, {10, 0, 0, 0, 0, 2, 0}};
+    uint8_t written[sizeof product];
+    lupiknam_record back[4];
+    uint32_t words = 77;
+    check("no records", answers(lupiknam_write(NULL, 0, NULL, 0, NULL, 0, &words), 9, 0) && words == 77);
+    check("records, and no buffer", answers(lupiknam_write(list, 4, NULL, 0, NULL, 0, &words), 22, 0) && words == 77);
+    check("writing", answers(lupiknam_write(list, 4, NULL, 0, written, sizeof written, &words), 0, 0) && words == 6);
+    check("writing: bytes", std::memcmp(written, product, sizeof product) == 0);
+    check("records of no file", answers(lupiknam_records(NULL, 0, NULL, 0, NULL, 0), 1, 0));
+    check("records, and no space for them", answers(lupiknam_records(product, sizeof product, NULL, 0, NULL, 0), 14, 0));
+    check("records", answers(lupiknam_records(product, sizeof product, back, 4, NULL, 0), 0, 0));
+    check("records: the same", std::memcmp(back, list, sizeof list) == 0);
 
     // the product's second wire is its own: word 3
     uint8_t own[sizeof product];

@@ -1,6 +1,7 @@
 /*
- * How much stack each call takes, for docs/HOST.md; no part of the gate. It plays host/round.c and makes every call on a stack that was
- * painted before, and prints how much of the paint is gone, the most for each call, in KiB. `host/stack` builds it with gcc and runs it.
+ * How much stack each call takes, for docs/HOST.md; no part of the gate. It plays host/round.c and host/write.c and makes every call on a
+ * stack that was painted before, and prints how much of the paint is gone, the most for each call, in KiB. `host/stack` builds it with gcc
+ * and runs it.
  */
 #include "lupiknam.h"
 #include <pthread.h>
@@ -37,10 +38,12 @@ static size_t depth(void (*run)(void))
     return SIZE - untouched;
 }
 
+enum { CALLS = 10 };
+
 static struct {
     const char *name;
     size_t most;
-} seen[8];
+} seen[CALLS];
 
 static void measure(const char *name, void (*run)(void))
 {
@@ -52,7 +55,7 @@ static void measure(const char *name, void (*run)(void))
         seen[i].most = taken;
 }
 
-/* A call of round.c comes here (the linker's --wrap), and goes on to the engine's on the painted stack. */
+/* A call of round.c or write.c comes here (the linker's --wrap), and goes on to the engine's on the painted stack. */
 #define WRAPPED(name, parameters, arguments)                                                                                       \
     lupiknam_answer __real_##name parameters;                                                                                      \
     lupiknam_answer __wrap_##name parameters                                                                                       \
@@ -71,6 +74,8 @@ typedef uint8_t *out;
 
 WRAPPED(lupiknam_read, (in f, size_t fl, uint32_t *a, uint32_t *b, uint32_t *c, uint32_t *d, uint32_t *e, uint32_t *g),
         (f, fl, a, b, c, d, e, g))
+WRAPPED(lupiknam_write, (const lupiknam_record *r, size_t n, in t, size_t tl, out f, size_t fl, uint32_t *w), (r, n, t, tl, f, fl, w))
+WRAPPED(lupiknam_records, (in f, size_t fl, lupiknam_record *r, size_t n, out t, size_t tl), (f, fl, r, n, t, tl))
 WRAPPED(lupiknam_inputs_of, (in f, size_t fl, uint32_t n, uint32_t party, uint32_t *count), (f, fl, n, party, count))
 WRAPPED(lupiknam_plain, (in f, size_t fl, in v, size_t vl, out o, size_t ol), (f, fl, v, vl, o, ol))
 WRAPPED(lupiknam_garble,
@@ -88,11 +93,13 @@ WRAPPED(lupiknam_open,
 WRAPPED(lupiknam_decode, (in f, size_t fl, in e, size_t el, in m, size_t ml, out o, size_t ol), (f, fl, e, el, m, ml, o, ol))
 
 int round_main(int count, char **given);
+int write_main(int count, char **given);
 
 int main(int count, char **given)
 {
-    int status = round_main(count, given);
-    for (size_t i = 0; i < 8 && seen[i].name; i++)
+    char *nowhere[] = {"write", "/dev/null", NULL};
+    int status = round_main(count, given) | write_main(2, nowhere);
+    for (size_t i = 0; i < CALLS && seen[i].name; i++)
         printf("%s %zu KiB\n", seen[i].name, (seen[i].most + 1023) / 1024);
     return status;
 }

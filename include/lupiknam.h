@@ -1,15 +1,16 @@
 /*
- * lupiknam.h: the engine's calls. For C99 or later, and C++. docs/HOST.md tells the life of a round, docs/FILE.md the circuit file, and
- * host/round.c is a whole round to copy.
+ * lupiknam.h: the engine's calls. For C99 or later, and C++. docs/HOST.md tells the life of a round, docs/FILE.md the circuit file;
+ * host/round.c is a whole round to copy, and host/write.c an editor that writes a file.
  *
- * A slice is lent as a pointer and a length in bytes. What a call only reads is `const`. Every number n, k, party and every byte may be
- * anything: a call refuses what it cannot take, and always returns.
+ * A slice is lent as a pointer and a length in bytes, a slice of records (lupiknam_record) as a pointer and the number of records. What a
+ * call only reads is `const`. Every number n, k, party, every field of a record and every byte may be anything: a call refuses what it
+ * cannot take, and always returns.
  *
  * A circuit file is words of 32 bits, lent as bytes, four a word, little-endian.
  *
- * Every call reads the circuit first, then makes its checks in the order of their numbers, and answers with the first that fails.
- * Where a call is refused, each number and each byte lent to it is as it was before; only a refusal by 20 leaves both written buffers
- * all zero.
+ * Every call but lupiknam_write reads the circuit first, then makes its checks in the order of their numbers, and answers with the first
+ * that fails. Where a call is refused, each number and each byte lent to it is as it was before; only a refusal by 20 leaves both written
+ * buffers all zero.
  *
  * n is the number of parties, 2 to 8; party is one of them, from 0; k is the key length K, 1 to 128. A key on a wire of modulus p is k
  * bytes below p. All parties' keys of a wire lie one after another, parties ascending.
@@ -31,9 +32,9 @@
  *
  * The caller's duties, which no call can check:
  *
- *   memory     each pointer leads to as many bytes as its length says, all of them set where the call reads them; a pointer whose length
- *              is 0 may be NULL, a pointer to a number (uint32_t *) may not. The memory stays there until the call returns. Lengths are
- *              products: reckon them in size_t
+ *   memory     each pointer leads to as many bytes or records as its length says, all of them set where the call reads them; a pointer
+ *              whose length is 0 may be NULL, a pointer to a number (uint32_t *) may not. The memory stays there until the call returns.
+ *              Lengths are products: reckon them in size_t
  *   aliasing   what a call writes, a buffer or a number, overlaps nothing else that is lent to the same call; what it only reads may
  *              overlap
  *   lifetime   no call keeps a pointer after it returns, allocates memory or holds state: there is nothing to open, close or free
@@ -49,6 +50,9 @@
 
 #include <stddef.h>
 #include <stdint.h>
+
+/* The number of the last change order that changed a declaration in this header. */
+#define LUPIKNAM_VERSION 1
 
 #ifdef __cplusplus
 extern "C" {
@@ -81,8 +85,12 @@ extern "C" {
  *   19      own input key is not zero key plus external value times offset    wire, the lowest such
  *   20      no multiplier fits the key that a gate's rows give                wire, the lowest such
  *   21      row meter would pass 4,294,967,295                                0
+ *   22      a buffer is too short for the words                               0
  *
- * Words are counted from 0, four bytes each; so are wires, parties and the bytes of a buffer.
+ * Words are counted from 0, four bytes each; so are records, wires, parties and the bytes of a buffer.
+ *
+ * lupiknam_write is lent records, not words. There the place of 2 to 8, and of 14 where the entries of a table run out, is the record's
+ * index; the place of 9, and of 14 where entries are left over, is the number of records.
  */
 typedef struct lupiknam_answer {
     uint32_t number;
@@ -117,7 +125,8 @@ static inline const char *lupiknam_refusal(uint32_t number)
         "byte of a key or of a row not below its modulus",
         "own input key is not zero key plus external value times offset",
         "no multiplier fits the key that a gate's rows give",
-        "row meter would pass 4,294,967,295"
+        "row meter would pass 4,294,967,295",
+        "a buffer is too short for the words"
     };
     return number < sizeof words / sizeof words[0] ? words[number] : "unknown refusal";
 }
@@ -135,13 +144,74 @@ static inline const char *lupiknam_refusal(uint32_t number)
  *
  * Refusals: 1 to 10. Where the file is refused none of the six numbers is written.
  *
- * The six pointers lead to six different numbers. A file that this call refuses, every other call refuses with the same answer; one that it
- * accepts meets none of 1 to 10 in any other call.
+ * The six pointers lead to six different numbers. A file that this call refuses, every other call that reads it refuses with the same
+ * answer; one that it accepts meets none of 1 to 10 in any of them.
  */
 lupiknam_answer lupiknam_read(
     const uint8_t *file, size_t file_length,
     uint32_t *wires, uint32_t *inputs, uint32_t *outputs,
     uint32_t *rows, uint32_t *moduli, uint32_t *record_keys);
+
+/*
+ * An input, gate or output of a circuit, as an editor lists it; the records of a contribution are something else. A field that the kind
+ * does not use is 0.
+ *
+ *   kind       that of its word in the file: 2 input, 3 add, 4 scale, 5 multiply, 6 project, 8 select, 10 output
+ *   modulus    input, project: the modulus of the wire that it makes
+ *   owner      input: the party that owns it
+ *   constant   scale: what the wire is multiplied by
+ *   bit        select: the bit wire
+ *   a          scale, project, output: the wire; add, multiply: the first wire; select: the wire that is taken where the bit is 0
+ *   b          add, multiply: the second wire; select: the wire that is taken where the bit is 1
+ *
+ * Each input and each gate makes a wire; wires are numbered from 0 in the order of the records. The tables of projects stand in a slice of
+ * their own: a byte for each entry, all tables one after another in the order of the records. A project of a wire of modulus p has p
+ * entries, the images of 0, 1, ... p - 1.
+ */
+typedef struct lupiknam_record {
+    uint32_t kind, modulus, owner, constant, bit, a, b;
+} lupiknam_record;
+
+/*
+ * Writes a circuit file.
+ *
+ *   records, record_count   the records: inputs, then gates, then outputs
+ *   tables, tables_length   the tables of all projects
+ *   file, file_length       written: the words, four bytes each, from the buffer's start on; bytes past them are as they were. The words
+ *                           are 2 + record_count + tables_length and one more for each select
+ *   words                   written: the number of words, head and end word counted
+ *
+ * Refusals: record by record what the reader would refuse in its words, 2 to 8, and 14 where the entries run out within its table, those
+ * that are there being judged first; the first record with a fault decides. Then 9 where no record is an output; 14 where entries are left
+ * over; 22 where file_length is below 4 * words. Where the call is refused neither file nor words is written.
+ *
+ * A kind that no record has, or a field that is not 0 and that the kind does not use, meets 2, before the record's other checks. A field
+ * too wide for its bits is judged by its value: modulus 257 meets 4, wire 1,024 meets 5, owner 256 meets 7.
+ *
+ * A file that this call writes, the reader accepts, and lupiknam_records gives the same records and tables back.
+ */
+lupiknam_answer lupiknam_write(
+    const lupiknam_record *records, size_t record_count,
+    const uint8_t *tables, size_t tables_length,
+    uint8_t *file, size_t file_length,
+    uint32_t *words);
+
+/*
+ * Gives the records of a circuit file.
+ *
+ *   file, file_length       the circuit file
+ *   records, record_count   written: wires + outputs records, by the counts that lupiknam_read writes: one for each wire, in the order of
+ *                           the wires, then one for each output, in the order of the file; a field that the kind does not use is 0
+ *   tables, tables_length   written: the tables of all projects: a byte for each word of kind 7 in the file
+ *
+ * Refusals: 1 to 10; 14 where record_count or tables_length is not as above. Where the call is refused neither slice is written.
+ *
+ * lupiknam_write makes the same bytes of them again.
+ */
+lupiknam_answer lupiknam_records(
+    const uint8_t *file, size_t file_length,
+    lupiknam_record *records, size_t record_count,
+    uint8_t *tables, size_t tables_length);
 
 /*
  * Counts the inputs that a party owns.

@@ -1,8 +1,8 @@
--- Document 01, "Where each check stands": the number of each refusal. An accepted call has number and place 0.
+-- Document 01, "Where each check stands", and document 02: the number of each refusal. An accepted call has number and place 0.
 -- Assumes nothing.
 use Prim.Native.Nat.{ℕ}
 use Rattle.checks.specs.declared.Refusal.{Refusal}
-use Rattle.checks.specs.declared.Refusal.the-variants.{NoHead, UnknownWord, NotDue, NotPrime, NotMade, ModuliDiffer, OutOfRange, TooMany, NoOutput, WrongEnd, SessionRange, NoSuchParty, OwnerAbsent, WrongLength, ValueTooLarge, ContributionTooLarge, ZeroOffset, KeyOrRowTooLarge, WrongInputKey, NoMultiplier, MeterFull}
+use Rattle.checks.specs.declared.Refusal.the-variants.{NoHead, UnknownWord, NotDue, NotPrime, NotMade, ModuliDiffer, OutOfRange, TooMany, NoOutput, WrongEnd, SessionRange, NoSuchParty, OwnerAbsent, WrongLength, ValueTooLarge, ContributionTooLarge, ZeroOffset, KeyOrRowTooLarge, WrongInputKey, NoMultiplier, MeterFull, TooShort}
 use Rattle.checks.specs.declared.Answer.{Answer}
 use Rattle.checks.specs.declared.Answer.the-variants.{Accepted, Refused}
 
@@ -49,6 +49,8 @@ numberOf WrongInputKey = 19
 numberOf NoMultiplier = 20
 -- the row meter would pass its limit
 numberOf MeterFull = 21
+-- a buffer is too short for the words
+numberOf TooShort = 22
 
 -- an answer's number and place, 0 and 0 where the call is accepted
 abbrev pub numberIn : Answer → ℕ

@@ -30,6 +30,7 @@ pub enum Refusal {
     WrongInputKey,
     NoMultiplier,
     MeterFull,
+    TooShort,
 }
 
 pub enum Answer {
@@ -63,6 +64,7 @@ pub fn number(reason: Refusal) -> u32
         Refusal::WrongInputKey => 19,
         Refusal::NoMultiplier => 20,
         Refusal::MeterFull => 21,
+        Refusal::TooShort => 22,
     }
 }
 

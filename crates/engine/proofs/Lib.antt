@@ -1,2 +1,3 @@
 -- Laws of the C face.
 pub mod Faces
+pub mod Finishes

@@ -1,11 +1,12 @@
 // The C face: each function here is one of include/lupiknam.h. Refused or not, its contract gives the number and place that it
 // answers and every number and byte lent to it. Thin, since a static library proves it again: the calls themselves stand in `read_calls`,
-// `plain`, `party_calls` and `row_calls`.
+// `plain`, `party_calls`, `row_calls` and `writer`.
 mod answer;
 mod garbled;
 mod party;
 mod plain_call;
 mod read;
+mod write;
 
 pub use answer::Reported;
 pub use garbled::lupiknam_garble;
@@ -16,3 +17,5 @@ pub use party::lupiknam_input_keys;
 pub use plain_call::lupiknam_plain;
 pub use read::lupiknam_inputs_of;
 pub use read::lupiknam_read;
+pub use write::lupiknam_records;
+pub use write::lupiknam_write;

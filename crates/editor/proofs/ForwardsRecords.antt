@@ -1,0 +1,159 @@
+-- What a record says, kind by kind, with the record that says it; and that no item of it is the end.
+-- Assumes nothing.
+use mathlib.Core.Path.{_≡_, refl}
+use mathlib.Core.Bool.{Bool, true, false, _&&_}
+use mathlib.Core.List.{List, [], _∷_, map}
+use Prim.Native.Nat.{ℕ, zero, suc}
+use lib.Dec.{eqb}
+use lib.ListN.{getD, take, drop}
+use borrow.Author.Tests.{eqb-true}
+use Rattle.residue.proofs.Table.{and-left, and-right}
+use Rattle.words.specs.Items.{pairOf}
+use Rattle.words.specs.declared.gate.Gate.{Gate}
+use Rattle.words.specs.declared.item.Item.{Item}
+use Rattle.words.specs.declared.item.Item.the-variants.{Input, Add, Scale, Multiply, Project, Entry, Select, Branches, Output}
+use Rattle.writer.specs.declared.entry.Record.{Record}
+use Rattle.writer.specs.Says.{Speech, nothing, items, spoken, byKind, saidBy}
+use Rattle.writer.specs.Listed.{gateRecord, outputRecord}
+use Rattle.editor.proofs.ForwardsStep.{isEnd}
+
+-- the record of an item that is a record's only one
+pub data Alone : Item → Record → Type 0 where
+  input : {owner modulus : ℕ} → Alone (Input owner modulus) (gateRecord (Gate.Input (record { owner = owner })) modulus)
+  add : {a b : ℕ} → Alone (Add a b) (gateRecord (Gate.Add (pairOf a b)) 0)
+  scale : {constant a : ℕ} → Alone (Scale constant a) (gateRecord (Gate.Scale (record { constant = constant; a = a })) 0)
+  multiply : {a b : ℕ} → Alone (Multiply a b) (gateRecord (Gate.Multiply (pairOf a b)) 0)
+  output : {a : ℕ} → Alone (Output a) (outputRecord a)
+
+pub data Spoken (moduli tables : List ℕ) : Record → Speech → Type 0 where
+  silent : {r : Record} → Spoken moduli tables r nothing
+  alone : {x : Item} {r : Record} → Alone x r → Spoken moduli tables r (items (x ∷ []) tables)
+  project :
+      {modulus a : ℕ}
+      → Spoken moduli tables (gateRecord (Gate.Project (record { a = a; table = 0 })) modulus)
+      (items (Project modulus a ∷ map Entry (take (getD moduli a 0) tables)) (drop (getD moduli a 0) tables))
+  select :
+      {bit a b : ℕ}
+      → Spoken moduli tables (gateRecord (Gate.Select (record { bit = bit; a = a; b = b })) 0) (items (Select bit ∷ Branches a b ∷ []) tables)
+
+-- a record by its fields
+fields :
+    (r : Record) {k m o c t a b : ℕ}
+    → r .kind ≡ k
+    → r .modulus ≡ m
+    → r .owner ≡ o
+    → r .constant ≡ c
+    → r .bit ≡ t
+    → r .a ≡ a
+    → r .b ≡ b
+    → r ≡ record { kind = k; modulus = m; owner = o; constant = c; bit = t; a = a; b = b }
+fields r ek em eo ec et ea eb = λ i. record { kind = ek i; modulus = em i; owner = eo i; constant = ec i; bit = et i; a = ea i; b = eb i }
+
+-- fields that are 0, of which the first is the first of the test
+one : (n : ℕ) → eqb n 0 ≡ true → n ≡ 0
+one n e = eqb-true n 0 e
+
+first : (n : ℕ) (others : Bool) → (eqb n 0 && others) ≡ true → n ≡ 0
+first n others e = eqb-true n 0 (and-left (eqb n 0) others e)
+
+others : (n : ℕ) (rest : Bool) → (eqb n 0 && rest) ≡ true → rest ≡ true
+others n rest e = and-right (eqb n 0) rest e
+
+module _ (moduli tables : List ℕ) (r : Record) where
+  whether :
+      {says : List Item} {left : List ℕ} (b : Bool)
+      → (b ≡ true → Spoken moduli tables r (items says left))
+      → Spoken moduli tables r (spoken b says left)
+  unfolding spoken
+  whether true f = f refl
+  whether false f = Spoken.silent
+
+  as-said : {x : Record} {s : Speech} → r ≡ x → Spoken moduli tables x s → Spoken moduli tables r s
+  as-said e f = rw e f
+
+  of-kind : (k : ℕ) → r .kind ≡ k → Spoken moduli tables r (getD (byKind moduli tables r) k nothing)
+  of-kind zero e = Spoken.silent
+  of-kind (suc zero) e = Spoken.silent
+  -- input
+  of-kind (suc (suc zero)) e =
+      whether _ λ z.
+      let y = others (r .constant) _ z in
+      let x = others (r .bit) _ y in
+      as-said
+      (fields r e refl refl (first (r .constant) _ z) (first (r .bit) _ y) (first (r .a) _ x) (one (r .b) (others (r .a) _ x)))
+      (Spoken.alone Alone.input)
+  -- add
+  of-kind (suc (suc (suc zero))) e =
+      whether _ λ z.
+      let y = others (r .modulus) _ z in
+      let x = others (r .owner) _ y in
+      as-said
+      (fields r e (first (r .modulus) _ z) (first (r .owner) _ y) (first (r .constant) _ x) (one (r .bit) (others (r .constant) _ x)) refl refl)
+      (Spoken.alone Alone.add)
+  -- scale
+  of-kind (suc (suc (suc (suc zero)))) e =
+      whether _ λ z.
+      let y = others (r .modulus) _ z in
+      let x = others (r .owner) _ y in
+      as-said
+      (fields r e (first (r .modulus) _ z) (first (r .owner) _ y) refl (first (r .bit) _ x) refl (one (r .b) (others (r .bit) _ x)))
+      (Spoken.alone Alone.scale)
+  -- multiply
+  of-kind (suc (suc (suc (suc (suc zero))))) e =
+      whether _ λ z.
+      let y = others (r .modulus) _ z in
+      let x = others (r .owner) _ y in
+      as-said
+      (fields r e (first (r .modulus) _ z) (first (r .owner) _ y) (first (r .constant) _ x) (one (r .bit) (others (r .constant) _ x)) refl refl)
+      (Spoken.alone Alone.multiply)
+  -- project
+  of-kind (suc (suc (suc (suc (suc (suc zero)))))) e =
+      whether _ λ z.
+      let y = others (r .owner) _ z in
+      let x = others (r .constant) _ y in
+      as-said
+      (fields r e refl (first (r .owner) _ z) (first (r .constant) _ y) (first (r .bit) _ x) refl (one (r .b) (others (r .bit) _ x)))
+      Spoken.project
+  of-kind (suc (suc (suc (suc (suc (suc (suc zero))))))) e = Spoken.silent
+  -- select
+  of-kind (suc (suc (suc (suc (suc (suc (suc (suc zero)))))))) e =
+      whether _ λ z.
+      let y = others (r .modulus) _ z in
+      as-said
+      (fields r e (first (r .modulus) _ z) (first (r .owner) _ y) (one (r .constant) (others (r .owner) _ y)) refl refl refl)
+      Spoken.select
+  of-kind (suc (suc (suc (suc (suc (suc (suc (suc (suc zero))))))))) e = Spoken.silent
+  -- output
+  of-kind (suc (suc (suc (suc (suc (suc (suc (suc (suc (suc zero)))))))))) e =
+      whether _ λ z.
+      let y = others (r .modulus) _ z in
+      let x = others (r .owner) _ y in
+      let v = others (r .constant) _ x in
+      as-said
+      (fields r e (first (r .modulus) _ z) (first (r .owner) _ y) (first (r .constant) _ x) (first (r .bit) _ v) refl (one (r .b) (others (r .bit) _ v)))
+      (Spoken.alone Alone.output)
+  of-kind (suc (suc (suc (suc (suc (suc (suc (suc (suc (suc (suc k))))))))))) e = Spoken.silent
+
+  pub speaking : Spoken moduli tables r (saidBy moduli tables r)
+  speaking = of-kind (r .kind) refl
+
+-- no item is the end
+pub data NoEnd : List Item → Type 0 where
+  none : NoEnd []
+  more : {x : Item} {xs : List Item} → isEnd x ≡ false → NoEnd xs → NoEnd (x ∷ xs)
+
+no-entry-ends : (images : List ℕ) → NoEnd (map Entry images)
+no-entry-ends [] = NoEnd.none
+no-entry-ends (image ∷ images) = NoEnd.more refl (no-entry-ends images)
+
+pub alone-on : {x : Item} {r : Record} → Alone x r → isEnd x ≡ false
+alone-on Alone.input = refl
+alone-on Alone.add = refl
+alone-on Alone.scale = refl
+alone-on Alone.multiply = refl
+alone-on Alone.output = refl
+
+pub no-end : {moduli tables : List ℕ} {r : Record} {says : List Item} {left : List ℕ} → Spoken moduli tables r (items says left) → NoEnd says
+no-end (Spoken.alone only) = NoEnd.more (alone-on only) NoEnd.none
+no-end {moduli} {tables} (Spoken.project {modulus} {a}) = NoEnd.more refl (no-entry-ends (take (getD moduli a 0) tables))
+no-end Spoken.select = NoEnd.more refl (NoEnd.more refl NoEnd.none)

@@ -1,0 +1,2 @@
+-- What the editor is promised.
+pub mod Promise
