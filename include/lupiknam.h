@@ -40,7 +40,7 @@
  *   lifetime   no call keeps a pointer after it returns, allocates memory or holds state: there is nothing to open, close or free
  *   threads    calls may run at the same time in any threads, as long as nothing that one of them writes is lent to another that runs
  *              then. Nobody else changes lent memory during a call. One meter serves one garbling at a time
- *   stack      work memory is on the caller's stack: about 1.2 MiB in lupiknam_garble, 300 KiB in lupiknam_open, 150 KiB or less in the
+ *   stack      work memory is on the caller's stack: about 1.2 MiB in lupiknam_garble, 300 KiB in lupiknam_open, 170 KiB or less in the
  *              others. A thread with 2 MiB of stack can make every call
  *   secrets    a contribution is its party's secret, an input's value and mask its owner's; clearing memory after use is the caller's
  *              business, the stack included
