@@ -158,7 +158,7 @@ module _ {file : List ℕ} {at : ℕ} where
   at-inputs (in-table s room table) e = not-true e
   at-inputs (in-choice s begun choosing) e = not-true e
 
-  at-gates : {due : Due} {wires : List Wire} {given : List ℕ} → State file at due wires given → gateDue due ≡ true → Sound file at wires given
+  pub at-gates : {due : Due} {wires : List Wire} {given : List ℕ} → State file at due wires given → gateDue due ≡ true → Sound file at wires given
   at-gates (in-inputs s all) e = s
   at-gates (in-gates s) e = s
   at-gates (in-outputs s) e = not-true e

@@ -51,7 +51,7 @@ pub record Turn (file : List ℕ) (at : ℕ) (wires : List Wire) (given : List �
   pub rest : after (readFrom file (wordsIn file - suc at) (suc at)) file at wires given step ≡ readFile file
   pub next : Next file at wires given step
 
-unrolled :
+pub unrolled :
     (file : List ℕ) (left others at : ℕ) (due : Due) (wires : List Wire) (given : List ℕ)
     → left ≡ suc others
     → readFrom file left at due wires given

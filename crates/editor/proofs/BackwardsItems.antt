@@ -16,12 +16,12 @@ use Rattle.words.specs.declared.gate.Due.the-variants.{Inputs, Gates, Outputs, 
 use Rattle.words.specs.declared.gate.Step.{Step}
 use Rattle.words.specs.declared.gate.Step.the-variants.{Refused, Makes, Goes, Gives, Ends}
 use Rattle.words.specs.declared.item.Item.{Item}
-use Rattle.writer.specs.Says.{items, spoken, saidBy}
+use Rattle.writer.specs.Says.{items, spoken, speechOf}
 use Rattle.writer.specs.Listed.{wireRecord, tableOf}
 
 -- a wire of one word: its record says the word's item alone, and it has no table
 pub record Single (wire : Wire) (x : Item) : Type 0 where
-  pub says : (moduli tables : List ℕ) → saidBy moduli tables (wireRecord wire) ≡ items (x ∷ []) tables
+  pub says : (moduli tables : List ℕ) → speechOf moduli tables (wireRecord wire) ≡ items (x ∷ []) tables
   pub plain : (file : List ℕ) (all : List Wire) → tableOf file all (wire .gate) ≡ []
 
 single-input : (owner modulus : ℕ) → Single (wireOf (Input (record { owner = owner })) modulus) (Item.Input owner modulus)

@@ -20,8 +20,8 @@ use Rattle.words.specs.declared.item.Item.{Item}
 use Rattle.circuit.specs.Wires.{moduliOf}
 use Rattle.circuit.proofs.More.{length-more}
 use Rattle.writer.specs.declared.entry.Record.{Record}
-use Rattle.writer.specs.Says.{items, saidBy}
-use Rattle.writer.specs.Written.{Draft, Drafted, drafted, leaving, after, laid, andThen, laidAll, whole, saidTo, recorded}
+use Rattle.writer.specs.Says.{items, speechOf}
+use Rattle.writer.specs.Written.{Draft, Drafted, drafted, leaving, afterItem, laid, unlessStopped, laidAll, whole, saidTo, recorded}
 use Rattle.editor.proofs.BackwardsItems.{not-true}
 
 -- the draft where the reader stands at an index, with these wires and outputs so far and these table entries left
@@ -31,16 +31,16 @@ draftAt file at due wires outputs tables =
 
 -- items laid down, and the table whole
 abbrev pub laidWhole : Draft → List Item → Drafted
-laidWhole d says = andThen (laidAll d says) (λ e. whole e (e .due))
+laidWhole d says = unlessStopped (laidAll d says) (λ e. whole e (e .due))
 
 -- an item at an index, whose word stands there
 module _ (file : List ℕ) (at : ℕ) (due : Due) (wires : List Wire) (outputs tables : List ℕ) (x : Item) where
   laid-as :
       (s : Step) → judged (moduliOf wires) (length outputs) at due x ≡ s
-      → laid (draftAt file at due wires outputs tables) x ≡ after (draftAt file at due wires outputs tables) x s
+      → laid (draftAt file at due wires outputs tables) x ≡ afterItem (draftAt file at due wires outputs tables) x s
   laid-as s e =
-      ap (λ (n : ℕ). after (draftAt file at due wires outputs tables) x (judged (moduliOf wires) (length outputs) n due x)) (length-tab at (wordAt file))
-      ∙ ap (after (draftAt file at due wires outputs tables) x) e
+      ap (λ (n : ℕ). afterItem (draftAt file at due wires outputs tables) x (judged (moduliOf wires) (length outputs) n due x)) (length-tab at (wordAt file))
+      ∙ ap (afterItem (draftAt file at due wires outputs tables) x) e
 
   module _ (stands : wordAt file at ≡ wordOf x) where
     one-word : tab at (wordAt file) ++ (wordOf x ∷ []) ≡ tab (suc at) (wordAt file)
@@ -51,7 +51,7 @@ module _ (file : List ℕ) (at : ℕ) (due : Due) (wires : List Wire) (outputs t
         (wire : Wire) (next : Due)
         → judged (moduliOf wires) (length outputs) at due x ≡ Makes wire next
         → laid (draftAt file at due wires outputs tables) x ≡ drafted (draftAt file (suc at) next (wires ++ (wire ∷ [])) outputs tables)
-    unfolding after
+    unfolding afterItem
     laid-makes wire next e =
         laid-as (Makes wire next) e
         ∙ ap₂ (λ (m ws : List ℕ). drafted (record { moduli = m; given = length outputs; due = next; tables = tables; words = ws }))
@@ -61,7 +61,7 @@ module _ (file : List ℕ) (at : ℕ) (due : Due) (wires : List Wire) (outputs t
         (next : Due)
         → judged (moduliOf wires) (length outputs) at due x ≡ Goes next
         → laid (draftAt file at due wires outputs tables) x ≡ drafted (draftAt file (suc at) next wires outputs tables)
-    unfolding after
+    unfolding afterItem
     laid-goes next e =
         laid-as (Goes next) e
         ∙ ap (λ (ws : List ℕ). drafted (record { moduli = moduliOf wires; given = length outputs; due = next; tables = tables; words = ws })) one-word
@@ -70,7 +70,7 @@ module _ (file : List ℕ) (at : ℕ) (due : Due) (wires : List Wire) (outputs t
         (wire : ℕ)
         → judged (moduliOf wires) (length outputs) at due x ≡ Gives wire
         → laid (draftAt file at due wires outputs tables) x ≡ drafted (draftAt file (suc at) Outputs wires (outputs ++ (wire ∷ [])) tables)
-    unfolding after
+    unfolding afterItem
     laid-gives wire e =
         laid-as (Gives wire) e
         ∙ ap₂ (λ (n : ℕ) (ws : List ℕ). drafted (record { moduli = moduliOf wires; given = n; due = Outputs; tables = tables; words = ws }))
@@ -79,7 +79,7 @@ module _ (file : List ℕ) (at : ℕ) (due : Due) (wires : List Wire) (outputs t
     pub laid-ends :
         judged (moduliOf wires) (length outputs) at due x ≡ Ends
         → laid (draftAt file at due wires outputs tables) x ≡ drafted (draftAt file (suc at) due wires outputs tables)
-    unfolding after
+    unfolding afterItem
     laid-ends e =
         laid-as Ends e
         ∙ ap (λ (ws : List ℕ). drafted (record { moduli = moduliOf wires; given = length outputs; due = due; tables = tables; words = ws })) one-word
@@ -87,7 +87,7 @@ module _ (file : List ℕ) (at : ℕ) (due : Due) (wires : List Wire) (outputs t
 -- a record by what it says
 pub recorded-as :
     (d : Draft) (r : Record) (says : List Item) (left : List ℕ)
-    → saidBy (d .moduli) (d .tables) r ≡ items says left
+    → speechOf (d .moduli) (d .tables) r ≡ items says left
     → recorded d r ≡ laidWhole (leaving d left) says
 unfolding saidTo
 recorded-as d r says left e = ap (saidTo d) e
@@ -95,8 +95,8 @@ recorded-as d r says left e = ap (saidTo d) e
 -- one item of several, and the last
 pub laid-first :
     (d e : Draft) (x : Item) (others : List Item) → laid d x ≡ drafted e → laidWhole d (x ∷ others) ≡ laidWhole e others
-unfolding andThen laidAll
-laid-first d e x others l = ap (λ (s : Drafted). andThen (andThen s (λ f. laidAll f others)) (λ f. whole f (f .due))) l
+unfolding unlessStopped laidAll
+laid-first d e x others l = ap (λ (s : Drafted). unlessStopped (unlessStopped s (λ f. laidAll f others)) (λ f. whole f (f .due))) l
 
 whole-here : (d : Draft) (due : Due) → outputDue due ≡ true → whole d due ≡ drafted d
 unfolding whole
@@ -107,7 +107,7 @@ whole-here d (Entries left modulus) e = not-true e
 whole-here d (Branches bit) e = not-true e
 
 pub laid-none : (e : Draft) → outputDue (e .due) ≡ true → laidWhole e [] ≡ drafted e
-unfolding andThen laidAll
+unfolding unlessStopped laidAll
 laid-none e here = whole-here e (e .due) here
 
 pub laid-last : (d e : Draft) (x : Item) → laid d x ≡ drafted e → outputDue (e .due) ≡ true → laidWhole d (x ∷ []) ≡ drafted e

@@ -22,8 +22,8 @@ use Rattle.words.specs.declared.item.Item.{Item}
 use Rattle.circuit.specs.Wires.{moduliOf, modulusAt}
 use Rattle.circuit.specs.File.{wordsIn}
 use Rattle.writer.specs.declared.entry.Record.{Record}
-use Rattle.writer.specs.Says.{items, spoken, saidBy}
-use Rattle.writer.specs.Written.{Draft, Drafted, drafted, Written, wrote, recorded, allTaken, ended, onward, writeFrom}
+use Rattle.writer.specs.Says.{items, spoken, speechOf}
+use Rattle.writer.specs.Written.{Draft, Drafted, drafted, Written, wrote, recorded, allTaken, closed, onward, writeFrom}
 use Rattle.writer.specs.Listed.{wireRecord, outputRecord, recordsOf, tableOf}
 use Rattle.editor.proofs.BackwardsTables.{onwards, onwards-length, tab-onwards, images, tablesAhead}
 use Rattle.editor.proofs.BackwardsItems.{Single}
@@ -89,17 +89,17 @@ module _ (file : List ℕ) (all : List Wire) (more : List Wire) where
 project-says :
     (moduli : List ℕ) (a table q : ℕ) (its later : List ℕ)
     → length its ≡ getD moduli a 0
-    → saidBy moduli (its ++ later) (wireRecord (wireOf (Project (record { a = a; table = table })) q)) ≡ items (Item.Project q a ∷ map Item.Entry its) later
+    → speechOf moduli (its ++ later) (wireRecord (wireOf (Project (record { a = a; table = table })) q)) ≡ items (Item.Project q a ∷ map Item.Entry its) later
 unfolding spoken
 project-says moduli a table q its later e = rw (take-at its later (getD moduli a 0) e, drop-at its later (getD moduli a 0) e)
 
 select-says :
     (moduli tables : List ℕ) (bit a b modulus : ℕ)
-    → saidBy moduli tables (wireRecord (wireOf (Select (record { bit = bit; a = a; b = b })) modulus)) ≡ items (Item.Select bit ∷ Item.Branches a b ∷ []) tables
+    → speechOf moduli tables (wireRecord (wireOf (Select (record { bit = bit; a = a; b = b })) modulus)) ≡ items (Item.Select bit ∷ Item.Branches a b ∷ []) tables
 unfolding spoken
 select-says moduli tables bit a b modulus = refl
 
-output-says : (moduli tables : List ℕ) (a : ℕ) → saidBy moduli tables (outputRecord a) ≡ items (Item.Output a ∷ []) tables
+output-says : (moduli tables : List ℕ) (a : ℕ) → speechOf moduli tables (outputRecord a) ≡ items (Item.Output a ∷ []) tables
 unfolding spoken
 output-says moduli tables a = refl
 
@@ -242,6 +242,6 @@ module _ (file : List ℕ) (all : List Wire) (at : ℕ) (due : Due) (wires : Lis
       → Here Item.End Ends
       → wordsIn file ≡ suc at
       → Wrote file all at due wires outputs [] []
-  unfolding writeFrom ended allTaken tablesAhead
+  unfolding writeFrom closed allTaken tablesAhead
   wrote-end stands here e place =
-      ap (ended place) (laid-ends file at due wires outputs [] Item.End stands here) ∙ ap (λ (n : ℕ). wrote (tab n (wordAt file))) (sym e)
+      ap (closed place) (laid-ends file at due wires outputs [] Item.End stands here) ∙ ap (λ (n : ℕ). wrote (tab n (wordAt file))) (sym e)

@@ -10,7 +10,7 @@ use lib.ListN.{length, getD}
 use borrow.Author.Tests.{eq-eqb}
 use Rattle.words.specs.Bits.{wordAt, bits, clear, kind, owner, inputModulus, wireA, wireB, oneWire, constant, image}
 use Rattle.words.specs.Items.{judged}
-use Rattle.words.specs.Reading.{said, saidBy, does, readWord, Said, Says}
+use Rattle.words.specs.Reading.{said, byKind, saidBy, does, readWord, Said, Says}
 use Rattle.words.specs.Encode.{wordOf, fileOf}
 use Rattle.words.specs.Fits.{Fits}
 use Rattle.words.specs.declared.gate.Due.{Due}
@@ -26,7 +26,7 @@ unfolding said
 spoken e f = rw e (ap Says f)
 
 -- what is said by a word of a kind
-by-kind : (w k : ℕ) {s : Said} → kind w ≡ k → getD (Rattle.words.specs.Reading.byKind w) k Said.Nothing ≡ s → saidBy w ≡ s
+by-kind : (w k : ℕ) {s : Said} → kind w ≡ k → getD (byKind w) k Said.Nothing ≡ s → saidBy w ≡ s
 by-kind w k e f = sym (of-kind w k e) ∙ f
 
 -- two fields, the first from bit 10 up, behind a kind

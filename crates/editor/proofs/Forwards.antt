@@ -18,12 +18,12 @@ use Rattle.words.specs.declared.gate.Step.{Step}
 use Rattle.words.specs.declared.gate.Step.the-variants.{Ends}
 use Rattle.words.specs.declared.item.Item.{Item}
 use Rattle.words.specs.declared.item.Item.the-variants.{End}
-use Rattle.circuit.specs.File.{Read, accepted, wordsIn, after, readFrom, readFile}
+use Rattle.circuit.specs.File.{Read, accepted, wordsIn, ended, after, readFrom, readFile}
 use Rattle.circuit.proofs.More.{length-more}
 use Rattle.writer.specs.declared.entry.Record.{Record}
-use Rattle.writer.specs.Says.{Speech, items, saidBy}
+use Rattle.writer.specs.Says.{Speech, items, speechOf}
 use Rattle.writer.specs.Listed.{recordsOf, tablesOf}
-use Rattle.writer.specs.Written.{Draft, Drafted, stopped, drafted, blank, leaving, laid, laidAll, whole, recorded, Written, refused, wrote, allTaken, ended, onward, writeFrom, writeRecords}
+use Rattle.writer.specs.Written.{Draft, Drafted, stopped, drafted, blank, leaving, laid, laidAll, whole, recorded, Written, refused, wrote, allTaken, closed, onward, writeFrom, writeRecords}
 use Rattle.writer.specs.Call.{recordsRead, tablesRead}
 use Rattle.editor.specs.Promise.{ReadBack, WrittenIsRead}
 use Rattle.words.proofs.Files.{length-file}
@@ -49,7 +49,7 @@ module _ {all : List ℕ} {d e : Draft} {done : List Record} {tables : List ℕ}
 
   taken : (r : Record) → recorded d r ≡ drafted e → Carried all e (done ++ (r ∷ [])) tables
   taken r h =
-      let l : Laid d (saidBy (d .moduli) (d .tables) r) e = laid-record d _ h in
+      let l : Laid d (speechOf (d .moduli) (d .tables) r) e = laid-record d _ h in
       by-kind (subst (λ (s : Speech). Spoken (d .moduli) (d .tables) r s) (l .said) (speaking (d .moduli) (d .tables) r)) (l .all) (l .whole)
 
 -- ---- what was written, record by record
@@ -82,8 +82,8 @@ unfolding allTaken
 none-left d place [] e h = record { draft = d; is = refl; none = e; all = ap wordsIs h }
 none-left d place (image ∷ images) e h = never h
 
-last-word : (m : Drafted) (place : ℕ) {words : List ℕ} → ended place m ≡ wrote words → Last m words
-unfolding ended
+last-word : (m : Drafted) (place : ℕ) {words : List ℕ} → closed place m ≡ wrote words → Last m words
+unfolding closed
 last-word (stopped reason) place h = never h
 last-word (drafted d) place h = none-left d place (d .tables) refl h
 
@@ -110,7 +110,7 @@ ends :
     → length file ≡ 4 * suc at
     → after next file at wires outputs s ≡ read
     → read ≡ accepted wires outputs
-unfolding after Rattle.circuit.specs.File.ended
+unfolding after ended
 ends next file at wires outputs {read = read} e l h =
     sym (rw (e, le-leb (length file) (4 * suc at) (omega arith)) at h)
 

@@ -14,7 +14,7 @@ use Rattle.words.specs.declared.gate.Step.{Step}
 use Rattle.words.specs.declared.gate.Step.the-variants.{Refused, Makes, Goes, Gives, Ends}
 use Rattle.words.specs.declared.item.Item.{Item}
 use Rattle.writer.specs.Says.{Speech, nothing, items}
-use Rattle.writer.specs.Written.{Draft, Drafted, stopped, drafted, leaving, after, laid, andThen, laidAll, whole, saidTo}
+use Rattle.writer.specs.Written.{Draft, Drafted, stopped, drafted, leaving, afterItem, laid, unlessStopped, laidAll, whole, saidTo}
 
 -- a list with another at its front
 pub record Begins (front xs : List ℕ) : Type 0 where
@@ -59,14 +59,14 @@ pub record Then (m : Drafted) (next : Draft → Drafted) (e : Draft) : Type 0 wh
   pub first : m ≡ drafted middle
   pub second : next middle ≡ drafted e
 
-pub and-then : (m : Drafted) (next : Draft → Drafted) {e : Draft} → andThen m next ≡ drafted e → Then m next e
-unfolding andThen
+pub and-then : (m : Drafted) (next : Draft → Drafted) {e : Draft} → unlessStopped m next ≡ drafted e → Then m next e
+unfolding unlessStopped
 and-then (stopped reason) next h = not-stopped h
 and-then (drafted d) next h = record { middle = d; first = refl; second = h }
 
 -- one item
-pub words-after : (d : Draft) (x : Item) (s : Step) {e : Draft} → after d x s ≡ drafted e → d .words ++ (wordOf x ∷ []) ≡ e .words
-unfolding after
+pub words-after : (d : Draft) (x : Item) (s : Step) {e : Draft} → afterItem d x s ≡ drafted e → d .words ++ (wordOf x ∷ []) ≡ e .words
+unfolding afterItem
 words-after d x (Refused reason) h = not-stopped h
 words-after d x (Makes wire due) h = ap (λ (m : Drafted). draftOf d m .words) h
 words-after d x (Goes due) h = ap (λ (m : Drafted). draftOf d m .words) h
@@ -74,8 +74,8 @@ words-after d x (Gives wire) h = ap (λ (m : Drafted). draftOf d m .words) h
 words-after d x Ends h = ap (λ (m : Drafted). draftOf d m .words) h
 
 -- .. with the table entries that are left
-pub tables-after : (d : Draft) (x : Item) (s : Step) {e : Draft} → after d x s ≡ drafted e → d .tables ≡ e .tables
-unfolding after
+pub tables-after : (d : Draft) (x : Item) (s : Step) {e : Draft} → afterItem d x s ≡ drafted e → d .tables ≡ e .tables
+unfolding afterItem
 tables-after d x (Refused reason) h = not-stopped h
 tables-after d x (Makes wire due) h = ap (λ (m : Drafted). draftOf d m .tables) h
 tables-after d x (Goes due) h = ap (λ (m : Drafted). draftOf d m .tables) h
@@ -90,8 +90,8 @@ dueAfter (Goes then) due = then
 dueAfter (Gives wire) due = Outputs
 dueAfter Ends due = due
 
-pub due-after : (d : Draft) (x : Item) (s : Step) {e : Draft} → after d x s ≡ drafted e → dueAfter s (d .due) ≡ e .due
-unfolding after
+pub due-after : (d : Draft) (x : Item) (s : Step) {e : Draft} → afterItem d x s ≡ drafted e → dueAfter s (d .due) ≡ e .due
+unfolding afterItem
 due-after d x (Refused reason) h = not-stopped h
 due-after d x (Makes wire due) h = ap (λ (m : Drafted). draftOf d m .due) h
 due-after d x (Goes due) h = ap (λ (m : Drafted). draftOf d m .due) h

@@ -21,14 +21,14 @@ use Rattle.words.specs.declared.gate.Step.the-variants.{Makes, Goes}
 use Rattle.words.specs.declared.item.Item.the-variants.{Project, Entry}
 use Rattle.circuit.specs.Wires.{modulusAt}
 use Rattle.circuit.proofs.More.{made, modulus-of, modulus-kept, length-more}
-use Rattle.circuit.proofs.State.{State}
+use Rattle.circuit.proofs.State.{State, at-gates}
 use Rattle.writer.specs.declared.entry.Record.{Record}
 use Rattle.writer.specs.Listed.{gateRecord, tableOf, tablesOf}
 use Rattle.writer.specs.Written.{Draft, drafted, leaving, laid, laidAll, whole}
 use Rattle.editor.proofs.Encoded.{word-at, entry-image}
 use Rattle.words.proofs.Judged.{Judged, judging}
 use Rattle.editor.proofs.ForwardsDrafts.{Begins, begins-word, begins-trans, same-draft, not-stopped, Then, words-after, tables-after, laid-begins, first-then, all-begins}
-use Rattle.editor.proofs.ForwardsStep.{InStep, leaves, none-yet, sound-gates, isRefused, not-refused, laid-fits}
+use Rattle.editor.proofs.ForwardsStep.{InStep, leaves, none-yet, isRefused, not-refused, laid-fits}
 use Rattle.editor.proofs.ForwardsListed.{one-wire, one-table}
 use Rattle.editor.proofs.ForwardsTaken.{Carried, goes-on, makes-one}
 
@@ -188,7 +188,7 @@ module _ {all : List ℕ} {d e : Draft} {done : List Record} {tables : List ℕ}
             ∙ ap (λ (rs : List Record). rs ++ (gateRecord (Gate.Project (record { a = a; table = 0 })) modulus ∷ [])) (c .recordsAre);
         tablesAre =
             ap₂ (_++_ {A = ℕ})
-            (one-table (fileOf all) (c .wires) (projected d modulus a) (sound-gates (c .inStep .state) (did .1)) ∙ ap (λ (ts : List ℕ). tablesOf (fileOf all) (c .wires) ++ ts) (table-is (did .2) n r))
+            (one-table (fileOf all) (c .wires) (projected d modulus a) (at-gates (c .inStep .state) (did .1)) ∙ ap (λ (ts : List ℕ). tablesOf (fileOf all) (c .wires) ++ ts) (table-is (did .2) n r))
             (sym (tables-after from (Project modulus a) _ (t .first) ∙ r .tables))
             ∙ append-assoc (tablesOf (fileOf all) (c .wires)) images (drop p (d .tables))
             ∙ ap (λ (ts : List ℕ). tablesOf (fileOf all) (c .wires) ++ ts) (take-append-drop p (d .tables))

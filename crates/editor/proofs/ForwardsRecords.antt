@@ -13,7 +13,7 @@ use Rattle.words.specs.declared.gate.Gate.{Gate}
 use Rattle.words.specs.declared.item.Item.{Item}
 use Rattle.words.specs.declared.item.Item.the-variants.{Input, Add, Scale, Multiply, Project, Entry, Select, Branches, Output}
 use Rattle.writer.specs.declared.entry.Record.{Record}
-use Rattle.writer.specs.Says.{Speech, nothing, items, spoken, byKind, saidBy}
+use Rattle.writer.specs.Says.{Speech, nothing, items, spoken, speechOfKind, speechOf}
 use Rattle.writer.specs.Listed.{gateRecord, outputRecord}
 use Rattle.editor.proofs.ForwardsStep.{isEnd}
 
@@ -71,7 +71,7 @@ module _ (moduli tables : List ℕ) (r : Record) where
   as-said : {x : Record} {s : Speech} → r ≡ x → Spoken moduli tables x s → Spoken moduli tables r s
   as-said e f = rw e f
 
-  of-kind : (k : ℕ) → r .kind ≡ k → Spoken moduli tables r (getD (byKind moduli tables r) k nothing)
+  of-kind : (k : ℕ) → r .kind ≡ k → Spoken moduli tables r (getD (speechOfKind moduli tables r) k nothing)
   of-kind zero e = Spoken.silent
   of-kind (suc zero) e = Spoken.silent
   -- input
@@ -134,7 +134,7 @@ module _ (moduli tables : List ℕ) (r : Record) where
       (Spoken.alone Alone.output)
   of-kind (suc (suc (suc (suc (suc (suc (suc (suc (suc (suc (suc k))))))))))) e = Spoken.silent
 
-  pub speaking : Spoken moduli tables r (saidBy moduli tables r)
+  pub speaking : Spoken moduli tables r (speechOf moduli tables r)
   speaking = of-kind (r .kind) refl
 
 -- no item is the end

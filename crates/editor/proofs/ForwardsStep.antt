@@ -26,8 +26,9 @@ use Rattle.circuit.specs.Wires.{moduliOf}
 use Rattle.circuit.specs.Accepted.{WireFits}
 use Rattle.circuit.specs.File.{wordsIn, after, readFrom, hasHead, headed, readFile}
 use Rattle.circuit.proofs.More.{made, modulus-of, length-more}
-use Rattle.circuit.proofs.State.{Sound, State, Next, next, nothing, within}
-use Rattle.writer.specs.Written.{Draft, drafted, blank, leaving, laid}
+use Rattle.circuit.proofs.State.{State, Next, at-gates, next, nothing, within}
+use Rattle.circuit.proofs.Turn.{unrolled}
+use Rattle.writer.specs.Written.{Draft, drafted, blank, leaving, afterItem, laid}
 use Rattle.editor.proofs.Encoded.{read-encoded, word-at, words-in}
 use Rattle.words.proofs.Judged.{Judged, judging}
 use Rattle.editor.proofs.ForwardsDrafts.{Begins, begins-word, begins-inside, begins-trans, same-draft, not-stopped, laid-begins}
@@ -74,14 +75,6 @@ early-gone :
 early-gone (Judged.entry below) y = none (none-entries y)
 early-gone (Judged.select room lower) y = none (none-yet y (room .due))
 
--- what is true of the wires where a gate is due
-pub sound-gates : {file : List ℕ} {at : ℕ} {due : Due} {wires : List Wire} {given : List ℕ} → State file at due wires given → gateDue due ≡ true → Sound file at wires given
-sound-gates (State.in-inputs s all) e = s
-sound-gates (State.in-gates s) e = s
-sound-gates (State.in-outputs s) e = absurd (true≢false (sym e))
-sound-gates (State.in-table s room table) e = absurd (true≢false (sym e))
-sound-gates (State.in-choice s begun choosing) e = absurd (true≢false (sym e))
-
 table-byte : {file : List ℕ} {at left modulus : ℕ} {wires : List Wire} {given : List ℕ} → State file at (Entries left modulus) wires given → modulus < 256
 table-byte (State.in-table s room table) = table .byte
 
@@ -102,7 +95,7 @@ module _ {file : List ℕ} {at : ℕ} {wires : List Wire} {outputs moduli : List
 
   byte : {due : Due} {a : ℕ} → State file at due wires outputs → gateDue due ≡ true → a < length moduli → getD moduli a 0 < 256
   byte {a = a} st h l =
-      let f : WireFits file wires a = sound-gates st h .fits a (omega (arith, made wires, ap (length {A = ℕ}) e, l)) in
+      let f : WireFits file wires a = at-gates st h .fits a (omega (arith, made wires, ap (length {A = ℕ}) e, l)) in
       subst (λ (ms : List ℕ). getD ms a 0 < 256) e (rw (modulus-of wires a) (f .byte))
 
   fits : {given : ℕ} {due : Due} {x : Item} {s : Step} → State file at due wires outputs → Judged moduli given at due x s → isRefused s ≡ false → Fits x
@@ -118,8 +111,8 @@ module _ {file : List ℕ} {at : ℕ} {wires : List Wire} {outputs moduli : List
   fits st (Judged.output here lower few) h = Fits.output (narrow st lower)
   fits st (Judged.end here) h = Fits.end
 
-pub not-refused : (d : Draft) (x : Item) (s : Step) {e : Draft} → Rattle.writer.specs.Written.after d x s ≡ drafted e → isRefused s ≡ false
-unfolding Rattle.writer.specs.Written.after
+pub not-refused : (d : Draft) (x : Item) (s : Step) {e : Draft} → afterItem d x s ≡ drafted e → isRefused s ≡ false
+unfolding afterItem
 not-refused d x (Refused reason) h = not-stopped h
 not-refused d x (Makes wire due) h = refl
 not-refused d x (Goes due) h = refl
@@ -178,14 +171,6 @@ read-as :
     → readWord moduli given at due w ≡ judged moduli′ given′ at due x
 read-as {moduli′ = moduli′} {given′ = given′} at due e f g fit = rw (e, f, g) (read-encoded moduli′ given′ at due fit)
 
-unrolled :
-    (file : List ℕ) (left others at : ℕ) (due : Due) (wires : List Wire) (given : List ℕ) {s : Step}
-    → left ≡ suc others
-    → readWord (moduliOf wires) (length given) at due (wordAt file at) ≡ s
-    → readFrom file left at due wires given ≡ after (readFrom file others (suc at)) file at wires given s
-unfolding readFrom
-unrolled file left others at due wires given e f = rw (e, f) refl
-
 module _ {all : List ℕ} {d : Draft} {wires : List Wire} {outputs : List ℕ} (p : InStep all d wires outputs) {x : Item} (f : Fits x)
     (b : Begins (d .words ++ (wordOf x ∷ [])) all) where
   inside : length (d .words) < wordsIn (fileOf all)
@@ -204,7 +189,8 @@ module _ {all : List ℕ} {d : Draft} {wires : List Wire} {outputs : List ℕ} (
   turned =
       sym
       (unrolled (fileOf all) (wordsIn (fileOf all) - length (d .words)) (wordsIn (fileOf all) - suc (length (d .words))) (length (d .words)) (d .due) wires
-      outputs (omega (arith, inside)) read-here)
+      outputs (omega (arith, inside))
+      ∙ ap (after (readFrom (fileOf all) (wordsIn (fileOf all) - suc (length (d .words))) (suc (length (d .words)))) (fileOf all) (length (d .words)) wires outputs) read-here)
       ∙ p .rest
 
   next-here : Next (fileOf all) (length (d .words)) wires outputs (judged (d .moduli) (d .given) (length (d .words)) (d .due) x)
@@ -218,9 +204,9 @@ module _ {all : List ℕ} {d : Draft} {wires : List Wire} {outputs : List ℕ} (
       → Next (fileOf all) (length (d .words)) wires outputs s
       → after (readFrom (fileOf all) (wordsIn (fileOf all) - suc (length (d .words))) (suc (length (d .words)))) (fileOf all) (length (d .words)) wires outputs s
       ≡ readFile (fileOf all)
-      → Rattle.writer.specs.Written.after d x s ≡ drafted e
+      → afterItem d x s ≡ drafted e
       → InStep all e (wiresAfter s wires) (outputsAfter s outputs)
-  unfolding after Rattle.writer.specs.Written.after
+  unfolding after afterItem
   moved j Next.stops t h = not-stopped h
   moved j (Next.makes {x = wire} {due = due} st) t h =
       subst (λ (e : Draft). InStep all e (wires ++ (wire ∷ [])) outputs) (same-draft h)

@@ -15,13 +15,13 @@ use Rattle.words.specs.declared.gate.Due.the-variants.{Gates, Branches}
 use Rattle.words.specs.declared.gate.Step.{Step}
 use Rattle.words.specs.declared.gate.Step.the-variants.{Makes, Goes}
 use Rattle.words.specs.declared.item.Item.{Item}
-use Rattle.circuit.proofs.State.{State}
+use Rattle.circuit.proofs.State.{State, at-gates}
 use Rattle.writer.specs.declared.entry.Record.{Record}
 use Rattle.writer.specs.Listed.{gateRecord, recordsOf, tablesOf}
 use Rattle.writer.specs.Written.{Draft, drafted, laid, laidAll}
 use Rattle.words.proofs.Judged.{Judged, judging}
 use Rattle.editor.proofs.ForwardsDrafts.{Begins, begins-trans, Then, tables-after, due-after, dueAfter, first-then, only-one, all-begins}
-use Rattle.editor.proofs.ForwardsStep.{Early, InStep, inputs-gates, none-yet, sound-gates, isRefused, not-refused, isEnd, wiresAfter, outputsAfter, step}
+use Rattle.editor.proofs.ForwardsStep.{Early, InStep, inputs-gates, none-yet, isRefused, not-refused, isEnd, wiresAfter, outputsAfter, step}
 use Rattle.editor.proofs.ForwardsRecords.{Alone, alone-on}
 use Rattle.editor.proofs.ForwardsListed.{one-output, one-wire, no-table}
 
@@ -62,13 +62,13 @@ module _ (wires : List Wire) {moduli outputs : List ℕ} {given at : ℕ} {due :
       → State file at due wires outputs
       → tablesOf file (wiresAfter s wires) ≡ tablesOf file wires
   alone-tables Alone.input Judged.refused h st = absurd (true≢false h)
-  alone-tables {file} Alone.input (Judged.input room short party) h st = no-table file wires _ (sound-gates st (inputs-gates due (room .due))) refl
+  alone-tables {file} Alone.input (Judged.input room short party) h st = no-table file wires _ (at-gates st (inputs-gates due (room .due))) refl
   alone-tables Alone.add Judged.refused h st = absurd (true≢false h)
-  alone-tables {file} Alone.add (Judged.add room two) h st = no-table file wires _ (sound-gates st (room .due)) refl
+  alone-tables {file} Alone.add (Judged.add room two) h st = no-table file wires _ (at-gates st (room .due)) refl
   alone-tables Alone.scale Judged.refused h st = absurd (true≢false h)
-  alone-tables {file} Alone.scale (Judged.scale room lower below) h st = no-table file wires _ (sound-gates st (room .due)) refl
+  alone-tables {file} Alone.scale (Judged.scale room lower below) h st = no-table file wires _ (at-gates st (room .due)) refl
   alone-tables Alone.multiply Judged.refused h st = absurd (true≢false h)
-  alone-tables {file} Alone.multiply (Judged.multiply room two) h st = no-table file wires _ (sound-gates st (room .due)) refl
+  alone-tables {file} Alone.multiply (Judged.multiply room two) h st = no-table file wires _ (at-gates st (room .due)) refl
   alone-tables Alone.output Judged.refused h st = absurd (true≢false h)
   alone-tables Alone.output (Judged.output here lower few) h st = refl
 
@@ -156,7 +156,7 @@ module _ {all : List ℕ} {d e : Draft} {done : List Record} {tables : List ℕ}
         recordsAre =
             one-wire (c .wires) _ (none-yet (c .inStep .early) (did .1)) ∙ ap (λ (rs : List Record). rs ++ (gateRecord (Gate.Select (record { bit = bit; a = m; b = n })) 0 ∷ [])) (c .recordsAre);
         tablesAre =
-            ap₂ (_++_ {A = ℕ}) (no-table (fileOf all) (c .wires) _ (sound-gates (c .inStep .state) (did .1)) refl)
+            ap₂ (_++_ {A = ℕ}) (no-table (fileOf all) (c .wires) _ (at-gates (c .inStep .state) (did .1)) refl)
             (sym (tables-after d (Item.Select bit) _ (t .first) ∙ tables-after f (Item.Branches m n) _ g))
             ∙ c .tablesAre;
       }

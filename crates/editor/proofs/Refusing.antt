@@ -19,8 +19,8 @@ use Rattle.words.specs.declared.item.Item.the-variants.{End}
 use Rattle.circuit.specs.File.{Read, wordsIn, after, readFrom, readFile}
 use Rattle.circuit.proofs.More.{length-more}
 use Rattle.writer.specs.declared.entry.Record.{Record}
-use Rattle.writer.specs.Says.{Speech, items, saidBy}
-use Rattle.writer.specs.Written.{Draft, Drafted, stopped, drafted, blank, leaving, laid, recorded, Written, refused, wrote, allTaken, ended, onward, writeFrom, writeRecords}
+use Rattle.writer.specs.Says.{Speech, items, speechOf}
+use Rattle.writer.specs.Written.{Draft, Drafted, stopped, drafted, blank, leaving, laid, recorded, Written, refused, wrote, allTaken, closed, onward, writeFrom, writeRecords}
 use Rattle.editor.specs.Promise.{draftedTo, Before, Reached, RefusedSo, RefusedIsRefused}
 use Rattle.editor.proofs.ForwardsDrafts.{Begins, begins-trans, begins-front, tables-after, all-begins}
 use Rattle.editor.proofs.ForwardsStep.{turned}
@@ -113,9 +113,9 @@ module _ (tables : List ℕ) (taken : List Record) (d : Draft) (so-far : drafted
   at-last : (m : Drafted) (place : ℕ) {reason : Refusal} {there : ℕ}
       → place ≡ length taken
       → laid d End ≡ m
-      → ended place m ≡ refused reason there
+      → closed place m ≡ refused reason there
       → RefusedSo (taken ++ []) tables reason there
-  unfolding ended
+  unfolding closed
   at-last (stopped other) place e i h = placed (sym e ∙ same-place h) (at-end (i ∙ ap stopped (same-refusal h)))
   at-last (drafted f) place e i h = left-over place (f .tables) (f .words) e (tables-after d End _ i) h
 
@@ -131,11 +131,11 @@ module _ (tables : List ℕ) (taken : List Record) (d : Draft) (so-far : drafted
 
     at-item :
         {reason : Refusal} {says : List Item} {left : List ℕ}
-        → saidBy (d .moduli) (d .tables) r ≡ items says left
+        → speechOf (d .moduli) (d .tables) r ≡ items says left
         → Stopped (leaving d left) says reason
         → RefusedSo (taken ++ (r ∷ others)) tables reason (length taken)
     at-item {says = says} {left} e s =
-        let said : saidBy (d .moduli) (d .tables) r ≡ items (s .before ++ (s .item ∷ s .later)) left = e ∙ ap (λ (xs : List Item). items xs left) (s .parts) in
+        let said : speechOf (d .moduli) (d .tables) r ≡ items (s .before ++ (s .item ∷ s .later)) left = e ∙ ap (λ (xs : List Item). items xs left) (s .parts) in
         RefusedSo.item
         (Reached.inside (s .before) (s .later) before-it said (s .reached))
         (stopped-item (s .draft) (s .item) _ (s .stops))
@@ -148,13 +148,13 @@ module _ (tables : List ℕ) (taken : List Record) (d : Draft) (so-far : drafted
         f (s .stops))
 
     by-stop :
-        {reason : Refusal} {s : Speech} → saidBy (d .moduli) (d .tables) r ≡ s → Stops d s reason → RefusedSo (taken ++ (r ∷ others)) tables reason (length taken)
+        {reason : Refusal} {s : Speech} → speechOf (d .moduli) (d .tables) r ≡ s → Stops d s reason → RefusedSo (taken ++ (r ∷ others)) tables reason (length taken)
     by-stop e (Stops.unknown u) = RefusedSo.unknown u before-it e
     by-stop e (Stops.item s) = at-item e s
     by-stop e (Stops.entries u l f) = RefusedSo.short u before-it e l f
 
     at-record : {reason : Refusal} → recorded d r ≡ stopped reason → RefusedSo (taken ++ (r ∷ others)) tables reason (length taken)
-    at-record h = by-stop refl (stopped-record d (saidBy (d .moduli) (d .tables) r) h)
+    at-record h = by-stop refl (stopped-record d (speechOf (d .moduli) (d .tables) r) h)
 
     -- .. or past it
     by-record :

@@ -7,8 +7,8 @@ use Prim.Native.Nat.{ℕ}
 use Rattle.words.specs.declared.gate.Wire.{Wire}
 use Rattle.words.specs.declared.item.Item.{Item}
 use Rattle.writer.specs.declared.entry.Record.{Record}
-use Rattle.writer.specs.Says.{Speech, items, saidBy}
-use Rattle.writer.specs.Written.{Draft, Drafted, drafted, blank, leaving, laid, andThen, laidAll, recorded}
+use Rattle.writer.specs.Says.{Speech, items, speechOf}
+use Rattle.writer.specs.Written.{Draft, Drafted, drafted, blank, leaving, laid, unlessStopped, laidAll, recorded}
 use Rattle.editor.specs.Promise.{draftedTo}
 use Rattle.editor.proofs.ForwardsDrafts.{Begins, begins-same, begins-trans, same-draft, Then, and-then, first-then, all-begins, record-begins, Laid, laid-record}
 use Rattle.editor.proofs.ForwardsStep.{InStep, leaves, step, begun}
@@ -33,12 +33,12 @@ follows-items (x ∷ xs) d {e} (NoEnd.more n on) p h b =
     (t .second) b
 
 -- the items that a record says
-pub says-no-end : (d : Draft) (r : Record) {says : List Item} {left : List ℕ} → saidBy (d .moduli) (d .tables) r ≡ items says left → NoEnd says
+pub says-no-end : (d : Draft) (r : Record) {says : List Item} {left : List ℕ} → speechOf (d .moduli) (d .tables) r ≡ items says left → NoEnd says
 says-no-end d r e = no-end (subst (λ (s : Speech). Spoken (d .moduli) (d .tables) r s) e (speaking (d .moduli) (d .tables) r))
 
 follows-record : {all : List ℕ} (d : Draft) {e : Draft} (r : Record) → Follows all d → recorded d r ≡ drafted e → Begins (e .words) all → Follows all e
 follows-record d {e} r p h b =
-    let l : Laid d (saidBy (d .moduli) (d .tables) r) e = laid-record d _ h in
+    let l : Laid d (speechOf (d .moduli) (d .tables) r) e = laid-record d _ h in
     follows-items (l .says) (leaving d (l .left)) (says-no-end d r (l .said)) (follows-leaving (l .left) p) (l .all) b
 
 -- the first records
@@ -75,9 +75,9 @@ pub drafted-more :
     → draftedTo records d ≡ drafted e
     → recorded e r ≡ drafted f
     → draftedTo (records ++ (r ∷ [])) d ≡ drafted f
-unfolding draftedTo andThen
+unfolding draftedTo unlessStopped
 drafted-more [] d r h g =
-    ap (λ (k : Draft). andThen (recorded k r) (draftedTo [])) (same-draft h) ∙ ap (λ (m : Drafted). andThen m (draftedTo [])) g
+    ap (λ (k : Draft). unlessStopped (recorded k r) (draftedTo [])) (same-draft h) ∙ ap (λ (m : Drafted). unlessStopped m (draftedTo [])) g
 drafted-more (q ∷ records) d r {e} {f} h g =
     let t : Then (recorded d q) (draftedTo records) e = next-drafted d q records h in
-    ap (λ (m : Drafted). andThen m (draftedTo (records ++ (r ∷ [])))) (t .first) ∙ drafted-more records (t .middle) r (t .second) g
+    ap (λ (m : Drafted). unlessStopped m (draftedTo (records ++ (r ∷ [])))) (t .first) ∙ drafted-more records (t .middle) r (t .second) g

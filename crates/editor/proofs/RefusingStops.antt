@@ -12,7 +12,7 @@ use Rattle.words.specs.declared.gate.Step.{Step}
 use Rattle.words.specs.declared.gate.Step.the-variants.{Refused, Makes, Goes, Gives, Ends}
 use Rattle.words.specs.declared.item.Item.{Item}
 use Rattle.writer.specs.Says.{Speech, nothing, items}
-use Rattle.writer.specs.Written.{Draft, Drafted, stopped, drafted, leaving, after, laid, andThen, laidAll, whole, saidTo}
+use Rattle.writer.specs.Written.{Draft, Drafted, stopped, drafted, leaving, afterItem, laid, unlessStopped, laidAll, whole, saidTo}
 
 pub not-drafted : {A : Type 0} {reason : Refusal} {d : Draft} → drafted d ≡ stopped reason → A
 not-drafted e = let z : _≡_ {A = ℕ} 0 1 = cc in absurd (omega arith)
@@ -25,8 +25,8 @@ same-reason : {reason other : Refusal} → stopped reason ≡ stopped other → 
 same-reason {reason} e = ap (reasonOf reason) e
 
 -- an item that is stopped is refused
-pub stopped-item : (d : Draft) (x : Item) (s : Step) {reason : Refusal} → after d x s ≡ stopped reason → s ≡ Refused reason
-unfolding after
+pub stopped-item : (d : Draft) (x : Item) (s : Step) {reason : Refusal} → afterItem d x s ≡ stopped reason → s ≡ Refused reason
+unfolding afterItem
 stopped-item d x (Refused reason) h = ap Refused (same-reason h)
 stopped-item d x (Makes wire due) h = not-drafted h
 stopped-item d x (Goes due) h = not-drafted h
@@ -48,7 +48,7 @@ unfolding laidAll
 stopped-first d x xs e = record { before = []; item = x; later = xs; draft = d; parts = refl; reached = refl; stops = e }
 
 stopped-later : (d f : Draft) (x : Item) (xs : List Item) {reason : Refusal} → laid d x ≡ drafted f → Stopped f xs reason → Stopped d (x ∷ xs) reason
-unfolding laidAll andThen
+unfolding laidAll unlessStopped
 stopped-later d f x xs e s =
     record {
       before = x ∷ s .before;
@@ -56,19 +56,19 @@ stopped-later d f x xs e s =
       later = s .later;
       draft = s .draft;
       parts = ap (λ (ys : List Item). x ∷ ys) (s .parts);
-      reached = ap (λ (m : Drafted). andThen m (λ (k : Draft). laidAll k (s .before))) e ∙ s .reached;
+      reached = ap (λ (m : Drafted). unlessStopped m (λ (k : Draft). laidAll k (s .before))) e ∙ s .reached;
       stops = s .stops;
     }
 
 pub stopped-at : (xs : List Item) (d : Draft) {reason : Refusal} → laidAll d xs ≡ stopped reason → Stopped d xs reason
-unfolding laidAll andThen
+unfolding laidAll unlessStopped
 stopped-at [] d h = not-drafted h
 stopped-at (x ∷ xs) d {reason} h = by (laid d x) refl h (λ f k. stopped-at xs f k)
   where
     by :
         (m : Drafted)
         → laid d x ≡ m
-        → andThen m (λ (f : Draft). laidAll f xs) ≡ stopped reason
+        → unlessStopped m (λ (f : Draft). laidAll f xs) ≡ stopped reason
         → ((f : Draft) → laidAll f xs ≡ stopped reason → Stopped f xs reason)
         → Stopped d (x ∷ xs) reason
     by (stopped other) e k rest = stopped-first d x xs (e ∙ k)
@@ -99,10 +99,10 @@ ran-out d e says left (Entries due modulus) l f h = Stops.entries (sym (same-rea
 ran-out d e says left (Branches bit) l f h = not-drafted h
 
 pub stopped-record : (d : Draft) (s : Speech) {reason : Refusal} → saidTo d s ≡ stopped reason → Stops d s reason
-unfolding saidTo andThen
+unfolding saidTo unlessStopped
 stopped-record d nothing h = Stops.unknown (sym (same-reason h))
 stopped-record d (items says left) {reason} h = by (laidAll (leaving d left) says) refl h
   where
-    by : (m : Drafted) → laidAll (leaving d left) says ≡ m → andThen m (λ (e : Draft). whole e (e .due)) ≡ stopped reason → Stops d (items says left) reason
+    by : (m : Drafted) → laidAll (leaving d left) says ≡ m → unlessStopped m (λ (e : Draft). whole e (e .due)) ≡ stopped reason → Stops d (items says left) reason
     by (stopped other) e k = Stops.item (stopped-at says (leaving d left) (e ∙ k))
     by (drafted f) e k = ran-out d f says left (f .due) e refl k

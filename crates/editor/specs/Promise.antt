@@ -19,8 +19,8 @@ use Rattle.words.specs.Encode.{wordOf, fileOf}
 use Rattle.words.specs.Fits.{Fits}
 use Rattle.circuit.specs.File.{wordsIn, readFile}
 use Rattle.writer.specs.declared.entry.Record.{Record}
-use Rattle.writer.specs.Says.{Speech, nothing, items, saidBy}
-use Rattle.writer.specs.Written.{Draft, Drafted, stopped, drafted, blank, leaving, andThen, laidAll, recorded, Written, refused, wrote, writeRecords}
+use Rattle.writer.specs.Says.{Speech, nothing, items, speechOf}
+use Rattle.writer.specs.Written.{Draft, Drafted, stopped, drafted, blank, leaving, unlessStopped, laidAll, recorded, Written, refused, wrote, writeRecords}
 use Rattle.writer.specs.Call.{recordsRead, tablesRead}
 
 -- written and read: the file of the words is accepted, and its list is the editor's
@@ -47,7 +47,7 @@ ReadIsWritten = (file : List ℕ) → Bytes file → readFile file .answer ≡ A
 -- writing the first records, up to an index, comes to a draft
 unfoldable pub draftedTo : List Record → Draft → Drafted
 draftedTo [] d = drafted d
-draftedTo (r ∷ records) d = andThen (recorded d r) (draftedTo records)
+draftedTo (r ∷ records) d = unlessStopped (recorded d r) (draftedTo records)
 
 -- the draft before the record at an index, and that record
 pub record Before (records : List Record) (tables : List ℕ) (place : ℕ) (d : Draft) (r : Record) : Type 0 where
@@ -60,7 +60,7 @@ pub data Reached (records : List Record) (tables : List ℕ) (place : ℕ) : Dra
   inside :
       {d e : Draft} {r : Record} {x : Item} (before : List Item) (later : List Item) {left : List ℕ}
       → Before records tables place d r
-      → saidBy (d .moduli) (d .tables) r ≡ items (before ++ (x ∷ later)) left
+      → speechOf (d .moduli) (d .tables) r ≡ items (before ++ (x ∷ later)) left
       → laidAll (leaving d left) before ≡ drafted e
       → Reached records tables place e x
   behind : {d : Draft} → place ≡ length records → draftedTo records (blank tables) ≡ drafted d → Reached records tables place d End
@@ -73,13 +73,13 @@ pub data RefusedSo (records : List Record) (tables : List ℕ) (reason : Refusal
       {d : Draft} {r : Record}
       → reason ≡ UnknownWord
       → Before records tables place d r
-      → saidBy (d .moduli) (d .tables) r ≡ nothing
+      → speechOf (d .moduli) (d .tables) r ≡ nothing
       → RefusedSo records tables reason place
   short :
       {d e : Draft} {r : Record} {says : List Item} {left : List ℕ} {due modulus : ℕ}
       → reason ≡ WrongLength
       → Before records tables place d r
-      → saidBy (d .moduli) (d .tables) r ≡ items says left
+      → speechOf (d .moduli) (d .tables) r ≡ items says left
       → laidAll (leaving d left) says ≡ drafted e
       → e .due ≡ Entries due modulus
       → RefusedSo records tables reason place

@@ -35,7 +35,8 @@ use Rattle.writer.proofs.settling.Settled as S
 use Rattle.writer.proofs.settling.Settled.Laws as S′
 use Rattle.writer.proofs.Lent.{block, val, at-list, Ref}
 use Rattle.writer.proofs.Stepping.{of-pen}
-use Rattle.writer.specs.Closing.{Closes, Finished}
+use Rattle.writer.specs.Closing.{Finished}
+use Rattle.writer.specs.Settling.{Fair}
 use Rattle.engine.specs.declared.answer.Reported.{Reported}
 use Rattle.engine.proofs.answer.Reported as T
 use Rattle.engine.proofs.write.finish as finish
@@ -70,7 +71,7 @@ module _ {M : Type 1} (𝓤 : URA M) (H : Heap 𝓤) (A : Atoms 𝓤) (W : Given
   abbrev Lent : List (Item 𝓤)
   Lent = ‵ (Ref u8 (block (c .file)) (named 0) (c .κ) (c .file .name) (c .fs)) ∷ ‵ (flft (c .κ) (c .q)) ∷ ‵ (flft (c .κ′) (c .q′)) ∷ ‵ (MutRef (named 1) (c .κ′) u32 .own (c .words) (vptr (c .words .ptr .0) (c .words .ptr .1) ∷ [])) ∷ []
 
-  pub asked : Closes (c .settled) (c .laid) (c .fs) → Is S.the-row (c .settled) (of-settled (c .settled) ∷ []) → Is P.the-row (c .laid) (of-pen (c .laid) ∷ []) → ent 𝓤 (⋆ 𝓤 H A Lent) (Finish 𝓤 H A at-mem run .pre to)
+  pub asked : Fair (c .laid) → Is S.the-row (c .settled) (of-settled (c .settled) ∷ []) → Is P.the-row (c .laid) (of-pen (c .laid) ∷ []) → ent 𝓤 (⋆ 𝓤 H A Lent) (Finish 𝓤 H A at-mem run .pre to)
   asked closes is-settled is-laid =
       qed W Lent ∵ says ! closes $ nothing ! $ move ! (3 ∷ 0 ∷ []) $ join ! $ move ! (2 ∷ 0 ∷ []) $ join ! $ frame ! $
       nothing ! $ move ! (2 ∷ 0 ∷ []) $ fjoin ! $ move ! (1 ∷ 0 ∷ []) $ fjoin ! $ owned ! P.the-row (Is P.the-row) (LL.makes P.the-type P′.the-plain 𝓤 H A) (c .laid) _ is-laid $ fjoin ! $

@@ -1,7 +1,8 @@
 // The calls of an editor: a circuit file written from its records, and taken back to them. Functions over slices of records are proved by hand, so
 // they only call others.
 ghost use Rattle.writer.specs.Call.{WriteCall, RecordsCall};
-ghost use Rattle.writer.specs.Closing.{Closes, Finished};
+ghost use Rattle.writer.specs.Closing.{Finished};
+ghost use Rattle.writer.specs.Settling.{Fair};
 use super::answer::Reported;
 use super::answer::told;
 use writer::Pen;
@@ -17,7 +18,7 @@ use writer::settle;
 
 // The end word, the number of words, and the answer.
 pub fn finish(settled: Settled, laid: Pen, file: &mut [u8], words: &mut u32) -> Reported
-    requires { ⌜ Closes settled laid (now file) ⌝ }
+    requires { ⌜ Fair laid ⌝ }
     ensures { λ r. ⌜ Finished settled laid (now (file .entry)) (now (words .entry)) (r .number) (r .place) (now (file .exit)) (now (words .exit)) ⌝ }
 {
     let answer = settled.answer;

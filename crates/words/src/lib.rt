@@ -22,5 +22,6 @@ pub use gate::Scaling;
 pub use gate::Step;
 pub use gate::Wire;
 pub use item::Item;
+pub use items::branches_item;
 pub use items::judge;
 pub use reading::read_word;

@@ -25,12 +25,12 @@ use Rattle.words.specs.Encode.{wordOf, fileOf}
 use Rattle.writer.specs.declared.entry.Record.{Record}
 use Rattle.writer.specs.declared.pen.Pen.{Pen}
 use Rattle.writer.specs.declared.settling.Settled.{Settled}
-use Rattle.writer.specs.Written.{Draft, drafted, after, laid, Written, refused, wrote, allTaken, ended, writeFrom, writeRecords}
+use Rattle.writer.specs.Written.{Draft, drafted, afterItem, laid, Written, refused, wrote, allTaken, closed, writeFrom, writeRecords}
 use Rattle.writer.specs.Call.{answerOf, wordsOf, wordsWritten, writeChecked, WriteCall}
 use Rattle.writer.specs.Desk.{putWord}
 use Rattle.writer.specs.Walked.{Between, Holds, Walked}
 use Rattle.writer.specs.Settling.{Fair, unsettled, roomFor, allTakenBy, someGivenBy, settledFrom, Settles}
-use Rattle.writer.specs.Closing.{Closes, Finished}
+use Rattle.writer.specs.Closing.{Finished}
 use Rattle.writer.proofs.HoldingFiles.{front, put-front}
 use Rattle.writer.proofs.Walks.{ready}
 
@@ -39,8 +39,8 @@ unfoldable outcome : Bool → ℕ → List ℕ → List ℕ → Written
 outcome false place left words = refused NoOutput place
 outcome true place left words = allTaken place left words
 
-ending : (place : ℕ) (d : Draft) (some : Bool) → ended place (after d End (check some NoOutput Ends)) ≡ outcome some place (d .tables) (d .words ++ (wordOf End ∷ []))
-unfolding ended after check outcome
+ending : (place : ℕ) (d : Draft) (some : Bool) → closed place (afterItem d End (check some NoOutput Ends)) ≡ outcome some place (d .tables) (d .words ++ (wordOf End ∷ []))
+unfolding closed afterItem check outcome
 ending place d true = refl
 ending place d false = refl
 
@@ -57,9 +57,9 @@ end-due Between.inputs = refl
 end-due Between.gates = refl
 end-due Between.outputs = refl
 
-last : (d : Draft) → Between (d .due) → laid d End ≡ after d End (check (ltb 0 (d .given)) NoOutput Ends)
+last : (d : Draft) → Between (d .due) → laid d End ≡ afterItem d End (check (ltb 0 (d .given)) NoOutput Ends)
 unfolding check
-last d b = ap (λ (due : Bool). after d End (check due NotDue (check (ltb 0 (d .given)) NoOutput Ends))) (end-due b)
+last d b = ap (λ (due : Bool). afterItem d End (check due NotDue (check (ltb 0 (d .given)) NoOutput Ends))) (end-due b)
 
 -- what all records come to, by the draft after the last
 all-come : (records : List Record) (tables : List ℕ) (d : Draft) → Between (d .due) → writeFrom (length records) (drop (length records) records) d ≡ writeRecords records tables
@@ -68,7 +68,7 @@ unfolding writeFrom
 all-come records tables d b e =
     sym e
     ∙ ap (λ (rs : List Record). writeFrom (length records) rs d) (drop-length records)
-    ∙ ap (ended (length records)) (last d b)
+    ∙ ap (closed (length records)) (last d b)
     ∙ ending (length records) d (ltb 0 (d .given))
 
 module _ {records : List Record} {tables before : List ℕ} {lay : Bool} {pen : Pen} {moduli file : List ℕ} where
@@ -100,11 +100,6 @@ module _ (records : List Record) (tables : List ℕ) (size : ℕ) where
       meets-next (answered-passed (ap answerOf e)) (unless-met TooShort 0 (ap (λ (l : List ℕ). leb (4 * length l) size) (words-are e) ∙ f))
 
 module _ {records : List Record} {tables file₀ : List ℕ} {judged laid : Pen} {settled : Settled} {moduli₁ file₁ moduli₂ file₂ : List ℕ} where
-  -- what `finish` asks
-  pub closable : Walked false tables file₀ records (length records) judged moduli₁ file₁ → length file₁ ≡ length file₀ → Settles judged (length tables) (length file₀) settled
-      → Walked (settled .lay) tables file₁ records (length records) laid moduli₂ file₂ → length file₂ ≡ length file₁ → Closes settled laid file₂
-  closable w₁ l₁ s w₂ l₂ = record { near = fair w₂ .at }
-
   module _ {words₀ number place words : ℕ} {file : List ℕ} (w₁ : Walked false tables file₀ records (length records) judged moduli₁ file₁)
       (w₂ : Walked (settled .lay) tables file₁ records (length records) laid moduli₂ file₂) (f : Finished settled laid file₂ words₀ number place file words) where
     abbrev Call : Type 0

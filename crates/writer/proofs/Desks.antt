@@ -1,5 +1,5 @@
 -- Laws of a desk: what an item leaves on it, by what it did.
--- `after-refused`, `after-makes`, .. answer the returns of `item_on`, `room-for` its store of a modulus; `steady-laid` and `at-laid` what a second call asks.
+-- `after-refused`, `after-makes`, .. answer the returns of `went`, `went-so` and `room-of` the calls of it; `steady-laid` and `at-laid` what the rest of a record asks.
 -- Assumes nothing.
 use mathlib.Core.Path.{_≡_, refl, sym, ap, ap₂, subst, _∙_}
 use mathlib.Core.Bool.{Bool, true, false, cond}
@@ -24,74 +24,59 @@ use Rattle.words.specs.Cut.{cutWord}
 use Rattle.words.proofs.Judged.{Judged, judging}
 use Rattle.writer.specs.declared.pen.Pen.{Pen}
 use Rattle.writer.specs.Desk.{Desk, desk, penOf, stop, putWord, penAfter, moduliAfter, deskAfter, itemOn, layItem, refuse}
-use Rattle.writer.specs.Walked.{Steady, Ready}
+use Rattle.writer.specs.Walked.{Steady, Ready, RoomFor}
 use Rattle.writer.proofs.HoldingFacts.{makes-room, makes-plain, goes-room, gives-room, not-outputs}
 
 -- a desk is its parts
 pub desk-same : {p q : Pen} {m n f g : List ℕ} → p ≡ q → m ≡ n → f ≡ g → desk p m f ≡ desk q n g
 desk-same {p} {q} {m} {n} {f} {g} a b c = ap (λ (x : Pen). desk x m f) a ∙ ap₂ (λ (x y : List ℕ). desk q x y) b c
 
-module _ (lay : Bool) (place : ℕ) (item : Item) (pen : Pen) (moduli file : List ℕ) where
-  -- what the item does, and what one that did a step leaves
-  abbrev does : Step
-  does = judged (take (pen .made) moduli) (pen .given) (pen .at) (pen .due) item
-
+-- what is left by a step that is known
+module _ (lay : Bool) (place w : ℕ) (pen : Pen) (moduli file : List ℕ) where
   abbrev left-by : Step → Desk
-  left-by step = deskAfter lay place item (desk pen moduli file) step
+  left-by step = deskAfter lay place w (desk pen moduli file) step
 
-  did-so : {k : Desk} {step did : Step} → step ≡ does → step ≡ did → k ≡ left-by did → k ≡ left-by does
-  did-so j e d = d ∙ sym (ap left-by e) ∙ ap left-by j
-
-  pub after-refused :
-      {step : Step} {reason : Refusal} {pen′ : Pen}
-      → step ≡ does
-      → step ≡ Step.Refused reason
-      → pen′ ≡ stop pen reason place
-      → desk pen′ moduli file ≡ left-by does
-  after-refused j e p = did-so j e (ap (λ (x : Pen). desk x moduli file) p)
-
-  laid : {w : ℕ} {f : List ℕ} → w ≡ cutWord item → f ≡ cond lay (putWord file (pen .at) w) file → f ≡ cond lay (putWord file (pen .at) (cutWord item)) file
-  laid word put = put ∙ ap (λ (v : ℕ). cond lay (putWord file (pen .at) v) file) word
+  pub after-refused : {step : Step} {reason : Refusal} {pen′ : Pen} → step ≡ Step.Refused reason → pen′ ≡ stop pen reason place → desk pen′ moduli file ≡ left-by step
+  after-refused e p = ap (λ (x : Pen). desk x moduli file) p ∙ sym (ap left-by e)
 
   -- its word is laid down
-  module _ {w : ℕ} {f : List ℕ} (word : w ≡ cutWord item) (put : f ≡ cond lay (putWord file (pen .at) w) file) where
+  module _ {f : List ℕ} (put : f ≡ cond lay (putWord file (pen .at) w) file) where
     pub after-makes :
         {step : Step} {wire : Wire} {due : Due} {pen′ : Pen}
-        → step ≡ does
         → step ≡ Makes wire due
         → pen′ ≡ penOf due (pen .made + 1) (pen .given) (pen .taken) (pen .at + 1)
-        → desk pen′ (set moduli (pen .made) (wire .modulus)) f ≡ left-by does
-    after-makes j e p = did-so j e (desk-same p refl (laid word put))
+        → desk pen′ (set moduli (pen .made) (wire .modulus)) f ≡ left-by step
+    after-makes e p = desk-same p refl put ∙ sym (ap left-by e)
 
     pub after-goes :
         {step : Step} {due : Due} {pen′ : Pen}
-        → step ≡ does
         → step ≡ Goes due
         → pen′ ≡ penOf due (pen .made) (pen .given) (pen .taken) (pen .at + 1)
-        → desk pen′ moduli f ≡ left-by does
-    after-goes j e p = did-so j e (desk-same p refl (laid word put))
+        → desk pen′ moduli f ≡ left-by step
+    after-goes e p = desk-same p refl put ∙ sym (ap left-by e)
 
     pub after-gives :
         {step : Step} {wire : ℕ} {pen′ : Pen}
-        → step ≡ does
         → step ≡ Gives wire
         → pen′ ≡ penOf Outputs (pen .made) (pen .given + 1) (pen .taken) (pen .at + 1)
-        → desk pen′ moduli f ≡ left-by does
-    after-gives j e p = did-so j e (desk-same p refl (laid word put))
+        → desk pen′ moduli f ≡ left-by step
+    after-gives e p = desk-same p refl put ∙ sym (ap left-by e)
 
     pub after-ends :
-        {step : Step} {pen′ : Pen}
-        → step ≡ does
-        → step ≡ Ends
-        → pen′ ≡ penOf (pen .due) (pen .made) (pen .given) (pen .taken) (pen .at + 1)
-        → desk pen′ moduli f ≡ left-by does
-    after-ends j e p = did-so j e (desk-same p refl (laid word put))
+        {step : Step} {pen′ : Pen} → step ≡ Ends → pen′ ≡ penOf (pen .due) (pen .made) (pen .given) (pen .taken) (pen .at + 1) → desk pen′ moduli f ≡ left-by step
+    after-ends e p = desk-same p refl put ∙ sym (ap left-by e)
+
+  -- .. of an item that was judged
+  pub went-so : (item : Item) {step : Step} {k : Desk} → w ≡ cutWord item → step ≡ judged (take (pen .made) moduli) (pen .given) (pen .at) (pen .due) item
+      → k ≡ left-by step → k ≡ deskAfter lay place (cutWord item) (desk pen moduli file) (judged (take (pen .made) moduli) (pen .given) (pen .at) (pen .due) item)
+  went-so item {step} word j f =
+      f ∙ ap left-by j ∙ ap (λ (x : ℕ). deskAfter lay place x (desk pen moduli file) (judged (take (pen .made) moduli) (pen .given) (pen .at) (pen .due) item)) word
 
 -- where nothing was refused, and where something was
 module _ (lay : Bool) (place : ℕ) (item : Item) (d : Desk) {k : Desk} where
   pub lay-on :
       d .pen .answer ≡ Accepted
-      → k ≡ deskAfter lay place item d (judged (take (d .pen .made) (d .moduli)) (d .pen .given) (d .pen .at) (d .pen .due) item)
+      → k ≡ deskAfter lay place (cutWord item) d (judged (take (d .pen .made) (d .moduli)) (d .pen .given) (d .pen .at) (d .pen .due) item)
       → k ≡ layItem lay place item d
   unfolding itemOn
   lay-on e f = f ∙ sym (ap (itemOn lay place item d) e)
@@ -132,6 +117,9 @@ module _ {pen : Pen} {moduli : List ℕ} (s : Steady pen moduli) where
       made-below
       (makes-room (subst (Judged (take (pen .made) moduli) (pen .given) (pen .at) (pen .due) item) e (judging (take (pen .made) moduli) (pen .given) (pen .at) (pen .due) item))
       (λ bit b. let h : pen .made < 1024 = s .choosing bit b in omega (arith, h, front)))
+
+  pub room-of : (item : Item) {step : Step} → step ≡ judged (take (pen .made) moduli) (pen .given) (pen .at) (pen .due) item → RoomFor step pen moduli
+  room-of item j = record { room = λ wire then e. omega (arith, room-for item (sym j ∙ e), s .room) }
 
 -- what an item leaves is steady again, and the file has one word more at most
 module _ (place : ℕ) (item : Item) {pen : Pen} {moduli : List ℕ} (s : Steady pen moduli) where

@@ -21,7 +21,7 @@ use Rattle.words.specs.Cut.{cutWord}
 use Rattle.words.proofs.Fitting.{cut-fits}
 use Rattle.words.proofs.Judged.{Judged, judging}
 use Rattle.circuit.proofs.More.{each}
-use Rattle.writer.specs.Written.{Draft, Drafted, stopped, drafted, after, laid}
+use Rattle.writer.specs.Written.{Draft, Drafted, stopped, drafted, afterItem, laid}
 use Rattle.writer.specs.Desk.{Desk, desk, stop, deskAfter, itemOn, layItem}
 use Rattle.writer.specs.Walked.{Steady, Sound, Holds}
 use Rattle.writer.proofs.HoldingFiles.{Kept, kept-more}
@@ -51,9 +51,9 @@ module _ {lay : Bool} {before : List ℕ} {k : Desk} {d : Draft} (h : Holds lay 
   file-kept = record { size = h .size; kept = h .kept; laid = h .laid }
 
   -- the item's word, where its fields fit
-  file-more : {x : Item} → Fits x → Kept lay before (deskAfter lay 0 x k Ends .file) (d .words ++ (wordOf x ∷ []))
+  file-more : {x : Item} → Fits x → Kept lay before (deskAfter lay 0 (cutWord x) k Ends .file) (d .words ++ (wordOf x ∷ []))
   file-more {x} f =
-      subst (λ (w : ℕ). Kept lay before (deskAfter lay 0 x k Ends .file) (d .words ++ (w ∷ []))) (cut-fits f) (kept-more lay (cutWord x) file-kept (h .at))
+      subst (λ (w : ℕ). Kept lay before (deskAfter lay 0 (cutWord x) k Ends .file) (d .words ++ (w ∷ []))) (cut-fits f) (kept-more lay (cutWord x) file-kept (h .at))
 
   at-more : (w : ℕ) → k .pen .at + 1 ≡ length (d .words ++ (w ∷ []))
   at-more w = omega (arith, h .at, length-append (d .words) (w ∷ []))
@@ -66,8 +66,8 @@ module _ {lay : Bool} {before : List ℕ} {k : Desk} {d : Draft} (h : Holds lay 
         ∙ ap (λ (n : ℕ). judged (d .moduli) (d .given) n (k .pen .due) x) (h .at)
         ∙ ap (λ (due : Due). judged (d .moduli) (d .given) (length (d .words)) due x) (h .due)
 
-    comes : (s : Step) → Judged (d .moduli) (d .given) (length (d .words)) (d .due) x s → Comes lay before place k (deskAfter lay place x k s) (after d x s)
-    unfolding after
+    comes : (s : Step) → Judged (d .moduli) (d .given) (length (d .words)) (d .due) x s → Comes lay before place k (deskAfter lay place (cutWord x) k s) (afterItem d x s)
+    unfolding afterItem
     comes (Step.Refused reason) j = put-down refl
     comes (Makes wire due) j =
         let m : Made (d .moduli) x wire due = made-so (d .moduli) few (h .sound .byte) (h .sound .positive) due-next j in
@@ -76,7 +76,7 @@ module _ {lay : Bool} {before : List ℕ} {k : Desk} {d : Draft} (h : Holds lay 
         ap (λ (n : ℕ). take n (set (k .moduli) (k .pen .made) (wire .modulus))) (add-one (k .pen .made))
         ∙ take-suc-set (k .moduli) (k .pen .made) (wire .modulus) (omega (arith, h .steady .room, room))
         ∙ ap (λ (l : List ℕ). l ++ (wire .modulus ∷ [])) (h .moduli) in
-        let file : Kept lay before (deskAfter lay 0 x k Ends .file) (d .words ++ (wordOf x ∷ [])) = file-more (m .fits) in
+        let file : Kept lay before (deskAfter lay 0 (cutWord x) k Ends .file) (d .words ++ (wordOf x ∷ [])) = file-more (m .fits) in
         let next : DueNext (d .moduli) due = made-next m in
         held
         (record {
@@ -110,7 +110,7 @@ module _ {lay : Bool} {before : List ℕ} {k : Desk} {d : Draft} (h : Holds lay 
         })
     comes (Goes due) j =
         let g : Gone (d .moduli) x due = gone-so (d .moduli) few (h .sound .byte) (h .sound .positive) due-next j in
-        let file : Kept lay before (deskAfter lay 0 x k Ends .file) (d .words ++ (wordOf x ∷ [])) = file-more (g .fits) in
+        let file : Kept lay before (deskAfter lay 0 (cutWord x) k Ends .file) (d .words ++ (wordOf x ∷ [])) = file-more (g .fits) in
         held
         (record {
           answer = refl;
@@ -132,7 +132,7 @@ module _ {lay : Bool} {before : List ℕ} {k : Desk} {d : Draft} (h : Holds lay 
         })
     comes (Gives wire) j =
         let f : Fits x × (d .given < 256) = given-so (d .moduli) few (h .sound .byte) (h .sound .positive) j in
-        let file : Kept lay before (deskAfter lay 0 x k Ends .file) (d .words ++ (wordOf x ∷ [])) = file-more (f .0) in
+        let file : Kept lay before (deskAfter lay 0 (cutWord x) k Ends .file) (d .words ++ (wordOf x ∷ [])) = file-more (f .0) in
         held
         (record {
           answer = refl;
@@ -153,7 +153,7 @@ module _ {lay : Bool} {before : List ℕ} {k : Desk} {d : Draft} (h : Holds lay 
           laid = file .laid;
         })
     comes Ends j =
-        let file : Kept lay before (deskAfter lay 0 x k Ends .file) (d .words ++ (wordOf x ∷ [])) = file-more (ended-so (d .moduli) few (h .sound .byte) (h .sound .positive) j) in
+        let file : Kept lay before (deskAfter lay 0 (cutWord x) k Ends .file) (d .words ++ (wordOf x ∷ [])) = file-more (ended-so (d .moduli) few (h .sound .byte) (h .sound .positive) j) in
         held
         (record {
           answer = refl;
@@ -169,9 +169,9 @@ module _ {lay : Bool} {before : List ℕ} {k : Desk} {d : Draft} (h : Holds lay 
         })
 
     -- an item that is laid
-    on-desk : layItem lay place x k ≡ deskAfter lay place x k (judged (d .moduli) (d .given) (length (d .words)) (d .due) x)
+    on-desk : layItem lay place x k ≡ deskAfter lay place (cutWord x) k (judged (d .moduli) (d .given) (length (d .words)) (d .due) x)
     unfolding itemOn
-    on-desk = ap (itemOn lay place x k) (h .answer) ∙ ap (deskAfter lay place x k) same
+    on-desk = ap (itemOn lay place x k) (h .answer) ∙ ap (deskAfter lay place (cutWord x) k) same
 
     pub held-item : Comes lay before place k (layItem lay place x k) (laid d x)
     held-item =

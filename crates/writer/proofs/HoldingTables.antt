@@ -15,7 +15,7 @@ use Rattle.words.specs.declared.gate.Due.the-variants.{Gates, Entries}
 use Rattle.words.specs.declared.item.Item.the-variants.{Entry}
 use Rattle.words.specs.Items.{check, afterEntry}
 use Rattle.words.specs.Encode.{wordOf}
-use Rattle.writer.specs.Written.{Draft, Drafted, stopped, drafted, after, laid, andThen, laidAll, whole}
+use Rattle.writer.specs.Written.{Draft, Drafted, stopped, drafted, afterItem, laid, unlessStopped, laidAll, whole}
 use Rattle.writer.specs.Desk.{Desk, desk, stop, putWords, allBelow, entryWords, tableOn}
 use Rattle.writer.specs.Walked.{Steady, Sound, Holds}
 use Rattle.writer.proofs.HoldingFiles.{Kept, kept-more}
@@ -41,18 +41,18 @@ module _ (m : List ℕ) (g q : ℕ) (t : List ℕ) where
   at-due due ws = record { moduli = m; given = g; due = due; tables = t; words = ws }
 
   entry-good : (left i : ℕ) (ws : List ℕ) → ltb i q ≡ true → laid (at-due (Entries left q) ws) (Entry i) ≡ drafted (at-due (afterEntry left q) (ws ++ (wordOf (Entry i) ∷ [])))
-  unfolding after check
+  unfolding afterItem check
   entry-good left i ws e = rw e refl
 
   entry-bad : (left i : ℕ) (ws : List ℕ) → ltb i q ≡ false → laid (at-due (Entries left q) ws) (Entry i) ≡ stopped OutOfRange
-  unfolding after check
+  unfolding afterItem check
   entry-bad left i ws e = rw e refl
 
   -- what entries after a good one come to
   onward : (left i : ℕ) (ws : List ℕ) (others : List ℕ) → ltb i q ≡ true
       → laidAll (at-due (Entries left q) ws) (map Entry (i ∷ others)) ≡ laidAll (at-due (afterEntry left q) (ws ++ (wordOf (Entry i) ∷ []))) (map Entry others)
-  unfolding laidAll andThen
-  onward left i ws others e = ap (λ (x : Drafted). andThen x (λ d. laidAll d (map Entry others))) (entry-good left i ws e)
+  unfolding laidAll unlessStopped
+  onward left i ws others e = ap (λ (x : Drafted). unlessStopped x (λ d. laidAll d (map Entry others))) (entry-good left i ws e)
 
   -- all that are due, and all below the modulus
   full : (images : List ℕ) (n : ℕ) (ws : List ℕ) → length images ≡ suc n → allBelow q images ≡ true
@@ -69,13 +69,13 @@ module _ (m : List ℕ) (g q : ℕ) (t : List ℕ) where
 
   -- fewer than are due
   short : (images : List ℕ) (left : ℕ) (ws : List ℕ) → length images < left → allBelow q images ≡ true
-      → andThen (laidAll (at-due (Entries left q) ws) (map Entry images)) (λ e. whole e (e .due)) ≡ stopped WrongLength
-  unfolding laidAll allBelow afterEntry andThen whole
+      → unlessStopped (laidAll (at-due (Entries left q) ws) (map Entry images)) (λ e. whole e (e .due)) ≡ stopped WrongLength
+  unfolding laidAll allBelow afterEntry unlessStopped whole
   short [] left ws e b = refl
   short (i ∷ others) zero ws e b = absurd (omega (arith, e))
   short (i ∷ others) (suc zero) ws e b = absurd (omega (arith, e))
   short (i ∷ others) (suc (suc left)) ws e b =
-      ap (λ (x : Drafted). andThen x (λ d. whole d (d .due))) (onward (suc (suc left)) i ws others (and-left (ltb i q) _ b))
+      ap (λ (x : Drafted). unlessStopped x (λ d. whole d (d .due))) (onward (suc (suc left)) i ws others (and-left (ltb i q) _ b))
       ∙ short others (suc left) (ws ++ (wordOf (Entry i) ∷ [])) (omega (arith, e)) (and-right (ltb i q) _ b)
 
   -- one that is not below the modulus
@@ -83,9 +83,9 @@ module _ (m : List ℕ) (g q : ℕ) (t : List ℕ) where
       → (allBelow q others ≡ false → laidAll (at-due (afterEntry left q) (ws ++ (wordOf (Entry i) ∷ []))) (map Entry others) ≡ stopped OutOfRange)
       → (good : Bool) → ltb i q ≡ good → (good && allBelow q others) ≡ false
       → laidAll (at-due (Entries left q) ws) (map Entry (i ∷ others)) ≡ stopped OutOfRange
-  unfolding laidAll andThen
+  unfolding laidAll unlessStopped
   bad-here left i ws others later true e b = onward left i ws others e ∙ later b
-  bad-here left i ws others later false e b = ap (λ (x : Drafted). andThen x (λ d. laidAll d (map Entry others))) (entry-bad left i ws e)
+  bad-here left i ws others later false e b = ap (λ (x : Drafted). unlessStopped x (λ d. laidAll d (map Entry others))) (entry-bad left i ws e)
 
   bad : (images : List ℕ) (left : ℕ) (ws : List ℕ) → length images ≤ left → allBelow q images ≡ false
       → laidAll (at-due (Entries left q) ws) (map Entry images) ≡ stopped OutOfRange
@@ -123,14 +123,14 @@ module _ {lay : Bool} {before : List ℕ} {k : Desk} {d : Draft} (h : Holds lay 
   at-most false y m = omega (arith, m refl)
 
   abbrev pub tableOutcome : Draft → Drafted
-  tableOutcome e = andThen (laidAll e (map Entry images)) (λ f. whole f (f .due))
+  tableOutcome e = unlessStopped (laidAll e (map Entry images)) (λ f. whole f (f .due))
 
   pub held-table : (good enough : Bool) → allBelow q images ≡ good → (enough ≡ true → length images ≡ suc n) → (enough ≡ false → length images < suc n)
       → Tabled lay before place n k d (tableOn lay place (suc n) images k good enough) (tableOutcome d)
-  unfolding tableOn andThen whole
+  unfolding tableOn unlessStopped whole
   held-table false enough b yes-enough not-enough =
       subst (Tabled lay before place n k d _)
-      (sym (ap tableOutcome as-due ∙ ap (λ (x : Drafted). andThen x (λ f. whole f (f .due))) (bad (d .moduli) (d .given) q (d .tables) images (suc n) (d .words) (at-most enough yes-enough not-enough) b)))
+      (sym (ap tableOutcome as-due ∙ ap (λ (x : Drafted). unlessStopped x (λ f. whole f (f .due))) (bad (d .moduli) (d .given) q (d .tables) images (suc n) (d .words) (at-most enough yes-enough not-enough) b)))
       (put-down refl)
   held-table true false b yes-enough not-enough =
       subst (Tabled lay before place n k d _) (sym (ap tableOutcome as-due ∙ short (d .moduli) (d .given) q (d .tables) images (suc n) (d .words) (not-enough refl) b)) (put-down refl)
@@ -139,7 +139,7 @@ module _ {lay : Bool} {before : List ℕ} {k : Desk} {d : Draft} (h : Holds lay 
       let count : k .pen .at + suc n ≡ length (d .words ++ entryWords images) =
       omega (arith, h .at, length-append (d .words) (entryWords images), length-map images (λ (i : ℕ). wordOf (Entry i)), yes-enough refl) in
       subst (Tabled lay before place n k d _)
-      (sym (ap tableOutcome as-due ∙ ap (λ (x : Drafted). andThen x (λ f. whole f (f .due))) (full (d .moduli) (d .given) q (d .tables) images n (d .words) (yes-enough refl) b)))
+      (sym (ap tableOutcome as-due ∙ ap (λ (x : Drafted). unlessStopped x (λ f. whole f (f .due))) (full (d .moduli) (d .given) q (d .tables) images n (d .words) (yes-enough refl) b)))
       (full-table
       (record {
         answer = refl;

@@ -24,15 +24,18 @@ use Rattle.words.specs.declared.gate.Step.the-variants.{Makes, Goes, Gives, End
 use Rattle.words.proofs.Judged.{Judged, judging}
 use Rattle.words.specs.declared.item.Item.{Item}
 use Rattle.words.specs.declared.item.Item.the-variants.{Head, Project, Entry, Select}
+use Rattle.words.specs.Cut.{cutWord}
 use Rattle.words.specs.Items.{judged}
 use Rattle.words.specs.Encode.{wordOf, fileOf}
 use Rattle.writer.specs.declared.entry.Record.{Record}
 use Rattle.writer.specs.declared.pen.Pen.{Pen}
+use Rattle.writer.specs.declared.speech.Rest.{Rest}
+use Rattle.writer.specs.declared.speech.Rest.the-variants.{Alone, Table}
 use Rattle.writer.specs.declared.speech.Speaks.{Speaks}
-use Rattle.writer.specs.declared.speech.Speaks.the-variants.{Nothing, One, Table, Choice}
-use Rattle.writer.specs.Says.{Speech, saidBy}
-use Rattle.writer.specs.Written.{Draft, Drafted, stopped, drafted, blank, leaving, after, laid, andThen, laidAll, whole, saidTo, recorded, refused, onward, writeFrom, writeRecords}
-use Rattle.writer.specs.Desk.{Desk, desk, stop, deskAfter, itemOn, layItem, allBelow, tableOn, tableDue, tableAfter, layTable, meaning, Simple, spokenOn, refuse}
+use Rattle.writer.specs.declared.speech.Speaks.the-variants.{Nothing, Says}
+use Rattle.writer.specs.Says.{Speech, nothing, items}
+use Rattle.writer.specs.Written.{Draft, Drafted, stopped, drafted, blank, leaving, afterItem, laid, unlessStopped, laidAll, whole, saidTo, recorded, refused, onward, writeFrom, writeRecords}
+use Rattle.writer.specs.Desk.{Desk, desk, stop, deskAfter, itemOn, layItem, allBelow, tableOn, tableDue, tableAfter, layTable, Means, restOn, spokenOn, refuse}
 use Rattle.writer.specs.Walked.{noRecord, Steady, Ready, Begun, Stepped, Sound, Holds, Between, Walked}
 use Rattle.writer.proofs.HoldingFiles.{Kept, kept-more}
 use Rattle.writer.proofs.HoldingFacts.{no-choice, not-inputs}
@@ -74,8 +77,8 @@ module _ (d : Draft) (x : Item) where
   more-words : length (d .words ++ (wordOf x ∷ [])) ≡ suc (length (d .words))
   more-words = length-append (d .words) (wordOf x ∷ []) ∙ add-one (length (d .words))
 
-  one-made : (wire : Wire) (due : Due) → Between due → Counts d (after d x (Makes wire due))
-  unfolding after
+  one-made : (wire : Wire) (due : Due) → Between due → Counts d (afterItem d x (Makes wire due))
+  unfolding afterItem
   one-made wire due b =
       let l : length (d .moduli ++ (wire .modulus ∷ [])) ≡ length (d .moduli) + 1 = length-append (d .moduli) (wire .modulus ∷ []) in
       let sum : length (d .moduli ++ (wire .modulus ∷ [])) + d .given ≡ suc (length (d .moduli) + d .given) = omega (arith, l) in
@@ -83,31 +86,31 @@ module _ (d : Draft) (x : Item) where
       let same : d .given ≤ d .given = omega arith in
       one sum more-words more same b refl
 
-  one-given : (a : ℕ) → Counts d (after d x (Gives a))
-  unfolding after
+  one-given : (a : ℕ) → Counts d (afterItem d x (Gives a))
+  unfolding afterItem
   one-given a =
       let sum : length (d .moduli) + suc (d .given) ≡ suc (length (d .moduli) + d .given) = omega arith in
       let same : length (d .moduli) ≤ length (d .moduli) = omega arith in
       let more : d .given ≤ suc (d .given) = omega arith in
       one sum more-words same more Between.outputs refl
 
-  not-made : (reason : Refusal) → Counts d (after d x (Step.Refused reason))
-  unfolding after
+  not-made : (reason : Refusal) → Counts d (afterItem d x (Step.Refused reason))
+  unfolding afterItem
   not-made reason = none
 
-counts : {x : Item} → Simple (One x) → {d : Draft} {given at : ℕ} {due : Due} {s : Step} → Judged (d .moduli) given at due x s → Counts d (after d x s)
-counts Simple.input {d} (Judged.refused {reason = reason}) = not-made d _ reason
-counts Simple.input {d} (Judged.input room modulus owner) = one-made d _ _ Inputs Between.inputs
-counts Simple.add {d} (Judged.refused {reason = reason}) = not-made d _ reason
-counts Simple.add {d} (Judged.add room two) = one-made d _ _ Gates Between.gates
-counts Simple.scale {d} (Judged.refused {reason = reason}) = not-made d _ reason
-counts Simple.scale {d} (Judged.scale room a constant) = one-made d _ _ Gates Between.gates
-counts Simple.multiply {d} (Judged.refused {reason = reason}) = not-made d _ reason
-counts Simple.multiply {d} (Judged.multiply room two) = one-made d _ _ Gates Between.gates
-counts Simple.output {d} (Judged.refused {reason = reason}) = not-made d _ reason
-counts Simple.output {d} (Judged.output due a room) = one-given d _ _
+counts : {ms ts : List ℕ} {x : Item} {speech : Speech} → Means ms ts (Says x Alone) speech → {d : Draft} {given at : ℕ} {due : Due} {s : Step} → Judged (d .moduli) given at due x s → Counts d (afterItem d x s)
+counts Means.input {d} (Judged.refused {reason = reason}) = not-made d _ reason
+counts Means.input {d} (Judged.input room modulus owner) = one-made d _ _ Inputs Between.inputs
+counts Means.add {d} (Judged.refused {reason = reason}) = not-made d _ reason
+counts Means.add {d} (Judged.add room two) = one-made d _ _ Gates Between.gates
+counts Means.scale {d} (Judged.refused {reason = reason}) = not-made d _ reason
+counts Means.scale {d} (Judged.scale room a constant) = one-made d _ _ Gates Between.gates
+counts Means.multiply {d} (Judged.refused {reason = reason}) = not-made d _ reason
+counts Means.multiply {d} (Judged.multiply room two) = one-made d _ _ Gates Between.gates
+counts Means.output {d} (Judged.refused {reason = reason}) = not-made d _ reason
+counts Means.output {d} (Judged.output due a room) = one-given d _ _
 
-branches-count : {given at : ℕ} (e : Draft) {due : Due} {a b : ℕ} {s : Step} → Judged (e .moduli) given at due (Item.Branches a b) s → Counts e (after e (Item.Branches a b) s)
+branches-count : {given at : ℕ} (e : Draft) {due : Due} {a b : ℕ} {s : Step} → Judged (e .moduli) given at due (Item.Branches a b) s → Counts e (afterItem e (Item.Branches a b) s)
 branches-count e (Judged.refused {reason = reason}) = not-made e _ reason
 branches-count e (Judged.branches two) = one-made e _ _ Gates Between.gates
 
@@ -119,23 +122,23 @@ whole-between e Between.gates = refl
 whole-between e Between.outputs = refl
 
 -- a record's only item
-only : (d : Draft) (c : Drafted) → Counts d c → andThen (andThen c (λ e. laidAll e [])) (λ e. whole e (e .due)) ≡ c
-unfolding andThen laidAll
+only : (d : Draft) (c : Drafted) → Counts d c → unlessStopped (unlessStopped c (λ e. laidAll e [])) (λ e. whole e (e .due)) ≡ c
+unfolding unlessStopped laidAll
 only d (stopped reason) n = refl
 only d (drafted e) (one m w l g b t) = whole-between e b
 
 -- what an item leaves of the entries taken, and that it does nothing once the pen is put down
-taken-after : (lay : Bool) (place : ℕ) (x : Item) (k : Desk) (s : Step) → deskAfter lay place x k s .pen .taken ≡ k .pen .taken
-taken-after lay place x k (Step.Refused reason) = refl
-taken-after lay place x k (Makes wire due) = refl
-taken-after lay place x k (Goes due) = refl
-taken-after lay place x k (Gives wire) = refl
-taken-after lay place x k Ends = refl
+taken-after : (lay : Bool) (place w : ℕ) (k : Desk) (s : Step) → deskAfter lay place w k s .pen .taken ≡ k .pen .taken
+taken-after lay place w k (Step.Refused reason) = refl
+taken-after lay place w k (Makes wire due) = refl
+taken-after lay place w k (Goes due) = refl
+taken-after lay place w k (Gives wire) = refl
+taken-after lay place w k Ends = refl
 
 taken-on : (lay : Bool) (place : ℕ) (x : Item) (k : Desk) (answer : Answer) → itemOn lay place x k answer .pen .taken ≡ k .pen .taken
 unfolding itemOn
 taken-on lay place x k Accepted =
-    taken-after lay place x k (judged (take (k .pen .made) (k .moduli)) (k .pen .given) (k .pen .at) (k .pen .due) x)
+    taken-after lay place (cutWord x) k (judged (take (k .pen .made) (k .moduli)) (k .pen .given) (k .pen .at) (k .pen .due) x)
 taken-on lay place x k (Refused reason at) = refl
 
 pub taken-kept : (lay : Bool) (place : ℕ) (x : Item) (k : Desk) → layItem lay place x k .pen .taken ≡ k .pen .taken
@@ -188,14 +191,14 @@ module _ {lay : Bool} {before : List ℕ} (tables : List ℕ) {k : Desk} {d : Dr
   leaves-one (put-down e) none same = down e
 
   -- a record with one item
-  leaves-item : (x : Item) → Simple (One x) → Leaves lay tables before place (layItem lay place x k) (saidTo d (meaning (d .moduli) (d .tables) (One x)))
+  leaves-item : (x : Item) {speech : Speech} → Means (d .moduli) (d .tables) (Says x Alone) speech → Leaves lay tables before place (layItem lay place x k) (saidTo d (items (x ∷ []) (d .tables)))
   unfolding saidTo laidAll
-  leaves-item x simple =
-      let n : Counts d (laid d x) = counts simple (judging (d .moduli) (d .given) (length (d .words)) (d .due) x) in
+  leaves-item x means =
+      let n : Counts d (laid d x) = counts means (judging (d .moduli) (d .given) (length (d .words)) (d .due) x) in
       subst (Leaves lay tables before place (layItem lay place x k)) (sym (only d (laid d x) n)) (leaves-one (held-item h place x) n (taken-kept lay place x k))
 
   -- a record that says nothing
-  leaves-nothing : Leaves lay tables before place (refuse place k (k .pen .answer)) (saidTo d (meaning (d .moduli) (d .tables) Nothing))
+  leaves-nothing : Leaves lay tables before place (refuse place k (k .pen .answer)) (saidTo d nothing)
   unfolding saidTo refuse
   leaves-nothing = down (ap (refuse place k) (h .answer))
 
@@ -211,7 +214,7 @@ module _ {lay : Bool} {before : List ℕ} (tables : List ℕ) {k : Desk} {d : Dr
     images = take p (d .tables)
 
     abbrev rest-of : Drafted → Drafted
-    rest-of c = andThen (andThen c (λ e. laidAll e (map Entry images))) (λ e. whole e (e .due))
+    rest-of c = unlessStopped (unlessStopped c (λ e. laidAll e (map Entry images))) (λ e. whole e (e .due))
 
     -- what the code takes of the tables
     taken-images : (n : ℕ) → n ≡ k .pen .taken → take p (drop n tables) ≡ images
@@ -269,16 +272,16 @@ module _ {lay : Bool} {before : List ℕ} (tables : List ℕ) {k : Desk} {d : Dr
           })
           (j .holds .kept))
 
-      leaves-table : Leaves lay tables before place (layTable lay place tables k₁) (andThen (laidAll e₁ (map Entry images)) (λ e. whole e (e .due)))
+      leaves-table : Leaves lay tables before place (layTable lay place tables k₁) (unlessStopped (laidAll e₁ (map Entry images)) (λ e. whole e (e .due)))
       leaves-table =
-          subst (λ (i : Desk). Leaves lay tables before place i (andThen (laidAll e₁ (map Entry images)) (λ e. whole e (e .due)))) (sym on-table)
+          subst (λ (i : Desk). Leaves lay tables before place i (unlessStopped (laidAll e₁ (map Entry images)) (λ e. whole e (e .due)))) (sym on-table)
           (after-table (held-table (j .holds) n q (j .due ∙ ap (λ (m : ℕ). Entries m q) (j .some)) place images (allBelow q images) enough refl is-enough not-enough))
 
     -- .. by what the item did
     leaves-project : {due : Due} (s : Step) → Judged (d .moduli) (d .given) (length (d .words)) due (Project q a) s → {k₁ : Desk}
-        → Comes lay before place k k₁ (after begun (Project q a) s) → k₁ .pen .taken ≡ k .pen .taken
-        → Leaves lay tables before place (layTable lay place tables k₁) (rest-of (after begun (Project q a) s))
-    unfolding after andThen
+        → Comes lay before place k k₁ (afterItem begun (Project q a) s) → k₁ .pen .taken ≡ k .pen .taken
+        → Leaves lay tables before place (layTable lay place tables k₁) (rest-of (afterItem begun (Project q a) s))
+    unfolding afterItem unlessStopped
     leaves-project s (Judged.refused {reason = reason}) {k₁} (put-down e) tk =
         subst (λ (i : Desk). Leaves lay tables before place i (stopped reason)) (sym (idle-table lay place tables k₁ (ap (λ (i : Desk). i .pen .answer) e))) (down e)
     leaves-project s (Judged.project room modulus made) (held h₁) tk =
@@ -295,7 +298,7 @@ module _ {lay : Bool} {before : List ℕ} (tables : List ℕ) {k : Desk} {d : Dr
           taken = tk;
         })
 
-    leaves-projection : Leaves lay tables before place (layTable lay place tables (layItem lay place (Project q a) k)) (saidTo d (meaning (d .moduli) (d .tables) (Table q a)))
+    leaves-projection : Leaves lay tables before place (layTable lay place tables (layItem lay place (Project q a) k)) (saidTo d (items (Project q a ∷ map Entry images) (drop p (d .tables))))
     unfolding saidTo laidAll
     leaves-projection =
         leaves-project _ (judging (d .moduli) (d .given) (length (d .words)) (d .due) (Project q a))
@@ -307,7 +310,7 @@ module _ {lay : Bool} {before : List ℕ} (tables : List ℕ) {k : Desk} {d : Dr
     branches = Item.Branches a b
 
     abbrev rest-of-choice : Drafted → Drafted
-    rest-of-choice c = andThen (andThen c (λ e. andThen (laid e branches) (λ f. laidAll f []))) (λ e. whole e (e .due))
+    rest-of-choice c = unlessStopped (unlessStopped c (λ e. unlessStopped (laid e branches) (λ f. laidAll f []))) (λ e. whole e (e .due))
 
     -- the desk after the bit
     record Chosen (k₁ : Desk) (e₁ : Draft) : Type 0 where
@@ -334,38 +337,38 @@ module _ {lay : Bool} {before : List ℕ} (tables : List ℕ) {k : Desk} {d : Dr
           })
           (j .holds .kept))
 
-      leaves-branches : Leaves lay tables before place (layItem lay place branches k₁) (andThen (andThen (laid e₁ branches) (λ f. laidAll f [])) (λ e. whole e (e .due)))
+      leaves-branches : Leaves lay tables before place (layItem lay place branches k₁) (unlessStopped (unlessStopped (laid e₁ branches) (λ f. laidAll f [])) (λ e. whole e (e .due)))
       leaves-branches =
           let n : Counts e₁ (laid e₁ branches) = branches-count e₁ (judging (e₁ .moduli) (e₁ .given) (length (e₁ .words)) (e₁ .due) branches) in
           subst (Leaves lay tables before place (layItem lay place branches k₁)) (sym (only e₁ (laid e₁ branches) n))
           (after-branches (held-item (j .holds) place branches) n (taken-kept lay place branches k₁))
 
     leaves-select : {due : Due} (s : Step) → Judged (d .moduli) (d .given) (length (d .words)) due (Select bit) s → {k₁ : Desk}
-        → Comes lay before place k k₁ (after d (Select bit) s) → k₁ .pen .taken ≡ k .pen .taken
-        → Leaves lay tables before place (layItem lay place branches k₁) (rest-of-choice (after d (Select bit) s))
-    unfolding after andThen
+        → Comes lay before place k k₁ (afterItem d (Select bit) s) → k₁ .pen .taken ≡ k .pen .taken
+        → Leaves lay tables before place (layItem lay place branches k₁) (rest-of-choice (afterItem d (Select bit) s))
+    unfolding afterItem unlessStopped
     leaves-select s (Judged.refused {reason = reason}) {k₁} (put-down e) tk =
         subst (λ (i : Desk). Leaves lay tables before place i (stopped reason)) (sym (idle-item lay place branches k₁ (ap (λ (i : Desk). i .pen .answer) e))) (down e)
     leaves-select s (Judged.select room made) (held h₁) tk =
         leaves-branches
         (record { holds = h₁; made = refl; given = refl; words = length-append (d .words) (wordOf (Select bit) ∷ []); ends = refl; taken = tk })
 
-    leaves-choice : Leaves lay tables before place (layItem lay place branches (layItem lay place (Select bit) k)) (saidTo d (meaning (d .moduli) (d .tables) (Choice bit a b)))
+    leaves-choice : Leaves lay tables before place (layItem lay place branches (layItem lay place (Select bit) k)) (saidTo d (items (Select bit ∷ branches ∷ []) (d .tables)))
     unfolding saidTo laidAll
     leaves-choice =
         leaves-select _ (judging (d .moduli) (d .given) (length (d .words)) (d .due) (Select bit)) (held-item h place (Select bit)) (taken-kept lay place (Select bit) k)
 
   -- a record
-  leaves : {speaks : Speaks} → Simple speaks → Leaves lay tables before place (spokenOn lay tables place speaks k) (saidTo d (meaning (d .moduli) (d .tables) speaks))
-  unfolding spokenOn
-  leaves Simple.silent = leaves-nothing
-  leaves Simple.input = leaves-item _ Simple.input
-  leaves Simple.add = leaves-item _ Simple.add
-  leaves Simple.scale = leaves-item _ Simple.scale
-  leaves Simple.multiply = leaves-item _ Simple.multiply
-  leaves Simple.output = leaves-item _ Simple.output
-  leaves (Simple.table {modulus} {a}) = leaves-projection modulus a
-  leaves (Simple.choice {bit} {a} {b}) = leaves-choice bit a b
+  leaves : {speaks : Speaks} {speech : Speech} → Means (d .moduli) (d .tables) speaks speech → Leaves lay tables before place (spokenOn lay tables place speaks k) (saidTo d speech)
+  unfolding spokenOn restOn
+  leaves Means.silent = leaves-nothing
+  leaves Means.input = leaves-item _ Means.input
+  leaves Means.add = leaves-item _ Means.add
+  leaves Means.scale = leaves-item _ Means.scale
+  leaves Means.multiply = leaves-item _ Means.multiply
+  leaves Means.output = leaves-item _ Means.output
+  leaves (Means.table {modulus} {a}) = leaves-projection modulus a
+  leaves (Means.choice {bit} {a} {b}) = leaves-choice bit a b
 
 -- the rest of the records, after one more
 rest-more : (records : List Record) (tables : List ℕ) (i : ℕ) (d : Draft) → i < length records → writeFrom i (drop i records) d ≡ writeRecords records tables
@@ -374,14 +377,16 @@ unfolding writeFrom
 rest-more records tables i d l e = sym (ap (λ (rs : List Record). writeFrom i rs d) (drop-cons records i noRecord l)) ∙ e
 
 -- the step after a refusal does nothing
+idle-rest : (lay : Bool) (tables : List ℕ) (rest : Rest) (place : ℕ) (k : Desk) {reason : Refusal} {at : ℕ} → k .pen .answer ≡ Refused reason at → restOn lay tables place rest k ≡ k
+unfolding restOn
+idle-rest lay tables Alone place k e = refl
+idle-rest lay tables Table place k e = idle-table lay place tables k e
+idle-rest lay tables (Rest.Branches a b) place k e = idle-item lay place (Item.Branches a b) k e
+
 idle : (lay : Bool) (tables : List ℕ) (speaks : Speaks) (place : ℕ) (k : Desk) {reason : Refusal} {at : ℕ} → k .pen .answer ≡ Refused reason at → spokenOn lay tables place speaks k ≡ k
 unfolding spokenOn refuse
 idle lay tables Nothing place k e = ap (refuse place k) e
-idle lay tables (One x) place k e = idle-item lay place x k e
-idle lay tables (Table q a) place k e =
-    ap (layTable lay place tables) (idle-item lay place (Project q a) k e) ∙ idle-table lay place tables k e
-idle lay tables (Choice bit a b) place k e =
-    ap (layItem lay place (Item.Branches a b)) (idle-item lay place (Select bit) k e) ∙ idle-item lay place (Item.Branches a b) k e
+idle lay tables (Says first rest) place k e = ap (restOn lay tables place rest) (idle-item lay place first k e) ∙ idle-rest lay tables rest place k e
 
 -- Before the first record, what a record may rely on, and one record more.
 module _ {lay : Bool} {tables before : List ℕ} {records : List Record} where
@@ -423,8 +428,7 @@ module _ {lay : Bool} {tables before : List ℕ} {records : List Record} where
   more {i} {pen} {pen′} {moduli} {moduli′} {file} {file′} l (Walked.goes d h between near here ahead rest) s =
       subst (λ (k : Desk). Walked lay tables before records (i + 1) (k .pen) (k .moduli) (k .file))
       (ap (λ (n : ℕ). spokenOn lay tables n (s .speaks) (desk pen moduli file)) here ∙ sym (s .done))
-      (walked-on (leaves tables h near i here ahead (s .simple))
-      (ap (λ (x : Speech). onward (writeFrom (suc i) (drop (suc i) records)) i (saidTo d x)) (sym (s .means (d .moduli) (d .tables))) ∙ rest-more records tables i d l rest))
+      (walked-on (leaves tables h near i here ahead (s .means (d .moduli) (d .tables))) (rest-more records tables i d l rest))
   more {i} {pen} {pen′} {moduli} {moduli′} {file} {file′} l (Walked.stops answer so r kept) s =
       subst (λ (k : Desk). Walked lay tables before records (i + 1) (k .pen) (k .moduli) (k .file))
       (sym (s .done ∙ idle lay tables (s .speaks) (pen .made + pen .given) (desk pen moduli file) answer))

@@ -3,17 +3,13 @@
 use mathlib.Core.Path.{_≡_}
 use mathlib.Core.Bool.{cond}
 use mathlib.Core.List.{List}
-use Prim.Native.Nat.{ℕ, _<_}
+use Prim.Native.Nat.{ℕ}
 use Rattle.checks.specs.Answer.{numberIn, placeIn}
 use Rattle.words.specs.declared.item.Item.the-variants.{End}
 use Rattle.words.specs.Encode.{wordOf}
 use Rattle.writer.specs.declared.pen.Pen.{Pen}
 use Rattle.writer.specs.declared.settling.Settled.{Settled}
 use Rattle.writer.specs.Desk.{putWord}
-
--- the index of the end word is small
-pub record Closes (settled : Settled) (laid : Pen) (file : List ℕ) : Type 0 where
-  pub near : laid .at < 900000
 
 -- the end word is laid behind the others, and the number of words is given, where the call is accepted
 pub record Finished (settled : Settled) (laid : Pen) (file₀ : List ℕ) (words₀ number place : ℕ) (file : List ℕ) (words : ℕ) : Type 0 where

@@ -20,8 +20,10 @@ use Rattle.words.specs.Items.{judged}
 use Rattle.words.specs.Encode.{wordOf, bytesOf}
 use Rattle.words.specs.Cut.{cutWord}
 use Rattle.writer.specs.declared.pen.Pen.{Pen}
+use Rattle.writer.specs.declared.speech.Rest.{Rest}
+use Rattle.writer.specs.declared.speech.Rest.the-variants.{Alone, Table}
 use Rattle.writer.specs.declared.speech.Speaks.{Speaks}
-use Rattle.writer.specs.declared.speech.Speaks.the-variants.{Nothing, One, Table, Choice}
+use Rattle.writer.specs.declared.speech.Speaks.the-variants.{Nothing, Says}
 use Rattle.writer.specs.Says.{Speech, nothing, items}
 
 -- the pen where nothing is refused, and the pen put down
@@ -49,7 +51,7 @@ pub record Desk : Type 0 where
 abbrev pub desk : Pen → List ℕ → List ℕ → Desk
 desk pen moduli file = record { pen = pen; moduli = moduli; file = file }
 
--- what an item that was judged does; words are put down in the pass that lays
+-- what an item that was judged does; its word w is put down in the pass that lays
 abbrev pub penAfter : ℕ → Pen → Step → Pen
 penAfter place pen (Step.Refused reason) = stop pen reason place
 penAfter place pen (Makes wire due) = penOf due (pen .made + 1) (pen .given) (pen .taken) (pen .at + 1)
@@ -71,14 +73,14 @@ fileAfter lay file at w (Goes due) = cond lay (putWord file at w) file
 fileAfter lay file at w (Gives wire) = cond lay (putWord file at w) file
 fileAfter lay file at w Ends = cond lay (putWord file at w) file
 
-abbrev pub deskAfter : Bool → ℕ → Item → Desk → Step → Desk
-deskAfter lay place item d step =
-    desk (penAfter place (d .pen) step) (moduliAfter (d .moduli) (d .pen .made) step) (fileAfter lay (d .file) (d .pen .at) (cutWord item) step)
+abbrev pub deskAfter : Bool → ℕ → ℕ → Desk → Step → Desk
+deskAfter lay place w d step =
+    desk (penAfter place (d .pen) step) (moduliAfter (d .moduli) (d .pen .made) step) (fileAfter lay (d .file) (d .pen .at) w step)
 
 -- an item, where nothing was refused before
 unfoldable pub itemOn : Bool → ℕ → Item → Desk → Answer → Desk
 itemOn lay place item d Accepted =
-    deskAfter lay place item d (judged (take (d .pen .made) (d .moduli)) (d .pen .given) (d .pen .at) (d .pen .due) item)
+    deskAfter lay place (cutWord item) d (judged (take (d .pen .made) (d .moduli)) (d .pen .given) (d .pen .at) (d .pen .due) item)
 itemOn lay place item d (Refused reason at) = d
 
 abbrev pub layItem : Bool → ℕ → Item → Desk → Desk
@@ -128,27 +130,28 @@ unfoldable pub refuse : ℕ → Desk → Answer → Desk
 refuse place d Accepted = desk (stop (d .pen) UnknownWord place) (d .moduli) (d .file)
 refuse place d (Refused reason at) = d
 
--- what a record says, as the code has it: an item, a projection, or a choice
-abbrev pub meaning : List ℕ → List ℕ → Speaks → Speech
-meaning moduli tables Nothing = nothing
-meaning moduli tables (One x) = items (x ∷ []) tables
-meaning moduli tables (Table modulus a) = items (Project modulus a ∷ map Entry (take (getD moduli a 0) tables)) (drop (getD moduli a 0) tables)
-meaning moduli tables (Choice bit a b) = items (Select bit ∷ Item.Branches a b ∷ []) tables
-
--- the items that a record has alone are those of inputs, free gates and products, and outputs
-pub data Simple : Speaks → Type 0 where
-  silent : Simple Nothing
-  input : {owner modulus : ℕ} → Simple (One (Item.Input owner modulus))
-  add : {a b : ℕ} → Simple (One (Item.Add a b))
-  scale : {constant a : ℕ} → Simple (One (Item.Scale constant a))
-  multiply : {a b : ℕ} → Simple (One (Item.Multiply a b))
-  output : {a : ℕ} → Simple (One (Item.Output a))
-  table : {modulus a : ℕ} → Simple (Table modulus a)
-  choice : {bit a b : ℕ} → Simple (Choice bit a b)
+-- what a record says, as the code has it: its first item, and the rest. The items that a record has alone are those of inputs, free gates and products,
+-- and outputs.
+pub data Means (moduli tables : List ℕ) : Speaks → Speech → Type 0 where
+  silent : Means moduli tables Nothing nothing
+  input : {owner modulus : ℕ} → Means moduli tables (Says (Item.Input owner modulus) Alone) (items (Item.Input owner modulus ∷ []) tables)
+  add : {a b : ℕ} → Means moduli tables (Says (Item.Add a b) Alone) (items (Item.Add a b ∷ []) tables)
+  scale : {constant a : ℕ} → Means moduli tables (Says (Item.Scale constant a) Alone) (items (Item.Scale constant a ∷ []) tables)
+  multiply : {a b : ℕ} → Means moduli tables (Says (Item.Multiply a b) Alone) (items (Item.Multiply a b ∷ []) tables)
+  output : {a : ℕ} → Means moduli tables (Says (Item.Output a) Alone) (items (Item.Output a ∷ []) tables)
+  table :
+      {modulus a : ℕ}
+      → Means moduli tables (Says (Project modulus a) Table)
+      (items (Project modulus a ∷ map Entry (take (getD moduli a 0) tables)) (drop (getD moduli a 0) tables))
+  choice :
+      {bit a b : ℕ} → Means moduli tables (Says (Select bit) (Rest.Branches a b)) (items (Select bit ∷ Item.Branches a b ∷ []) tables)
 
 -- .. and what it does
+unfoldable pub restOn : Bool → List ℕ → ℕ → Rest → Desk → Desk
+restOn lay tables place Alone d = d
+restOn lay tables place Table d = layTable lay place tables d
+restOn lay tables place (Rest.Branches a b) d = layItem lay place (Item.Branches a b) d
+
 unfoldable pub spokenOn : Bool → List ℕ → ℕ → Speaks → Desk → Desk
 spokenOn lay tables place Nothing d = refuse place d (d .pen .answer)
-spokenOn lay tables place (One x) d = layItem lay place x d
-spokenOn lay tables place (Table modulus a) d = layTable lay place tables (layItem lay place (Project modulus a) d)
-spokenOn lay tables place (Choice bit a b) d = layItem lay place (Item.Branches a b) (layItem lay place (Select bit) d)
+spokenOn lay tables place (Says first rest) d = restOn lay tables place rest (layItem lay place first d)

@@ -25,8 +25,8 @@ none field = eqb field 0
 
 -- Where the wires made so far have these moduli, and these table entries are left: what a record says if it is of kind 0, 1, .. 10. A projection
 -- takes an entry for each value of its wire, as far as there are any.
-abbrev pub byKind : List ℕ → List ℕ → Record → List Speech
-byKind moduli tables r =
+abbrev pub speechOfKind : List ℕ → List ℕ → Record → List Speech
+speechOfKind moduli tables r =
     nothing
     ∷ nothing
     ∷ spoken (none (r .constant) && (none (r .bit) && (none (r .a) && none (r .b)))) (Input (r .owner) (r .modulus) ∷ []) tables
@@ -42,5 +42,5 @@ byKind moduli tables r =
     ∷ []
 
 -- what it says; no record has another kind
-abbrev pub saidBy : List ℕ → List ℕ → Record → Speech
-saidBy moduli tables r = getD (byKind moduli tables r) (r .kind) nothing
+abbrev pub speechOf : List ℕ → List ℕ → Record → Speech
+speechOf moduli tables r = getD (speechOfKind moduli tables r) (r .kind) nothing

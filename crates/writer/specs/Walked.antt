@@ -9,14 +9,17 @@ use Rattle.checks.specs.declared.Answer.the-variants.{Accepted, Refused}
 use Rattle.checks.specs.declared.Refusal.{Refusal}
 use Rattle.words.specs.declared.gate.Due.{Due}
 use Rattle.words.specs.declared.gate.Due.the-variants.{Inputs, Gates, Outputs, Entries, Branches}
+use Rattle.words.specs.declared.gate.Step.{Step}
+use Rattle.words.specs.declared.gate.Step.the-variants.{Makes}
+use Rattle.words.specs.declared.gate.Wire.{Wire}
 use Rattle.words.specs.declared.item.Item.the-variants.{Head}
 use Rattle.words.specs.Encode.{wordOf, fileOf}
 use Rattle.writer.specs.declared.entry.Record.{Record}
 use Rattle.writer.specs.declared.pen.Pen.{Pen}
 use Rattle.writer.specs.declared.speech.Speaks.{Speaks}
-use Rattle.writer.specs.Says.{saidBy}
+use Rattle.writer.specs.Says.{speechOf}
 use Rattle.writer.specs.Written.{Draft, refused, writeFrom, writeRecords}
-use Rattle.writer.specs.Desk.{Desk, desk, penOf, putWord, meaning, Simple, spokenOn}
+use Rattle.writer.specs.Desk.{Desk, desk, penOf, putWord, Means, spokenOn}
 
 -- what is read past the last record
 abbrev pub noRecord : Record
@@ -34,16 +37,19 @@ pub record Ready (pen : Pen) (moduli : List ℕ) : Type 0 where
   pub steady : Steady pen moduli
   pub near : pen .at ≤ 2 + 257 * (pen .made + pen .given)
 
+-- the array has room for a wire that is made
+pub record RoomFor (step : Step) (pen : Pen) (moduli : List ℕ) : Type 0 where
+  pub room : (wire : Wire) (then : Due) → step ≡ Makes wire then → pen .made < length moduli
+
 -- the head is laid, and nothing else is written
 pub record Begun (lay : Bool) (before : List ℕ) (pen : Pen) (after : List ℕ) : Type 0 where
   pub penIs : pen ≡ penOf Inputs 0 0 0 1
   pub fileIs : after ≡ cond lay (putWord before 0 (wordOf Head)) before
 
 -- one record: what it says is done, at the index that is the number of wires and outputs before it
-pub record Stepped (lay : Bool) (tables : List ℕ) (item : Record) (pen : Pen) (moduli file : List ℕ) (pen′ : Pen) (moduli′ file′ : List ℕ) : Type 0 where
+pub record Stepped (lay : Bool) (tables : List ℕ) (entry : Record) (pen : Pen) (moduli file : List ℕ) (pen′ : Pen) (moduli′ file′ : List ℕ) : Type 0 where
   pub speaks : Speaks
-  pub simple : Simple speaks
-  pub means : (ms ts : List ℕ) → saidBy ms ts item ≡ meaning ms ts speaks
+  pub means : (ms ts : List ℕ) → Means ms ts speaks (speechOf ms ts entry)
   pub done : desk pen′ moduli′ file′ ≡ spokenOn lay tables (pen .made + pen .given) speaks (desk pen moduli file)
 
 -- what is true of the draft itself: the moduli are bytes and not 0, and that of a table under way is a byte

@@ -15,7 +15,7 @@ use Rattle.words.specs.declared.item.Item.the-variants.{Head, End}
 use Rattle.words.specs.Items.{judged}
 use Rattle.words.specs.Encode.{wordOf}
 use Rattle.writer.specs.declared.entry.Record.{Record}
-use Rattle.writer.specs.Says.{Speech, nothing, items, saidBy}
+use Rattle.writer.specs.Says.{Speech, nothing, items, speechOf}
 
 -- where the writer stands: the moduli of the wires made so far, how many outputs are given, what is due, the table entries that are left, and the
 -- words laid down so far
@@ -39,30 +39,30 @@ abbrev pub leaving : Draft → List ℕ → Draft
 leaving d left = record { moduli = d .moduli; given = d .given; due = d .due; tables = left; words = d .words }
 
 -- what an item does to the draft; its word is laid down where it is not refused
-unfoldable pub after : Draft → Item → Step → Drafted
-after d item (Refused reason) = stopped reason
-after d item (Makes wire due) =
+unfoldable pub afterItem : Draft → Item → Step → Drafted
+afterItem d item (Refused reason) = stopped reason
+afterItem d item (Makes wire due) =
     drafted (record { moduli = d .moduli ++ (wire .modulus ∷ []); given = d .given; due = due; tables = d .tables; words = d .words ++ (wordOf item ∷ []) })
-after d item (Goes due) =
+afterItem d item (Goes due) =
     drafted (record { moduli = d .moduli; given = d .given; due = due; tables = d .tables; words = d .words ++ (wordOf item ∷ []) })
-after d item (Gives wire) =
+afterItem d item (Gives wire) =
     drafted (record { moduli = d .moduli; given = suc (d .given); due = Outputs; tables = d .tables; words = d .words ++ (wordOf item ∷ []) })
-after d item Ends =
+afterItem d item Ends =
     drafted (record { moduli = d .moduli; given = d .given; due = d .due; tables = d .tables; words = d .words ++ (wordOf item ∷ []) })
 
 -- an item, judged as the reader judges it
 abbrev pub laid : Draft → Item → Drafted
-laid d item = after d item (judged (d .moduli) (d .given) (length (d .words)) (d .due) item)
+laid d item = afterItem d item (judged (d .moduli) (d .given) (length (d .words)) (d .due) item)
 
 -- what is next is done where nothing stopped it
-unfoldable pub andThen : Drafted → (Draft → Drafted) → Drafted
-andThen (stopped reason) next = stopped reason
-andThen (drafted d) next = next d
+unfoldable pub unlessStopped : Drafted → (Draft → Drafted) → Drafted
+unlessStopped (stopped reason) next = stopped reason
+unlessStopped (drafted d) next = next d
 
 -- items, one after another
 unfoldable pub laidAll : Draft → List Item → Drafted
 laidAll d [] = drafted d
-laidAll d (item ∷ others) = andThen (laid d item) (λ e. laidAll e others)
+laidAll d (item ∷ others) = unlessStopped (laid d item) (λ e. laidAll e others)
 
 -- a table whose entries ran out
 unfoldable pub whole : Draft → Due → Drafted
@@ -76,10 +76,10 @@ whole d (Branches bit) = drafted d
 unfoldable pub saidTo : Draft → Speech → Drafted
 saidTo d nothing = stopped UnknownWord
 saidTo d (items says left) =
-    andThen (laidAll (leaving d left) says) (λ e. whole e (e .due))
+    unlessStopped (laidAll (leaving d left) says) (λ e. whole e (e .due))
 
 abbrev pub recorded : Draft → Record → Drafted
-recorded d r = saidTo d (saidBy (d .moduli) (d .tables) r)
+recorded d r = saidTo d (speechOf (d .moduli) (d .tables) r)
 
 -- what writing comes to: a refusal with its place, or the words of the file
 pub data Written : Type 0 where
@@ -92,9 +92,9 @@ allTaken place [] words = wrote words
 allTaken place (image ∷ images) words = refused WrongLength place
 
 -- the end word, where so many records are written
-unfoldable pub ended : ℕ → Drafted → Written
-ended place (stopped reason) = refused reason place
-ended place (drafted d) = allTaken place (d .tables) (d .words)
+unfoldable pub closed : ℕ → Drafted → Written
+closed place (stopped reason) = refused reason place
+closed place (drafted d) = allTaken place (d .tables) (d .words)
 
 -- the records from an index on; the first that is stopped decides
 unfoldable pub onward : (Draft → Written) → ℕ → Drafted → Written
@@ -102,7 +102,7 @@ onward next place (stopped reason) = refused reason place
 onward next place (drafted d) = next d
 
 unfoldable pub writeFrom : ℕ → List Record → Draft → Written
-writeFrom place [] d = ended place (laid d End)
+writeFrom place [] d = closed place (laid d End)
 writeFrom place (r ∷ records) d = onward (writeFrom (suc place) records) place (recorded d r)
 
 unfoldable pub writeRecords : List Record → List ℕ → Written

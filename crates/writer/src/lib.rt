@@ -2,8 +2,10 @@
 // own rules (`words`). The records are walked twice: judged, with nothing touched, and then laid down. specs/Written.antt says what writing comes to.
 // Rests on `words`, `circuit` and `session`; functions over slices of records are thin, since they are proved by hand.
 mod entry;
+mod fields;
 mod fill;
-mod laid;
+mod images;
+mod items;
 mod laying;
 mod listing;
 mod pen;
@@ -14,10 +16,10 @@ mod table;
 mod walk;
 
 pub use entry::Record;
+pub use fields::no_fields;
 pub use fill::put_records;
 pub use listing::Listed;
 pub use listing::list;
-pub use listing::no_fields;
 pub use pen::Pen;
 pub use pen::no_moduli;
 pub use settling::Settled;

@@ -1,15 +1,17 @@
 // The head, and one record after another.
 ghost use mathlib.Core.Path.{_≡_};
 ghost use mathlib.Core.List.{List};
-ghost use Prim.Native.Nat.{ℕ};
-ghost use Rattle.writer.specs.Desk.{desk, refuse, spokenOn};
-ghost use Rattle.writer.specs.Walked.{Begun, Ready, Stepped};
+ghost use Prim.Native.Nat.{ℕ, _<_};
+ghost use Rattle.writer.specs.Desk.{desk, refuse, restOn, spokenOn};
+ghost use Rattle.writer.specs.Walked.{Steady, Begun, Ready, Stepped};
 use super::entry::Record;
-use super::laid::lay_item;
+use super::items::lay_branches;
+use super::items::lay_item;
 use super::laying::lay_word;
 use super::pen::Pen;
 use super::pen::pen_of;
 use super::pen::stop;
+use super::speech::Rest;
 use super::speech::Speaks;
 use super::speech::speak;
 use super::table::lay_table;
@@ -38,7 +40,27 @@ fn refuse(pen: Pen, place: usize) -> Pen
     }
 }
 
-// What a record says is laid down, one item or two, or one and a table.
+// What follows a record's first item.
+fn rest_on(
+    rest: Rest,
+    place: usize,
+    tables: &[u8],
+    moduli: &mut [u8],
+    file: &mut [u8],
+    pen: Pen,
+    lay: bool,
+) -> Pen
+    requires { ⌜ Steady pen (now moduli) × (pen .at < 900000) ⌝ }
+    ensures { λ r. ⌜ desk r (now (moduli .exit)) (now (file .exit)) ≡ restOn lay (now (tables .entry)) place rest (desk pen (now (moduli .entry)) (now (file .entry))) ⌝ }
+{
+    match rest {
+        Rest::Alone => pen,
+        Rest::Table => lay_table(tables, place, file, pen, lay),
+        Rest::Branches(a, b) => lay_branches(a, b, place, moduli, file, pen, lay),
+    }
+}
+
+// What a record says is laid down, its first item and the rest.
 fn spoken_on(
     speaks: Speaks,
     place: usize,
@@ -53,21 +75,16 @@ fn spoken_on(
 {
     match speaks {
         Speaks::Nothing => refuse(pen, place),
-        Speaks::One(x) => lay_item(x, place, moduli, file, pen, lay),
-        Speaks::Table(modulus, a) => {
-            let begun = lay_item(Item::Project(modulus, a), place, moduli, file, pen, lay);
-            lay_table(tables, place, file, begun, lay)
-        }
-        Speaks::Choice(bit, a, b) => {
-            let begun = lay_item(Item::Select(bit), place, moduli, file, pen, lay);
-            lay_item(Item::Branches(a, b), place, moduli, file, begun, lay)
+        Speaks::Says(first, rest) => {
+            let begun = lay_item(first, place, moduli, file, pen, lay);
+            rest_on(rest, place, tables, moduli, file, begun, lay)
         }
     }
 }
 
 // One record. Its index is the number of wires made and outputs given before it.
 pub fn step(
-    item: Record,
+    entry: Record,
     tables: &[u8],
     moduli: &mut [u8],
     file: &mut [u8],
@@ -75,8 +92,8 @@ pub fn step(
     lay: bool,
 ) -> Pen
     requires { ⌜ Ready pen (now moduli) ⌝ }
-    ensures { λ r. ⌜ Stepped lay (now (tables .entry)) item pen (now (moduli .entry)) (now (file .entry)) r (now (moduli .exit)) (now (file .exit)) ⌝ }
+    ensures { λ r. ⌜ Stepped lay (now (tables .entry)) entry pen (now (moduli .entry)) (now (file .entry)) r (now (moduli .exit)) (now (file .exit)) ⌝ }
 {
     let place = pen.made + pen.given;
-    spoken_on(speak(item), place, tables, moduli, file, pen, lay)
+    spoken_on(speak(entry), place, tables, moduli, file, pen, lay)
 }

@@ -1,5 +1,5 @@
 -- `engine::write::lupiknam_write` meets its contract: a walk of its MIR, by hand. The file is opened once, and the array that `no_moduli` returns is plain memory: `over` is lent both, twice (the crate writer's `Overs.antt`). Then the file is closed, and goes with the number of words to `finish`, which has them for good (`Finishes.antt`).
--- All that the proof knows of the five calls is that they meet their contracts, and of what these say three laws: `fair`, `closable` and `writes` (the crate writer's `Closings.antt`).
+-- All that the proof knows of the five calls is that they meet their contracts, and of what these say two laws: `fair` and `writes` (the crate writer's `Closings.antt`).
 -- Assumes nothing.
 use mathlib.Core.Path.{_≡_, refl, _∙_}
 use Prim.Native.Nat.{ℕ, _^_, _<_}
@@ -77,7 +77,7 @@ use Rattle.engine.proofs.answer.Reported as T
 use Rattle.engine.proofs.answer.Reported.Laws as T′
 use Rattle.engine.proofs.Finishes as Finishes
 use Rattle.engine.proofs.Finishes.{Finish}
-use Rattle.writer.proofs.Closings.{fair, closable, writes}
+use Rattle.writer.proofs.Closings.{fair, writes}
 use Rattle.engine.proofs.write.finish.Symbol as finish-def
 use Rattle.engine.proofs.write.finish.Symbol.{name as #finish}
 use Rattle.engine.proofs.write.finish.Met as finish-thm
@@ -234,7 +234,7 @@ module _ {M : Type 1} (𝓤 : URA M) (H : Heap 𝓤) (A : Atoms 𝓤) (W : Given
         assigns ! (addr ! (from ! (hop ! (look ! 39 refl) (stop !)))) (from ! (stop !)) (init ! 4 refl (tt, tt)) $
         split ! $ split ! $ move ! (2 ∷ []) $ split ! $ split ! $ move ! (2 ∷ []) $ drop ! $ move ! (3 ∷ 4 ∷ []) $
         use2 W (later (given (length (l .1 .1) ≡ length (file .now)) (‵ (Ref u8 (block file) (named 2) κ₂ (file .name) (l .1 .1)) ⊛ ‵ (flft κ₂ q₂)))) (Lent.closes u8 𝓤 H A W (named 2) κ₂ q₂ file (l .1 .1) room₂) $ await ! tt $ learn ! (λ same. split ! $
-        move ! (0 ∷ 1 ∷ 5 ∷ 6 ∷ []) $ group ! 4 $ use1 W (raw (Finish 𝓤 H A at-mem run .pre (Finishes.to 𝓤 H A W at-mem run (to-finish s (l .0) (l .1 .1))))) (Finishes.asked 𝓤 H A W at-mem run (to-finish s (l .0) (l .1 .1)) (closable (k .1 .0) (k .1 .1 .1) (e .1) (m .1 .0) (m .1 .1 .1)) (holds-value S.the-type S′.the-laws s _ (e .0)) (holds-value P.the-type P′.the-laws (l .0) _ (m .0))) $
+        move ! (0 ∷ 1 ∷ 5 ∷ 6 ∷ []) $ group ! 4 $ use1 W (raw (Finish 𝓤 H A at-mem run .pre (Finishes.to 𝓤 H A W at-mem run (to-finish s (l .0) (l .1 .1))))) (Finishes.asked 𝓤 H A W at-mem run (to-finish s (l .0) (l .1 .1)) (fair (m .1 .0)) (holds-value S.the-type S′.the-laws s _ (e .0)) (holds-value P.the-type P′.the-laws (l .0) _ (m .0))) $
         calls-at ! fm (Finish 𝓤 H A at-mem run) known-finish (Finishes.to 𝓤 H A W at-mem run (to-finish s (l .0) (l .1 .1))) (and-then ! (load ! (from ! (stop !)) (look ! 34 refl)) (and-then ! (load ! (from ! (stop !)) (look ! 32 refl)) (and-then ! (load ! (from ! (stop !)) (look ! 6 refl)) (and-then ! (load ! (from ! (stop !)) (look ! 4 refl)) (no-more !))))) (λ u₄.
         use1 W (later (some (Finishes.Back 𝓤 H A W at-mem run (to-finish s (l .0) (l .1 .1)) u₄))) (Finishes.comes-back 𝓤 H A W at-mem run (to-finish s (l .0) (l .1 .1)) u₄) $ await ! tt $ pick ! (λ r. learn ! (λ f.
         land ! (from ! (stop !)) (init ! 47 refl (LL.lawful T.the-type T′.the-laws 𝓤 H A W .typed (r .0) _ (f .0) .0)) $ returns ! (look ! 47 refl) $

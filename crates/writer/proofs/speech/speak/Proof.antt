@@ -1,9 +1,9 @@
 -- `writer::speech::speak` meets its contract: each arm is told the kind.
 -- Assumes nothing.
-use Rattle.words.specs.declared.item.Item.the-variants.{Input, Add, Scale, Multiply, Output}
-use Rattle.writer.specs.Desk.{Simple}
-use Rattle.writer.specs.declared.speech.Speaks.the-variants.{One, Table, Choice}
-use Rattle.writer.proofs.Speeches.{choice-said, no-kind, of-kind, one-said, simple-said, table-said}
+use mathlib.Core.Path.{refl, sym, subst}
+use Rattle.writer.specs.Desk.{Means}
+use Rattle.writer.specs.declared.speech.Speaks.the-variants.{Nothing}
+use Rattle.writer.proofs.Speeches.{no-kind, said}
 use Rattle.writer.proofs.speech.speak.Statement.{statement}
 use Rattle.writer.proofs.speech.speak.Tie as tie
 
@@ -25,41 +25,13 @@ speak-spec =
     (λ c κs. tt)
     (λ c κs. tt)
     (λ c κs. tt)
-    (λ c.
-    let r = c .before .before .before .args .item in (
-      simple-said (c .before .four-unset .result) (One (Input (r .owner) (r .modulus))) Simple.input (c .spoken .ensures),
-      λ moduli tables. of-kind moduli tables r 2 (c .before .before .match .keys1) (one-said moduli tables (c .before .four-unset .ensures) (Input (r .owner) (r .modulus)) (c .spoken .ensures)),
-    ))
-    (λ c.
-    let r = c .before .before .before .args .item in (
-      simple-said (c .before .four-unset2 .result) (One (Add (r .a) (r .b))) Simple.add (c .spoken2 .ensures),
-      λ moduli tables. of-kind moduli tables r 3 (c .before .before .match .keys2) (one-said moduli tables (c .before .four-unset2 .ensures) (Add (r .a) (r .b)) (c .spoken2 .ensures)),
-    ))
-    (λ c.
-    let r = c .before .before .before .args .item in (
-      simple-said (c .before .four-unset3 .result) (One (Scale (r .constant) (r .a))) Simple.scale (c .spoken3 .ensures),
-      λ moduli tables. of-kind moduli tables r 4 (c .before .before .match .keys3) (one-said moduli tables (c .before .four-unset3 .ensures) (Scale (r .constant) (r .a)) (c .spoken3 .ensures)),
-    ))
-    (λ c.
-    let r = c .before .before .before .args .item in (
-      simple-said (c .before .four-unset4 .result) (One (Multiply (r .a) (r .b))) Simple.multiply (c .spoken4 .ensures),
-      λ moduli tables. of-kind moduli tables r 5 (c .before .before .match .keys4) (one-said moduli tables (c .before .four-unset4 .ensures) (Multiply (r .a) (r .b)) (c .spoken4 .ensures)),
-    ))
-    (λ c.
-    let r = c .before .before .before .args .item in (
-      simple-said (c .before .four-unset5 .result) (Table (r .modulus) (r .a)) Simple.table (c .spoken5 .ensures),
-      λ moduli tables. of-kind moduli tables r 6 (c .before .before .match .keys5) (table-said moduli tables (c .before .four-unset5 .ensures) (r .modulus) (r .a) (c .spoken5 .ensures)),
-    ))
-    (λ c.
-    let r = c .before .before .before .args .item in (
-      simple-said (c .before .three-unset .result) (Choice (r .bit) (r .a) (r .b)) Simple.choice (c .spoken6 .ensures),
-      λ moduli tables. of-kind moduli tables r 8 (c .before .before .match .keys6) (choice-said moduli tables (c .before .three-unset .ensures) (r .bit) (r .a) (r .b) (c .spoken6 .ensures)),
-    ))
-    (λ c.
-    let r = c .before .before .before .args .item in (
-      simple-said (c .before .five-unset .result) (One (Output (r .a))) Simple.output (c .spoken7 .ensures),
-      λ moduli tables. of-kind moduli tables r 10 (c .before .before .match .keys7) (one-said moduli tables (c .before .five-unset .ensures) (Output (r .a)) (c .spoken7 .ensures)),
-    ))
-    (λ c.
+    (λ c moduli tables. said moduli tables (c .before .before .before .args .entry) 2 (c .before .before .match .keys1) refl (c .before .unset4 .ensures) (c .alone .ensures) Means.input)
+    (λ c moduli tables. said moduli tables (c .before .before .before .args .entry) 3 (c .before .before .match .keys2) refl (c .before .unset42 .ensures) (c .alone2 .ensures) Means.add)
+    (λ c moduli tables. said moduli tables (c .before .before .before .args .entry) 4 (c .before .before .match .keys3) refl (c .before .unset43 .ensures) (c .alone3 .ensures) Means.scale)
+    (λ c moduli tables. said moduli tables (c .before .before .before .args .entry) 5 (c .before .before .match .keys4) refl (c .before .unset44 .ensures) (c .alone4 .ensures) Means.multiply)
+    (λ c moduli tables. said moduli tables (c .before .before .before .args .entry) 6 (c .before .before .match .keys5) refl (c .before .unset45 .ensures) (c .spoken .ensures) Means.table)
+    (λ c moduli tables. said moduli tables (c .before .before .before .args .entry) 8 (c .before .before .match .keys6) refl (c .before .unset3 .ensures) (c .spoken2 .ensures) Means.choice)
+    (λ c moduli tables. said moduli tables (c .before .before .before .args .entry) 10 (c .before .before .match .keys7) refl (c .before .unset5 .ensures) (c .alone5 .ensures) Means.output)
+    (λ c moduli tables.
     let n = c .match .rest in
-    (Simple.silent, no-kind (c .before .args .item) (n .0 .0 .0 .0 .0 .0 .1) (n .0 .0 .0 .0 .0 .1) (n .0 .0 .0 .0 .1) (n .0 .0 .0 .1) (n .0 .0 .1) (n .0 .1) (n .1))))
+    subst (Means moduli tables Nothing) (sym (no-kind (c .before .args .entry) (n .0 .0 .0 .0 .0 .0 .1) (n .0 .0 .0 .0 .0 .1) (n .0 .0 .0 .0 .1) (n .0 .0 .0 .1) (n .0 .0 .1) (n .0 .1) (n .1) moduli tables)) Means.silent))

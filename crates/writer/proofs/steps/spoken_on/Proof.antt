@@ -4,7 +4,7 @@ use native.Mathlib.Omega.{arith}
 use borrow.Author.Needs.{needs}
 use Rattle.writer.specs.Desk.{desk}
 use Rattle.writer.proofs.Desks.{at-laid, near-enough, steady-laid}
-use Rattle.writer.proofs.Speeches.{choice-done, nothing-done, one-done, table-done}
+use Rattle.writer.proofs.Speeches.{nothing-done, says-done}
 use Rattle.writer.proofs.steps.spoken_on.Statement.{statement}
 use Rattle.writer.proofs.steps.spoken_on.Tie as tie
 
@@ -13,37 +13,17 @@ spoken-on-spec =
     tie.close
     (tie.spec
     (λ c. search needs)
-    (λ c κs. tt)
+    (λ c κs. search needs)
     (λ c. search needs)
-    (λ c κs. (c .before .before .before .before .before .before .before .before .pre .steady, omega (arith, near-enough (c .before .before .before .before .before .before .before .before .pre))))
-    (λ c. search needs)
-    (λ c κs. (c .before .before .before .before .before .before .before .before .pre .steady, omega (arith, near-enough (c .before .before .before .before .before .before .before .before .pre))))
-    (λ c κs.
-    let a = c .before .before .before .before .before .before .before .before .before .before .before .before .before .before .args in
-    omega (arith, near-enough (c .before .before .before .before .before .before .before .before .before .before .before .before .before .before .pre), at-laid (a .lay) (a .place) _ (desk (a .pen) (a .moduli .now) (a .file .now)) (c .before .before .before .before .before .lay-item2 .ensures)))
-    (λ c. search needs)
-    (λ c κs. (c .before .before .before .before .before .before .before .before .pre .steady, omega (arith, near-enough (c .before .before .before .before .before .before .before .before .pre))))
+    (λ c κs. search needs)
     (λ c κs.
     let a = c .before .before .before .before .before .before .before .before .before .before .before .before .before .before .before .args in
-    let d = desk (a .pen) (a .moduli .now) (a .file .now) in (
-      steady-laid (a .lay) (a .place) _ d (c .before .before .before .before .before .before .lay-item3 .ensures) (c .before .before .before .before .before .before .before .before .before .before .before .before .before .before .before .pre .steady),
-      omega (arith, near-enough (c .before .before .before .before .before .before .before .before .before .before .before .before .before .before .before .pre), at-laid (a .lay) (a .place) _ d (c .before .before .before .before .before .before .lay-item3 .ensures)),
-    ))
+    (steady-laid (a .lay) (a .place) _ (desk (a .pen) (a .moduli .now) (a .file .now)) (c .before .before .before .before .before .before .lay-item .ensures) (c .before .before .before .before .before .before .before .before .before .before .before .before .before .before .before .pre .steady), omega (arith, near-enough (c .before .before .before .before .before .before .before .before .before .before .before .before .before .before .before .pre), at-laid (a .lay) (a .place) _ (desk (a .pen) (a .moduli .now) (a .file .now)) (c .before .before .before .before .before .before .lay-item .ensures))))
     (λ c.
     let a = c .before .before .before .before .before .before .args in
     nothing-done (a .lay) (a .tables .now) (a .place) (desk (a .pen) (a .moduli .now) (a .file .now)) (c .before .enum-told .given .1) (c .refuse .ensures (a .moduli .now) (a .file .now)))
     (λ c. search needs)
     (λ c. search needs)
     (λ c.
-    let a = c .before .before .before .before .before .before .before .before .before .before .before .before .before .args in
-    one-done (a .lay) (a .tables .now) (a .place) (desk (a .pen) (a .moduli .now) (a .file .now)) (c .before .before .before .before .before .before .before .before .speaks .given .1) (c .before .before .before .before .lay-item .ensures))
-    (λ c. search needs)
-    (λ c. search needs)
-    (λ c.
-    let a = c .before .before .before .before .before .before .before .before .before .before .before .before .before .before .before .before .before .args in
-    table-done (a .lay) (a .tables .now) (a .place) (desk (a .pen) (a .moduli .now) (a .file .now)) (c .before .before .before .before .before .before .before .before .before .before .before .before .speaks2 .given .1) (c .before .before .before .before .before .before .before .before .lay-item2 .ensures) (c .before .before .lay-table .ensures _))
-    (λ c. search needs)
-    (λ c. search needs)
-    (λ c.
     let a = c .before .before .before .before .before .before .before .before .before .before .before .before .before .before .before .before .before .before .before .before .args in
-    choice-done (a .lay) (a .tables .now) (a .place) (desk (a .pen) (a .moduli .now) (a .file .now)) (c .before .before .before .before .before .before .before .before .before .before .before .before .before .before .before .speaks3 .given .1) (c .before .before .before .before .before .before .before .before .before .before .before .lay-item3 .ensures) (c .before .before .before .before .lay-item4 .ensures)))
+    says-done (a .lay) (a .tables .now) (a .place) (desk (a .pen) (a .moduli .now) (a .file .now)) (c .before .before .before .before .before .before .before .before .before .before .before .before .before .before .before .speaks .given .1) (c .before .before .before .before .before .before .before .before .before .before .before .lay-item .ensures) (c .before .before .before .before .rest-on .ensures)))

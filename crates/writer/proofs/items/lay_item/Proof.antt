@@ -1,0 +1,23 @@
+-- `writer::items::lay_item` meets its contract: nothing was refused, or nothing happens.
+-- Assumes nothing.
+use borrow.Author.Needs.{needs}
+use Rattle.writer.specs.Desk.{desk}
+use Rattle.writer.proofs.Desks.{lay-off, lay-on}
+use Rattle.writer.proofs.items.lay_item.Statement.{statement}
+use Rattle.writer.proofs.items.lay_item.Tie as tie
+
+pub lay-item-spec : {M : Type 1} → statement M
+lay-item-spec =
+    tie.close
+    (tie.spec
+    (λ c. search needs)
+    (λ c κs. c .before .before .before .before .before .before .pre)
+    (λ c. search needs)
+    (λ c. search needs)
+    (λ c. search needs)
+    (λ c.
+    let a = c .before .before .before .before .before .before .before .before .before .before .before .args in
+    lay-on (a .lay) (a .place) (a .item) (desk (a .pen) (a .moduli .now) (a .file .now)) (c .before .before .before .before .before .before .before .enum-told .given .1) (c .before .before .before .before .item-on .ensures))
+    (λ c.
+    let a = c .before .before .before .before .args in
+    lay-off (a .lay) (a .place) (a .item) (desk (a .pen) (a .moduli .now) (a .file .now)) (c .enum-told2 .given .1)))
