@@ -19,3 +19,5 @@ pub mod Backwards
 pub mod RefusingRun
 pub mod RefusingStops
 pub mod Refusing
+-- .. and over the two calls: `written-is-loaded`, `loaded-is-written`
+pub mod Calls

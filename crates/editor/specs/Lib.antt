@@ -1,2 +1,3 @@
 -- What the editor is promised.
 pub mod Promise
+pub mod Calls

@@ -25,7 +25,7 @@ use Rattle.search.specs.Search.{same, multiplier}
 use Rattle.session.specs.Session.{fileChecked, sameNumbers, lengthsChecked}
 use Rattle.calls.specs.InputKeys.{inputKey}
 use Rattle.calls.specs.Decode.{decodeChecked, decodeAfter}
-use Rattle.round.specs.Example.{fileOf}
+use Rattle.words.specs.Encode.{fileOf}
 use Rattle.examples.specs.Marked.{noPad, drew, inputs, keys, rows, openedKeys, openedExternals, productWires, productFile, productDraw, productKeys, productExternals, productDecoded, wire, scaled, product, choiceWires, choiceFile, choiceDraw, choiceKeys, choiceExternals, choiceDecoded, select, input, counts, cases, printed}
 
 -- the files that are decoded are those of the circuits that are garbled and opened

@@ -23,7 +23,7 @@ use Rattle.scheme.specs.Zero.{zeroKey, mask, zeroKeysTo, masksTo, zeroKeyBy, ma
 use Rattle.pads.specs.Pad.{rowpad, bound, padInput, shakePad, padSum, padRow}
 use Rattle.scheme.specs.Message.{projectMessage}
 use Rattle.scheme.specs.Gate.{row, tableRow}
-use Rattle.round.specs.Example.{fileOf}
+use Rattle.words.specs.Encode.{fileOf}
 use Rattle.examples.specs.Row.{circuit, contributions, rowZero, computed}
 
 pub row-computed : rowZero ≡ computed

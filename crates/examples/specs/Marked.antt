@@ -19,7 +19,7 @@ use Rattle.scheme.specs.Rows.{garbledRows, outputMasks}
 use Rattle.scheme.specs.Opening.{multiplierOf, wireKeys, wireExternals}
 use Rattle.calls.specs.InputKeys.{inputKey}
 use Rattle.calls.specs.Decode.{decodeAfter}
-use Rattle.round.specs.Example.{fileOf}
+use Rattle.words.specs.Encode.{fileOf}
 
 -- ---- one party's round without pads
 

@@ -9,7 +9,7 @@ use Rattle.pads.specs.Pad.{shakePad}
 use Rattle.scheme.specs.Draw.{drawn}
 use Rattle.scheme.specs.Gate.{Source, tableRow}
 use Rattle.scheme.specs.Rows.{sourceOf}
-use Rattle.round.specs.Example.{fileOf}
+use Rattle.words.specs.Encode.{fileOf}
 
 -- a bit of party 0, projected to 7 and 200 modulo 251
 unfoldable pub circuit : List ℕ

@@ -6,10 +6,8 @@ use Prim.Native.Nat.{ℕ, _<_}
 use lib.ListN.{getD}
 use Rattle.lists.specs.Blocks.{blocks, nthPiece}
 use Rattle.lists.proofs.Blocks.{blocks-ext, tab-ext}
-use Rattle.checks.specs.Checked.{Checked, Reports}
 use Rattle.checks.specs.Checked.Checked.{passed}
-use Rattle.checks.specs.Checked.Meets.{accepts, names, namesSome}
-use Rattle.checks.specs.Checked.Reports.{reports}
+use Rattle.checks.proofs.Numbers.{passed-zero}
 use Rattle.checks.proofs.Passed.{afterwards-passed}
 use Rattle.words.specs.declared.gate.Wire.{Wire}
 use Rattle.circuit.specs.Wires.{inputsIn}
@@ -26,12 +24,6 @@ use Rattle.round.specs.Claim.{Conditions, Promise}
 use Rattle.round.proofs.Claim.{delivered-as}
 use Rattle.round.proofs.RealPad.{shake-claim}
 use Rattle.round.specs.Played.{Results, Played, Kept, allExternals, allKeys}
-
--- an answer that meets checks that pass has number 0
-zero-of : {checks : Checked} {number place : ℕ} → Reports checks number place → checks ≡ passed → number ≡ 0
-zero-of (reports accepts) e = refl
-zero-of (reports names) e = cc
-zero-of (reports (namesSome t)) e = cc
 
 module _ (file : List ℕ) (n K : ℕ) (contributions values : List ℕ) (meter : ℕ) (lent : Lent) (r : Results)
     (conditions : Conditions file n K contributions values meter lent) (played : Played file n K contributions values meter lent r) where
@@ -97,27 +89,27 @@ module _ (file : List ℕ) (n K : ℕ) (contributions values : List ℕ) (meter 
   -- the answers
   garbles : played .garble .number ≡ 0
   unfolding round.garbling
-  garbles = zero-of (played .garble .holds .answer) (promise .garbles)
+  garbles = passed-zero (played .garble .holds .answer) (promise .garbles)
 
   has-externals : (party : ℕ) (h : party < n) → played .externals party h .number ≡ 0
   unfolding round.externalValues
-  has-externals party h = zero-of (played .externals party h .holds .answer) (rw masks-is (promise .hasExternals party h))
+  has-externals party h = passed-zero (played .externals party h .holds .answer) (rw masks-is (promise .hasExternals party h))
 
   has-keys : (party : ℕ) (h : party < n) → played .inputKeys party h .number ≡ 0
   unfolding round.inputKeys
-  has-keys party h = zero-of (played .inputKeys party h .holds .answer) (rw all-externals-is (promise .hasKeys party h))
+  has-keys party h = passed-zero (played .inputKeys party h .holds .answer) (rw all-externals-is (promise .hasKeys party h))
 
   opens : (party : ℕ) (h : party < n) → played .opening party h .number ≡ 0
   unfolding round.opening
-  opens party h = zero-of (played .opening party h .holds .answer) (rw (all-externals-is, all-keys-is, rows-is) (promise .opens party h))
+  opens party h = passed-zero (played .opening party h .holds .answer) (rw (all-externals-is, all-keys-is, rows-is) (promise .opens party h))
 
   decodes : (party : ℕ) (h : party < n) → played .decode party h .number ≡ 0
   unfolding round.decoding
-  decodes party h = zero-of (played .decode party h .holds .answer) (rw (wire-externals-is party h, outs-is) (promise .decodes party h))
+  decodes party h = passed-zero (played .decode party h .holds .answer) (rw (wire-externals-is party h, outs-is) (promise .decodes party h))
 
   evaluates : played .plainly .number ≡ 0
   unfolding round.plainly
-  evaluates = zero-of (played .plainly .holds .answer) (promise .evaluates)
+  evaluates = passed-zero (played .plainly .holds .answer) (promise .evaluates)
 
   counted : r .meter ≡ charged meter (rowsIn wires)
   unfolding garbleMeter round.garbling

@@ -29,7 +29,8 @@ use Rattle.scheme.specs.Bytes.{allZero, bytesChecked, contributionsChecked, zer
 use Rattle.meter.specs.Meter.{HasSpace}
 use Rattle.round.specs.Round.{ownerAt, figures}
 use Rattle.round.specs.Claim.{LengthsRight, Conditions, Promise}
-use Rattle.round.specs.Example.{fileOf, file, wires, outputs, contributions, values, lent}
+use Rattle.words.specs.Encode.{fileOf}
+use Rattle.round.specs.Example.{file, wires, outputs, contributions, values, lent}
 use Rattle.round.proofs.RealPad.{shake-claim}
 
 reads : readFile file ≡ accepted wires outputs

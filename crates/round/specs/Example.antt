@@ -3,17 +3,12 @@
 use mathlib.Core.List.{List, [], _∷_, _++_}
 use Prim.Native.Nat.{ℕ, _*_}
 use lib.ListN.{length, replicate}
-use Rattle.shake.specs.Numbers.{bytesOf}
 use Rattle.words.specs.declared.gate.Gate.the-variants.{Input, Add, Scale, Multiply, Project, Select}
 use Rattle.words.specs.declared.gate.Wire.{Wire}
+use Rattle.words.specs.Encode.{fileOf}
 use Rattle.circuit.specs.Wires.{inputsIn}
 use Rattle.counts.specs.Counts.{rowsIn, inputsOf}
 use Rattle.round.specs.Round.{Lent}
-
--- words as the bytes of a file, four a word, little-endian
-unfoldable pub fileOf : List ℕ → List ℕ
-fileOf [] = []
-fileOf (word ∷ words) = bytesOf 4 word ++ fileOf words
 
 unfoldable pub file : List ℕ
 file =

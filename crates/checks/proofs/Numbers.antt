@@ -1,0 +1,47 @@
+-- A call's number is 0 exactly where its checks pass: no refusal has that number.
+-- Assumes nothing.
+use mathlib.Core.Path.{_≡_, refl}
+use Prim.Native.Nat.{ℕ, _<_}
+use native.Mathlib.Omega.{arith}
+use lib.Dec.{lit<}
+use Rattle.checks.specs.declared.Refusal.{Refusal}
+use Rattle.checks.specs.declared.Refusal.the-variants.{NoHead, UnknownWord, NotDue, NotPrime, NotMade, ModuliDiffer, OutOfRange, TooMany, NoOutput, WrongEnd, SessionRange, NoSuchParty, OwnerAbsent, WrongLength, ValueTooLarge, ContributionTooLarge, ZeroOffset, KeyOrRowTooLarge, WrongInputKey, NoMultiplier, MeterFull, TooShort}
+use Rattle.checks.specs.Answer.{numberOf}
+use Rattle.checks.specs.Checked.{Checked, Reports}
+use Rattle.checks.specs.Checked.Checked.{passed}
+use Rattle.checks.specs.Checked.Meets.{accepts, names, namesSome}
+use Rattle.checks.specs.Checked.Reports.{reports}
+
+pub passed-zero : {checks : Checked} {number place : ℕ} → Reports checks number place → checks ≡ passed → number ≡ 0
+passed-zero (reports accepts) e = refl
+passed-zero (reports names) e = cc
+passed-zero (reports (namesSome t)) e = cc
+
+some-number : (reason : Refusal) → 0 < numberOf reason
+some-number NoHead = lit< tt
+some-number UnknownWord = lit< tt
+some-number NotDue = lit< tt
+some-number NotPrime = lit< tt
+some-number NotMade = lit< tt
+some-number ModuliDiffer = lit< tt
+some-number OutOfRange = lit< tt
+some-number TooMany = lit< tt
+some-number NoOutput = lit< tt
+some-number WrongEnd = lit< tt
+some-number SessionRange = lit< tt
+some-number NoSuchParty = lit< tt
+some-number OwnerAbsent = lit< tt
+some-number WrongLength = lit< tt
+some-number ValueTooLarge = lit< tt
+some-number ContributionTooLarge = lit< tt
+some-number ZeroOffset = lit< tt
+some-number KeyOrRowTooLarge = lit< tt
+some-number WrongInputKey = lit< tt
+some-number NoMultiplier = lit< tt
+some-number MeterFull = lit< tt
+some-number TooShort = lit< tt
+
+pub zero-passed : {checks : Checked} {number place : ℕ} → Reports checks number place → number ≡ 0 → checks ≡ passed
+zero-passed (reports accepts) e = refl
+zero-passed (reports (names {reason})) e = absurd (omega (arith, e, some-number reason))
+zero-passed (reports (namesSome {reason} t)) e = absurd (omega (arith, e, some-number reason))
