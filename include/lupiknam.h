@@ -156,7 +156,7 @@ lupiknam_answer lupiknam_read(
  * An input, gate or output of a circuit, as an editor lists it; the records of a contribution are something else. A field that the kind
  * does not use is 0.
  *
- *   kind       that of its word in the file: 2 input, 3 add, 4 scale, 5 multiply, 6 project, 8 select, 10 output
+ *   kind       that of its first word in the file: 2 input, 3 add, 4 scale, 5 multiply, 6 project, 8 select, 10 output
  *   modulus    input, project: the modulus of the wire that it makes
  *   owner      input: the party that owns it
  *   constant   scale: what the wire is multiplied by

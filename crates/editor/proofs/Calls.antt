@@ -2,12 +2,12 @@
 -- Assumes nothing.
 use mathlib.Core.Path.{_≡_, refl, sym, ap, ap₂, subst, subst₂, _∙_}
 use mathlib.Core.Bool.{true}
-use mathlib.Core.List.{List, [], _∷_, _++_, append-nil}
-use Prim.Native.Nat.{ℕ, _*_}
+use mathlib.Core.List.{List, [], _∷_, _++_}
+use Prim.Native.Nat.{ℕ, _*_, _≤_}
 use native.Mathlib.Omega.{arith}
 use lib.Dec.{leb}
 use lib.ListN.{length, take, drop}
-use lib.Seq.{take-at, drop-length}
+use lib.Seq.{take-at}
 use borrow.Author.Tests.{le-leb}
 use Rattle.lists.specs.Blocks.{tab}
 use Rattle.checks.specs.declared.Answer.the-variants.{Accepted}
@@ -83,7 +83,7 @@ written-is-loaded records records₀ loaded tables tables₀ images file₀ file
 
 -- ---- loaded and written
 
-module _ (file file₀ written : List ℕ) {words₀ words number place : ℕ} (back : WrittenBack file) (same : length file₀ ≡ length file)
+module _ (file file₀ written : List ℕ) {words₀ words number place : ℕ} (back : WrittenBack file) (room : length file ≤ length file₀)
     (w : WriteCall (recordsRead file) (tablesRead file) file₀ words₀ number place written words) where
   abbrev ws : List ℕ
   ws = tab (wordsIn file) (wordAt file)
@@ -92,28 +92,27 @@ module _ (file file₀ written : List ℕ) {words₀ words number place : ℕ} (
   unfolding wordsWritten wordsOf
   words-are = ap wordsOf (back .words)
 
-  size-is : 4 * length (wordsWritten (recordsRead file) (tablesRead file)) ≡ length file₀
-  size-is = ap (λ (l : List ℕ). 4 * length l) words-are ∙ sym (length-file ws) ∙ ap (length {A = ℕ}) (back .bytes) ∙ sym same
+  size-is : 4 * length (wordsWritten (recordsRead file) (tablesRead file)) ≡ length file
+  size-is = ap (λ (l : List ℕ). 4 * length l) words-are ∙ sym (length-file ws) ∙ ap (length {A = ℕ}) (back .bytes)
 
   good : writeChecked (recordsRead file) (tablesRead file) (length file₀) ≡ passed
-  good = writes (recordsRead file) (tablesRead file) (length file₀) (back .words) (le-leb (4 * length (wordsWritten (recordsRead file) (tablesRead file))) (length file₀) (omega (arith, size-is)))
+  good = writes (recordsRead file) (tablesRead file) (length file₀) (back .words) (le-leb (4 * length (wordsWritten (recordsRead file) (tablesRead file))) (length file₀) (omega (arith, size-is, room)))
 
-  rewritten : Rewritten file number written words
+  rewritten : Rewritten file file₀ number written words
   rewritten =
       record {
         accepted = passed-zero (w .answer) good;
         fileIs =
             w .fileIs ∙ afterwards-passed good _ _
             ∙ ap₂ (λ (l : List ℕ) (n : ℕ). fileOf l ++ drop n file₀) words-are size-is
-            ∙ ap₂ (λ (l r : List ℕ). l ++ r) (back .bytes) (drop-length file₀)
-            ∙ append-nil file;
-        wordsAre = ap (λ (n : ℕ). 4 * n) (w .wordsIs ∙ afterwards-passed good _ _) ∙ size-is ∙ same;
+            ∙ ap (λ (l : List ℕ). l ++ drop (length file) file₀) (back .bytes);
+        wordsAre = ap (λ (n : ℕ). 4 * n) (w .wordsIs ∙ afterwards-passed good _ _) ∙ size-is;
       }
 
 pub loaded-is-written : LoadedIsWritten
-loaded-is-written records₀ records file tables₀ tables file₀ written words₀ words place number′ place′ bytes l same w =
+loaded-is-written records₀ records file tables₀ tables file₀ written words₀ words place number′ place′ bytes l room w =
     let passes : recordsChecked file (length records₀) (length tables₀) ≡ passed = zero-passed (l .answer) refl in
     rewritten file file₀ written
-    (read-is-written file bytes (read-so file (length records₀) (length tables₀) passes)) same
+    (read-is-written file bytes (read-so file (length records₀) (length tables₀) passes)) room
     (subst₂ (λ (rs : List Record) (ts : List ℕ). WriteCall rs ts file₀ words₀ number′ place′ written words)
     (l .recordsAre ∙ afterwards-passed passes _ _) (l .tablesAre ∙ afterwards-passed passes _ _) w)

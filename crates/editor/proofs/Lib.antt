@@ -21,3 +21,5 @@ pub mod RefusingStops
 pub mod Refusing
 -- .. and over the two calls: `written-is-loaded`, `loaded-is-written`
 pub mod Calls
+-- an instance of the first
+pub mod Example

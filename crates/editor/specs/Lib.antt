@@ -1,3 +1,4 @@
 -- What the editor is promised.
 pub mod Promise
 pub mod Calls
+pub mod Example

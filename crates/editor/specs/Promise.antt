@@ -19,8 +19,8 @@ use Rattle.words.specs.Encode.{wordOf, fileOf}
 use Rattle.words.specs.Fits.{Fits}
 use Rattle.circuit.specs.File.{wordsIn, readFile}
 use Rattle.writer.specs.declared.entry.Record.{Record}
-use Rattle.writer.specs.Says.{Speech, nothing, items, speechOf}
-use Rattle.writer.specs.Written.{Draft, Drafted, stopped, drafted, blank, leaving, unlessStopped, laidAll, recorded, Written, refused, wrote, writeRecords}
+use Rattle.writer.specs.Says.{nothing, items, speechOf}
+use Rattle.writer.specs.Written.{Draft, Drafted, drafted, blank, leaving, unlessStopped, laidAll, recorded, refused, wrote, writeRecords}
 use Rattle.writer.specs.Call.{recordsRead, tablesRead}
 
 -- written and read: the file of the words is accepted, and its list is the editor's
@@ -67,7 +67,7 @@ pub data Reached (records : List Record) (tables : List ℕ) (place : ℕ) : Dra
 
 -- Where the writer refuses: the record there says nothing; or its items are laid and entries of its table are still due; or all records are written and
 -- entries are left over; or an item is refused, and if its fields fit their bits, then every file with the words before it and its word is refused
--- there with the same reason, whatever follows.
+-- there with the same reason, whatever words follow.
 pub data RefusedSo (records : List Record) (tables : List ℕ) (reason : Refusal) (place : ℕ) : Type 0 where
   unknown :
       {d : Draft} {r : Record}

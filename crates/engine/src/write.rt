@@ -47,7 +47,7 @@ pub extern "C" fn lupiknam_write(
     finish(settled, laid, file, words)
 }
 
-// Takes a circuit file back to records and tables: 1 to 10, 14. Where it is refused, the count is 0, and both are as they were.
+// Takes a circuit file back to records and tables: 1 to 10, 14.
 #[no_mangle]
 pub extern "C" fn lupiknam_records(
     file: &[u8],

@@ -17,6 +17,7 @@ pub use numbers::byte_wide;
 pub use numbers::index_number;
 pub use numbers::number_index;
 pub use numbers::wire_index;
+pub use numbers::wire_number;
 
 // Copies `from` to `out`, which is as long.
 pub fn copy(out: &mut [u8], from: &[u8])

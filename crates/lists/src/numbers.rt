@@ -28,6 +28,12 @@ pub fn wire_index(x: u16) -> usize
     x as usize
 }
 
+pub fn wire_number(x: u16) -> u32
+    ensures { λ r. ⌜ r ≡ x ⌝ }
+{
+    x as u32
+}
+
 pub fn number_index(x: u32) -> usize
     ensures { λ r. ⌜ r ≡ x ⌝ }
 {

@@ -5,7 +5,7 @@ use mathlib.Core.Logic.{_⊎_, inl, inr, ⊎-elim}
 use mathlib.Core.Bool.{Bool, true, false, true≢false, not, _&&_}
 use mathlib.Core.List.{List}
 use Prim.Native.Nat.{ℕ, zero, suc, _+_, _-_, _^_, _≤_, _<_}
-use native.Mathlib.Nat.{eq-or-lt-of-le}
+use native.Mathlib.Nat.{eq-or-lt-of-le, eq-zero-or-pos}
 use native.Mathlib.Omega.{arith}
 use lib.Dec.{eqb, leb, ltb}
 use lib.ListN.{take, getD, length-take, List·getD-eq-default}
@@ -19,9 +19,11 @@ use Rattle.words.specs.declared.gate.Due.{Due}
 use Rattle.words.specs.declared.gate.Due.the-variants.{Gates, Entries}
 use Rattle.words.specs.declared.gate.Step.{Step}
 use Rattle.words.specs.declared.gate.Step.the-variants.{Refused, Goes}
-use Rattle.words.specs.Bits.{bits, kind, clear, image}
+use Rattle.words.specs.Bits.{bits, kind, clear, owner, inputModulus, wireA, wireB, oneWire, constant, outputModulus, image}
 use Rattle.words.specs.Items.{check, judged, afterEntry, isModulus}
 use Rattle.words.specs.declared.item.Item.{Item}
+use Rattle.words.specs.declared.item.Item.the-variants.{Head, Input, Add, Scale, Multiply, Project, Entry, Select, Branches, Output, End}
+use Rattle.words.specs.Clean.{cleanOfKind, clean}
 use Rattle.words.specs.Reading.{said, byKind, saidBy, does, readWord, Said, Nothing}
 use Rattle.words.specs.Entries.{goodEntry}
 
@@ -41,8 +43,12 @@ after-other (suc (suc left)) modulus h = ap (λ k. Entries k modulus) others
     others = omega arith
 
 -- a number at least j and not j
-pub above : {j k : ℕ} → j ≤ k → (k ≡ j → ⊥) → suc j ≤ k
+above : {j k : ℕ} → j ≤ k → (k ≡ j → ⊥) → suc j ≤ k
 above h n = ⊎-elim (λ e. absurd (n (sym e))) (λ l. l) (eq-or-lt-of-le h)
+
+-- .. and one that is none of 1 to 11
+pub no-known : {k : ℕ} → (k ≡ 1 → ⊥) → (k ≡ 2 → ⊥) → (k ≡ 3 → ⊥) → (k ≡ 4 → ⊥) → (k ≡ 5 → ⊥) → (k ≡ 6 → ⊥) → (k ≡ 7 → ⊥) → (k ≡ 8 → ⊥) → (k ≡ 9 → ⊥) → (k ≡ 10 → ⊥) → (k ≡ 11 → ⊥) → (k ≡ 0) ⊎ (12 ≤ k)
+no-known {k} n1 n2 n3 n4 n5 n6 n7 n8 n9 n10 n11 = ⊎-elim (λ e. inl e) (λ h. inr (above (above (above (above (above (above (above (above (above (above (above h n1) n2) n3) n4) n5) n6) n7) n8) n9) n10) n11)) (eq-zero-or-pos k)
 
 -- what a test of a word that was read shows of the word itself
 pub tested : (modulus : ℕ) {w v : ℕ} {r b : Bool} → w ≡ v → r ≡ goodEntry modulus w → r ≡ b → goodEntry modulus v ≡ b
@@ -66,12 +72,38 @@ module _ (w : ℕ) where
   no-kind k e (inl none) = of-kind 0 (e ∙ none)
   no-kind k e (inr past) = sym (List·getD-eq-default (byKind w) Nothing past) ∙ of-kind k e
 
--- check 2, and then what is said is judged
-pub said-so : (moduli : List ℕ) (given at : ℕ) (due : Due) (clean : Bool) (item : Item)
-    → check clean UnknownWord (judged moduli given at due item) ≡ does moduli given at due (said clean item)
-unfolding check said
-said-so moduli given at due true item = refl
-said-so moduli given at due false item = refl
+-- check 2, where the kind is known and where it is none
+module _ (w : ℕ) where
+  pub clean-of-kind : (k : ℕ) → kind w ≡ k → getD (cleanOfKind w) k false ≡ clean w
+  clean-of-kind k e = ap (λ (j : ℕ). getD (cleanOfKind w) j false) (sym e)
+
+  pub clean-none : (k : ℕ) → kind w ≡ k → (k ≡ 0) ⊎ (12 ≤ k) → false ≡ clean w
+  clean-none k e (inl none) = clean-of-kind 0 (e ∙ none)
+  clean-none k e (inr past) = sym (List·getD-eq-default (cleanOfKind w) false past) ∙ clean-of-kind k e
+
+-- a word says nothing where check 2 fails, and what is said is judged where it does not
+not-clean : (w k : ℕ) → getD (cleanOfKind w) k false ≡ false → getD (byKind w) k Nothing ≡ Nothing
+unfolding said
+not-clean w zero e = refl
+not-clean w (suc zero) e = ap (λ (b : Bool). said b Head) e
+not-clean w (suc (suc zero)) e = ap (λ (b : Bool). said b (Input (owner w) (inputModulus w))) e
+not-clean w (suc (suc (suc zero))) e = ap (λ (b : Bool). said b (Add (wireA w) (wireB w))) e
+not-clean w (suc (suc (suc (suc zero)))) e = ap (λ (b : Bool). said b (Scale (constant w) (oneWire w))) e
+not-clean w (suc (suc (suc (suc (suc zero))))) e = ap (λ (b : Bool). said b (Multiply (wireA w) (wireB w))) e
+not-clean w (suc (suc (suc (suc (suc (suc zero)))))) e = ap (λ (b : Bool). said b (Project (outputModulus w) (oneWire w))) e
+not-clean w (suc (suc (suc (suc (suc (suc (suc zero))))))) e = ap (λ (b : Bool). said b (Entry (image w))) e
+not-clean w (suc (suc (suc (suc (suc (suc (suc (suc zero)))))))) e = ap (λ (b : Bool). said b (Select (oneWire w))) e
+not-clean w (suc (suc (suc (suc (suc (suc (suc (suc (suc zero))))))))) e = ap (λ (b : Bool). said b (Branches (wireA w) (wireB w))) e
+not-clean w (suc (suc (suc (suc (suc (suc (suc (suc (suc (suc zero)))))))))) e = ap (λ (b : Bool). said b (Output (oneWire w))) e
+not-clean w (suc (suc (suc (suc (suc (suc (suc (suc (suc (suc (suc zero))))))))))) e = ap (λ (b : Bool). said b End) e
+not-clean w (suc (suc (suc (suc (suc (suc (suc (suc (suc (suc (suc (suc k)))))))))))) e = refl
+
+pub unclean : (w : ℕ) → clean w ≡ false → Nothing ≡ saidBy w
+unclean w e = sym (not-clean w (kind w) e)
+
+pub said-true : (moduli : List ℕ) (given at : ℕ) (due : Due) {clean : Bool} (item : Item) → clean ≡ true → judged moduli given at due item ≡ does moduli given at due (said clean item)
+unfolding said
+said-true moduli given at due item e = sym (ap (λ (b : Bool). does moduli given at due (said b item)) e)
 
 -- a good entry, where so many are due, only changes what is due
 pub good-entry : (moduli : List ℕ) (given at : ℕ) (due : Due) (w left modulus : ℕ) → goodEntry modulus w ≡ true → due ≡ Entries left modulus

@@ -65,7 +65,7 @@ wireOf gate modulus = record { gate = gate; modulus = modulus }
 abbrev pub pairOf : ℕ → ℕ → Pair
 pairOf a b = record { a = a; b = b }
 
--- a modulus is one of the primes from 2 to 251 (257 is a prime too)
+-- a modulus is one of the primes from 2 to 251 (257 is prime and no modulus)
 abbrev pub isModulus : ℕ → Bool
 isModulus p = ltb p 256 && isPrime p
 

@@ -25,7 +25,7 @@ use super::item::Item;
 use checks::Refusal;
 
 // Where a check fails the item is refused.
-pub fn check(ok: bool, reason: Refusal, next: Step) -> Step
+fn check(ok: bool, reason: Refusal, next: Step) -> Step
     ensures { λ r. ⌜ r ≡ check ok reason next ⌝ }
 {
     if ok { next } else { Step::Refused(reason) }

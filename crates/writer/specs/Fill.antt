@@ -1,4 +1,5 @@
 -- Records from a list of numbers, seven to a record.
+-- Assumes nothing.
 use mathlib.Core.List.{List, _++_}
 use Prim.Native.Nat.{ℕ, _+_, _*_}
 use lib.ListN.{getD, drop}

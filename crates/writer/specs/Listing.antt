@@ -31,7 +31,7 @@ abbrev pub recordWith : ℕ → ℕ → ℕ → ℕ → ℕ → ℕ → ℕ → 
 recordWith kind modulus owner constant bit a b = record { kind = kind; modulus = modulus; owner = owner; constant = constant; bit = bit; a = a; b = b }
 
 abbrev pub numbersOf : Record → List ℕ
-numbersOf item = item .kind ∷ item .modulus ∷ item .owner ∷ item .constant ∷ item .bit ∷ item .a ∷ item .b ∷ []
+numbersOf r = r .kind ∷ r .modulus ∷ r .owner ∷ r .constant ∷ r .bit ∷ r .a ∷ r .b ∷ []
 
 -- how many entries a gate's table has, a wire's, and all of a circuit's
 abbrev pub entriesBy : Gate → (ℕ → ℕ) → ℕ

@@ -64,7 +64,7 @@ unfoldable pub laidAll : Draft → List Item → Drafted
 laidAll d [] = drafted d
 laidAll d (item ∷ others) = unlessStopped (laid d item) (λ e. laidAll e others)
 
--- a table whose entries ran out
+-- stopped where entries of a table are still due: they ran out
 unfoldable pub whole : Draft → Due → Drafted
 whole d Inputs = drafted d
 whole d Gates = drafted d
@@ -96,11 +96,12 @@ unfoldable pub closed : ℕ → Drafted → Written
 closed place (stopped reason) = refused reason place
 closed place (drafted d) = allTaken place (d .tables) (d .words)
 
--- the records from an index on; the first that is stopped decides
+-- what is next is written where nothing stopped the record at an index
 unfoldable pub onward : (Draft → Written) → ℕ → Drafted → Written
 onward next place (stopped reason) = refused reason place
 onward next place (drafted d) = next d
 
+-- the records from an index on, and the end; the first that is stopped decides
 unfoldable pub writeFrom : ℕ → List Record → Draft → Written
 writeFrom place [] d = closed place (laid d End)
 writeFrom place (r ∷ records) d = onward (writeFrom (suc place) records) place (recorded d r)

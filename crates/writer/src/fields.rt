@@ -12,6 +12,7 @@ ghost use Rattle.writer.specs.Listing.{recordWith, numbersOf};
 use super::entry::Record;
 use circuit::Circuit;
 use lists::byte_number;
+use lists::wire_number;
 use words::Gate;
 use words::Wire;
 
@@ -20,12 +21,6 @@ pub fn no_fields() -> [u32; 8960]
     ensures { λ r. ⌜ length r ≡ 8960 ⌝ }
 {
     [0u32; 8960]
-}
-
-fn wire_number(x: u16) -> u32
-    ensures { λ r. ⌜ r ≡ x ⌝ }
-{
-    x as u32
 }
 
 fn record_with(

@@ -111,8 +111,8 @@ fn branches_on(
     went(step, w, place, moduli, file, pen, lay)
 }
 
-// The branches of a choice, as `lay_item` would lay them. That one is called in one place only, and so the compiler puts it into the loop over the records,
-// where neither the item nor the pen goes through memory.
+// The branches of a choice, as `lay_item` would lay them. They do not go by it, because it has one caller, and so the compiler puts it into the loop over
+// the records, where neither the item nor the pen goes through memory; a second caller would undo that.
 pub fn lay_branches(
     a: u32,
     b: u32,
