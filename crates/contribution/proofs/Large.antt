@@ -17,7 +17,7 @@ use Rattle.checks.specs.declared.Refusal.the-variants.{ContributionTooLarge, Ke
 use Rattle.checks.specs.declared.Answer.{Answer}
 use Rattle.checks.specs.Combined.{named}
 use Rattle.checks.specs.Checked.{Meets}
-use Rattle.checks.proofs.Answers.{meets-somewhere}
+use Rattle.checks.proofs.Answers.{meets-noneBad}
 use Rattle.words.specs.declared.gate.Wire.{Wire}
 use Rattle.circuit.specs.Wires.{inputsIn, modulusAt}
 use Rattle.counts.specs.Counts.{rowsOf}
@@ -55,7 +55,7 @@ bounded-none {xs} {most} {p} r h =
 pub bytes-met : (xs moduli : List ℕ) (reason : Refusal) {found : ℕ} {answer : Answer} → found ≡ firstLarge xs (λ i. getD moduli i 0) → answer ≡ named (length xs) found reason
     → Meets (bytesChecked xs moduli reason) answer
 unfolding bytesChecked
-bytes-met xs moduli reason e f = rw (f, e) (meets-somewhere (length xs) (tooLarge xs (λ i. getD moduli i 0)) reason)
+bytes-met xs moduli reason e f = rw (f, e) (meets-noneBad (length xs) (tooLarge xs (λ i. getD moduli i 0)) reason)
 
 module _ (n K : ℕ) (wires : List Wire) (xs : List ℕ) {found : ℕ} {answer : Answer} where
   pub contributions-met : found ≡ firstLarge xs (λ i. getD (blocks n (λ party. contributionModuli K wires)) i 0) → answer ≡ named (length xs) found ContributionTooLarge

@@ -14,7 +14,7 @@ use Rattle.lists.proofs.Blocks.{getD-runs}
 use Rattle.residue.specs.Vector.{AllBelow}
 use Rattle.checks.specs.declared.Refusal.the-variants.{ValueTooLarge, KeyOrRowTooLarge}
 use Rattle.checks.specs.Checked.Checked.{passed}
-use Rattle.checks.proofs.Passed.{noneBad-none, somewhere-none}
+use Rattle.checks.proofs.Passed.{noneBad-none}
 use Rattle.words.specs.declared.gate.Wire.{Wire}
 use Rattle.circuit.specs.declared.Circuit.{Circuit}
 use Rattle.circuit.specs.Wires.{wireAt, modulusAt, inputsIn}
@@ -64,7 +64,7 @@ module _ (n K : ℕ) (wires : List Wire) where
         (λ i l.
         rw (getD-runs (length wires) bytesOf (modulusAt wires) w i 0 h l, rows-place w) at
         (leb-false (getD (runs (length wires) bytesOf (modulusAt wires)) (sumTo w bytesOf + i) 0) (getD rows (sumTo w bytesOf + i) 0)
-        (somewhere-none (length rows) (tooLarge rows (λ j. getD (runs (length wires) bytesOf (modulusAt wires)) j 0)) KeyOrRowTooLarge e
+        (noneBad-none (length rows) (tooLarge rows (λ j. getD (runs (length wires) bytesOf (modulusAt wires)) j 0)) KeyOrRowTooLarge e
         (sumTo w bytesOf + i) (omega (arith, rows-inside, rows-place w)))))
 
 module _ {circuit : Circuit} {n K party : ℕ} {contribution externals keys rows : List ℕ}

@@ -12,7 +12,7 @@ use Rattle.lists.specs.First.{firstFrom, first}
 use Rattle.shake.specs.Numbers.{bytesOf}
 use Rattle.residue.specs.Prime.{remaindersBelow, isPrime}
 use Rattle.residue.specs.Residue.{add, mul}
-use Rattle.checks.specs.Checked.{unless, noneBad, unlessFree, noneBadFree}
+use Rattle.checks.specs.Checked.{unless, noneBad}
 use Rattle.checks.specs.Checked.Checked.{passed}
 use Rattle.words.specs.declared.gate.Wire.{Wire}
 use Rattle.words.specs.Items.{check, afterEntry}
@@ -56,7 +56,7 @@ unfolding contributions contributionSize wires sumTo someBelow recipe
 size = refl
 
 bytes : contributionsChecked 2 1 wires contributions ≡ passed
-unfolding contributionsChecked bytesChecked noneBadFree unlessFree first firstFrom blocks contributions contributionModuli wires someBelow recipe
+unfolding contributionsChecked bytesChecked noneBad unless first firstFrom blocks contributions contributionModuli wires someBelow recipe
 bytes = refl
 
 offsets : offsetsChecked 2 1 wires contributions ≡ passed

@@ -11,7 +11,7 @@ use Rattle.residue.specs.Vector.{AllBelow}
 use Rattle.checks.specs.declared.Refusal.{Refusal}
 use Rattle.checks.specs.declared.Refusal.the-variants.{ValueTooLarge, KeyOrRowTooLarge}
 use Rattle.checks.specs.Checked.Checked.{passed}
-use Rattle.checks.proofs.Passed.{noneBad-passed, somewhere-passed, somewhere-none}
+use Rattle.checks.proofs.Passed.{noneBad-passed, noneBad-none}
 use Rattle.words.specs.declared.gate.Wire.{Wire}
 use Rattle.circuit.specs.Wires.{modulusAt, inputsIn}
 use Rattle.scheme.proofs.EachBelow.{runs-each}
@@ -43,12 +43,12 @@ module _ (xs moduli : List ℕ) (reason : Refusal) where
   pub bytes-passed : ((i : ℕ) → i < length xs → getD xs i 0 < getD moduli i 0) → bytesChecked xs moduli reason ≡ passed
   unfolding bytesChecked
   bytes-passed below =
-      somewhere-passed (length xs) (tooLarge xs (λ i. getD moduli i 0)) reason (λ i h. below-tooLarge xs (λ i. getD moduli i 0) i (below i h))
+      noneBad-passed (length xs) (tooLarge xs (λ i. getD moduli i 0)) reason (λ i h. below-tooLarge xs (λ i. getD moduli i 0) i (below i h))
 
   pub bytes-below : bytesChecked xs moduli reason ≡ passed → (i : ℕ) → i < length xs → getD xs i 0 < getD moduli i 0
   unfolding bytesChecked
   bytes-below e i h =
-      tooLarge-below xs (λ i. getD moduli i 0) i (somewhere-none (length xs) (tooLarge xs (λ i. getD moduli i 0)) reason e i h)
+      tooLarge-below xs (λ i. getD moduli i 0) i (noneBad-none (length xs) (tooLarge xs (λ i. getD moduli i 0)) reason e i h)
 
 -- keys of all inputs, one after another, each of n times K residues
 pub keys-passed : (n K : ℕ) (wires : List Wire) (f : ℕ → List ℕ)

@@ -8,7 +8,7 @@ use lib.ListN.{length, getD}
 use Rattle.lists.specs.Blocks.{blocks, runs, part, nthPiece}
 use Rattle.checks.specs.declared.Refusal.{Refusal}
 use Rattle.checks.specs.declared.Refusal.the-variants.{ContributionTooLarge, ZeroOffset, KeyOrRowTooLarge}
-use Rattle.checks.specs.Checked.{Checked, noneBad, noneBadFree}
+use Rattle.checks.specs.Checked.{Checked, noneBad}
 use Rattle.words.specs.declared.gate.Wire.{Wire}
 use Rattle.circuit.specs.Wires.{modulusAt, inputsIn}
 use Rattle.counts.specs.Counts.{rowsOf}
@@ -16,9 +16,9 @@ use Rattle.counts.specs.Moduli.{used, someBelow}
 use Rattle.scheme.specs.Contribution.{contributionSize, contributionModuli, offsetAt}
 use Rattle.session.specs.Session.{tooLarge}
 
--- each byte against its modulus; the place of a bad one is free
+-- each byte against its modulus; the lowest bad one is named
 unfoldable pub bytesChecked : List ℕ → List ℕ → Refusal → Checked
-bytesChecked xs moduli reason = noneBadFree (length xs) (tooLarge xs (λ i. getD moduli i 0)) reason
+bytesChecked xs moduli reason = noneBad (length xs) (tooLarge xs (λ i. getD moduli i 0)) reason
 
 unfoldable pub allZero : List ℕ → Bool
 allZero [] = true
