@@ -9,7 +9,8 @@ use lib.ListN.{length, getD}
 use Rattle.lists.specs.Blocks.{tab}
 use Rattle.residue.specs.Residue.{sub}
 use Rattle.checks.specs.declared.Refusal.the-variants.{ValueTooLarge}
-use Rattle.checks.specs.Checked.{Checked, Reports, andThen, noneBad, afterwards}
+use Rattle.checks.specs.declared.Answer.{Answer}
+use Rattle.checks.specs.Checked.{Reports, andThen, noneBad, afterwards}
 use Rattle.words.specs.declared.gate.Wire.{Wire}
 use Rattle.circuit.specs.Wires.{modulusAt}
 use Rattle.circuit.specs.File.{readFile}
@@ -21,14 +22,14 @@ module _ (wires : List Wire) (outputs externals masks : List ℕ) where
   outputModulus i = modulusAt wires (getD outputs i 0)
 
   -- 15 over two buffers: the lowest index over both, each counted from its own start
-  abbrev pub decodeBytes : Checked
+  abbrev pub decodeBytes : Answer
   decodeBytes =
       noneBad (max (length wires) (length outputs))
       (λ i. (ltb i (length wires) && tooLarge externals (modulusAt wires) i) || (ltb i (length outputs) && tooLarge masks outputModulus i))
       ValueTooLarge
 
   -- 14, where so many bytes are lent for the results, then 15
-  abbrev pub decodeLent : ℕ → Checked
+  abbrev pub decodeLent : ℕ → Answer
   decodeLent results =
       andThen (lengthsChecked (length externals ∷ length masks ∷ results ∷ []) (length wires ∷ length outputs ∷ length outputs ∷ [])) decodeBytes
 
@@ -44,7 +45,7 @@ module _ (file : List ℕ) (externals masks results : List ℕ) where
   abbrev outputs : List ℕ
   outputs = readFile file .outputs
 
-  unfoldable pub decodeChecked : Checked
+  unfoldable pub decodeChecked : Answer
   decodeChecked = andThen (fileChecked file) (decodeLent wires outputs externals masks (length results))
 
   unfoldable pub decodeAfter : List ℕ

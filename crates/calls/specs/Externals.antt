@@ -8,7 +8,8 @@ use lib.ListN.{length, getD}
 use Rattle.lists.specs.Blocks.{blocks, tab}
 use Rattle.residue.specs.Residue.{add}
 use Rattle.checks.specs.declared.Refusal.the-variants.{ValueTooLarge}
-use Rattle.checks.specs.Checked.{Checked, Reports, andThen, noneBad, afterwards}
+use Rattle.checks.specs.declared.Answer.{Answer}
+use Rattle.checks.specs.Checked.{Reports, andThen, noneBad, afterwards}
 use Rattle.words.specs.declared.gate.Wire.{Wire}
 use Rattle.circuit.specs.Wires.{wireAt, modulusAt}
 use Rattle.circuit.specs.File.{readFile}
@@ -28,16 +29,16 @@ module _ (party : ℕ) (wires : List Wire) (values masks : List ℕ) where
   ownModulus i = modulusAt wires (getD own i 0)
 
   -- 15 over two buffers: the lowest index over both
-  abbrev pub externalsBytes : Checked
+  abbrev pub externalsBytes : Answer
   externalsBytes = noneBad (length own) (λ i. tooLarge values ownModulus i || tooLarge masks ownModulus i) ValueTooLarge
 
   -- 14, where so many bytes are lent for the external values, then 15
-  abbrev pub externalsLent : ℕ → Checked
+  abbrev pub externalsLent : ℕ → Answer
   externalsLent externals =
       andThen (lengthsChecked (length values ∷ length masks ∷ externals ∷ []) (length own ∷ length own ∷ length own ∷ [])) externalsBytes
 
   -- 11, 12 and 13, with n parties, then those
-  abbrev pub externalsAsked : ℕ → ℕ → Checked
+  abbrev pub externalsAsked : ℕ → ℕ → Answer
   externalsAsked n externals =
       andThen (partiesChecked n) (andThen (partyChecked n party) (andThen (ownersChecked n wires) (externalsLent externals)))
 
@@ -50,7 +51,7 @@ module _ (file : List ℕ) (n party : ℕ) (values masks externals : List ℕ) w
   abbrev wires : List Wire
   wires = readFile file .wires
 
-  unfoldable pub externalsChecked : Checked
+  unfoldable pub externalsChecked : Answer
   externalsChecked = andThen (fileChecked file) (externalsAsked party wires values masks n (length externals))
 
   unfoldable pub externalsAfter : List ℕ

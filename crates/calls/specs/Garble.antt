@@ -4,7 +4,8 @@ use mathlib.Core.Path.{_≡_}
 use mathlib.Core.List.{List, [], _∷_}
 use Prim.Native.Nat.{ℕ, _*_}
 use lib.ListN.{length}
-use Rattle.checks.specs.Checked.{Checked, Reports, andThen, afterwards}
+use Rattle.checks.specs.declared.Answer.{Answer}
+use Rattle.checks.specs.Checked.{Reports, andThen, afterwards}
 use Rattle.meter.specs.Meter.{meterChecked, charged}
 use Rattle.words.specs.declared.gate.Wire.{Wire}
 use Rattle.circuit.specs.Wires.{inputsIn}
@@ -18,26 +19,26 @@ use Rattle.session.specs.Session.{fileChecked, sessionChecked, ownersChecked, l
 use Rattle.scheme.specs.Bytes.{contributionsChecked, offsetsChecked}
 
 -- on the wires and outputs of a circuit: 16 and 17
-abbrev pub garbleBytes : ℕ → ℕ → List Wire → List ℕ → Checked
+abbrev pub garbleBytes : ℕ → ℕ → List Wire → List ℕ → Answer
 garbleBytes n K wires contributions = andThen (contributionsChecked n K wires contributions) (offsetsChecked n K wires contributions)
 
 module _ (n K : ℕ) (wires : List Wire) (outputs contributions : List ℕ) where
   -- 14, where so many bytes are lent for the rows, the input masks and the output masks
-  abbrev pub garbleLengths : ℕ → ℕ → ℕ → Checked
+  abbrev pub garbleLengths : ℕ → ℕ → ℕ → Answer
   garbleLengths rows masks outs =
       lengthsChecked (length contributions ∷ rows ∷ masks ∷ outs ∷ [])
       (n * contributionSize K wires ∷ rowsIn wires * (n * K) ∷ inputsIn wires ∷ length outputs ∷ [])
 
   -- 14, then 16 and 17
-  abbrev pub garbleLent : ℕ → ℕ → ℕ → Checked
+  abbrev pub garbleLent : ℕ → ℕ → ℕ → Answer
   garbleLent rows masks outs = andThen (garbleLengths rows masks outs) (garbleBytes n K wires contributions)
 
   -- 13, then those
-  abbrev pub garbleOwned : ℕ → ℕ → ℕ → Checked
+  abbrev pub garbleOwned : ℕ → ℕ → ℕ → Answer
   garbleOwned rows masks outs = andThen (ownersChecked n wires) (garbleLent rows masks outs)
 
   -- 11, then those
-  abbrev pub garbleAsked : ℕ → ℕ → ℕ → Checked
+  abbrev pub garbleAsked : ℕ → ℕ → ℕ → Answer
   garbleAsked rows masks outs = andThen (sessionChecked n K) (garbleOwned rows masks outs)
 
 -- the call: the file first, the meter last
@@ -51,7 +52,7 @@ module _ (file : List ℕ) (n K : ℕ) (contributions rows masks outs : List ℕ
   abbrev draw : Draw
   draw = drawn n K wires contributions
 
-  unfoldable pub garbleChecked : Checked
+  unfoldable pub garbleChecked : Answer
   garbleChecked =
       andThen (andThen (fileChecked file) (garbleAsked n K wires outputs contributions (length rows) (length masks) (length outs)))
       (meterChecked meter (rowsIn wires))

@@ -6,7 +6,8 @@ use Prim.Native.Nat.{ℕ, _*_}
 use lib.ListN.{length, getD}
 use Rattle.lists.specs.Blocks.{blocks}
 use Rattle.residue.specs.Vector.{keyV}
-use Rattle.checks.specs.Checked.{Checked, Reports, andThen, afterwards}
+use Rattle.checks.specs.declared.Answer.{Answer}
+use Rattle.checks.specs.Checked.{Reports, andThen, afterwards}
 use Rattle.words.specs.declared.gate.Wire.{Wire}
 use Rattle.circuit.specs.Wires.{modulusAt, inputsIn}
 use Rattle.circuit.specs.File.{readFile}
@@ -23,23 +24,23 @@ inputKey wires own externals w =
 -- on the wires of a circuit
 module _ (K : ℕ) (wires : List Wire) (contribution externals : List ℕ) where
   -- 15, 16 and 17
-  abbrev pub inputKeysBytes : Checked
+  abbrev pub inputKeysBytes : Answer
   inputKeysBytes =
       andThen (valuesChecked externals (modulusAt wires)) (andThen (contributionsChecked 1 K wires contribution) (offsetsChecked 1 K wires contribution))
 
   -- 14, where so many bytes are lent for the keys, then those
-  abbrev pub inputKeysLent : ℕ → Checked
+  abbrev pub inputKeysLent : ℕ → Answer
   inputKeysLent keys =
       andThen
       (lengthsChecked (length contribution ∷ length externals ∷ keys ∷ []) (contributionSize K wires ∷ inputsIn wires ∷ inputsIn wires * K ∷ []))
       inputKeysBytes
 
   -- 12 and 13, with n parties, then those
-  abbrev pub inputKeysParty : ℕ → ℕ → ℕ → Checked
+  abbrev pub inputKeysParty : ℕ → ℕ → ℕ → Answer
   inputKeysParty n party keys = andThen (partyChecked n party) (andThen (ownersChecked n wires) (inputKeysLent keys))
 
   -- 11, then those
-  abbrev pub inputKeysAsked : ℕ → ℕ → ℕ → Checked
+  abbrev pub inputKeysAsked : ℕ → ℕ → ℕ → Answer
   inputKeysAsked n party keys = andThen (sessionChecked n K) (inputKeysParty n party keys)
 
   abbrev pub inputKeysMade : List ℕ
@@ -50,7 +51,7 @@ module _ (file : List ℕ) (n K party : ℕ) (contribution externals keys : List
   abbrev wires : List Wire
   wires = readFile file .wires
 
-  unfoldable pub inputKeysChecked : Checked
+  unfoldable pub inputKeysChecked : Answer
   inputKeysChecked = andThen (fileChecked file) (inputKeysAsked K wires contribution externals n party (length keys))
 
   unfoldable pub inputKeysAfter : List ℕ

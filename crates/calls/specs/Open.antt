@@ -8,7 +8,8 @@ use Prim.Native.Nat.{ℕ, _+_, _*_}
 use lib.ListN.{length, getD, replicate}
 use Rattle.lists.specs.Blocks.{nthPiece}
 use Rattle.checks.specs.declared.Refusal.the-variants.{WrongInputKey, NoMultiplier}
-use Rattle.checks.specs.Checked.{Checked, Reports, andThen, noneBad, afterwards}
+use Rattle.checks.specs.declared.Answer.{Answer}
+use Rattle.checks.specs.Checked.{Reports, andThen, noneBad, afterwards}
 use Rattle.words.specs.declared.gate.Wire.{Wire}
 use Rattle.circuit.specs.Wires.{modulusAt, inputsIn}
 use Rattle.circuit.specs.File.{readFile}
@@ -25,14 +26,14 @@ use Rattle.calls.specs.InputKeys.{inputKey}
 -- on the wires of a circuit
 module _ (n K : ℕ) (wires : List Wire) (contribution externals keys rows : List ℕ) where
   -- 14, where so many bytes are lent for the wires' keys and external values
-  abbrev pub openLengths : ℕ → ℕ → Checked
+  abbrev pub openLengths : ℕ → ℕ → Answer
   openLengths wkeys wexternals =
       lengthsChecked (length contribution ∷ length externals ∷ length keys ∷ length rows ∷ wkeys ∷ wexternals ∷ [])
       (contributionSize K wires ∷ inputsIn wires ∷ inputsIn wires * (n * K) ∷ rowsIn wires * (n * K) ∷ length wires * (n * K)
       ∷ length wires ∷ [])
 
   -- 15 to 18
-  abbrev pub openBytes : Checked
+  abbrev pub openBytes : Answer
   openBytes =
       andThen (valuesChecked externals (modulusAt wires))
       (andThen (contributionsChecked 1 K wires contribution)
@@ -41,15 +42,15 @@ module _ (n K : ℕ) (wires : List Wire) (contribution externals keys rows : Lis
       (rowsChecked n K wires rows))))
 
   -- 14, then those
-  abbrev pub openLent : ℕ → ℕ → Checked
+  abbrev pub openLent : ℕ → ℕ → Answer
   openLent wkeys wexternals = andThen (openLengths wkeys wexternals) openBytes
 
   -- 12 and 13, then those
-  abbrev pub openParty : ℕ → ℕ → ℕ → Checked
+  abbrev pub openParty : ℕ → ℕ → ℕ → Answer
   openParty party wkeys wexternals = andThen (partyChecked n party) (andThen (ownersChecked n wires) (openLent wkeys wexternals))
 
   -- 11, then those
-  abbrev pub openAsked : ℕ → ℕ → ℕ → Checked
+  abbrev pub openAsked : ℕ → ℕ → ℕ → Answer
   openAsked party wkeys wexternals = andThen (sessionChecked n K) (openParty party wkeys wexternals)
 
 -- 19: the party's own key on each input is zero key plus external value times offset
@@ -57,16 +58,16 @@ module _ (n K party : ℕ) (wires : List Wire) (contribution externals keys : Li
   abbrev pub inputKeyWrong : ℕ → Bool
   inputKeyWrong w = not (same (nthPiece keys K (w * n + party)) (inputKey wires (drawn 1 K wires contribution) externals w))
 
-  abbrev pub ownKeysChecked : Checked
+  abbrev pub ownKeysChecked : Answer
   ownKeysChecked = noneBad (inputsIn wires) inputKeyWrong WrongInputKey
 
 -- 20: no multiplier fits
-abbrev pub gatesChecked : Pad → ℕ → ℕ → ℕ → List Wire → Draw → List ℕ → List ℕ → List ℕ → Checked
+abbrev pub gatesChecked : Pad → ℕ → ℕ → ℕ → List Wire → Draw → List ℕ → List ℕ → List ℕ → Answer
 gatesChecked pad n K party wires own externals keys rows =
     noneBad (length wires) (λ w. not (getD (opened pad n K party wires own externals keys rows) w nothing .fits)) NoMultiplier
 
 -- what is checked before any gate: the file first
-unfoldable pub beforeOpening : List ℕ → ℕ → ℕ → ℕ → List ℕ → List ℕ → List ℕ → List ℕ → List ℕ → List ℕ → Checked
+unfoldable pub beforeOpening : List ℕ → ℕ → ℕ → ℕ → List ℕ → List ℕ → List ℕ → List ℕ → List ℕ → List ℕ → Answer
 beforeOpening file n K party contribution externals keys rows wkeys wexternals =
     andThen
     (andThen (fileChecked file)
@@ -80,13 +81,13 @@ module _ (pad : Pad) (file : List ℕ) (n K party : ℕ) (contribution externals
   abbrev own : Draw
   own = drawn 1 K wires contribution
 
-  abbrev before : Checked
+  abbrev before : Answer
   before = beforeOpening file n K party contribution externals keys rows wkeys wexternals
 
-  abbrev gates : Checked
+  abbrev gates : Answer
   gates = gatesChecked pad n K party wires own externals keys rows
 
-  unfoldable pub openChecked : Checked
+  unfoldable pub openChecked : Answer
   openChecked = andThen before gates
 
   -- after 20 both written buffers are all zero; after any other refusal they are as they were

@@ -1,4 +1,4 @@
--- Laws of checks: when they pass, and which answers meet them.
+-- Laws of checks: when they accept, and how the code puts an answer together.
 pub mod Passed
 pub mod Answers
 pub mod Numbers

@@ -1,21 +1,18 @@
 -- A call's number is 0 exactly where its checks pass: no refusal has that number.
 -- Assumes nothing.
-use mathlib.Core.Path.{_≡_, refl}
+use mathlib.Core.Path.{_≡_, refl, sym, ap, _∙_}
 use Prim.Native.Nat.{ℕ, _<_}
 use native.Mathlib.Omega.{arith}
 use lib.Dec.{lit<}
 use Rattle.checks.specs.declared.Refusal.{Refusal}
 use Rattle.checks.specs.declared.Refusal.the-variants.{NoHead, UnknownWord, NotDue, NotPrime, NotMade, ModuliDiffer, OutOfRange, TooMany, NoOutput, WrongEnd, SessionRange, NoSuchParty, OwnerAbsent, WrongLength, ValueTooLarge, ContributionTooLarge, ZeroOffset, KeyOrRowTooLarge, WrongInputKey, NoMultiplier, MeterFull, TooShort}
-use Rattle.checks.specs.Answer.{numberOf}
-use Rattle.checks.specs.Checked.{Checked, Reports}
-use Rattle.checks.specs.Checked.Checked.{passed}
-use Rattle.checks.specs.Checked.Meets.{accepts, names, namesSome}
-use Rattle.checks.specs.Checked.Reports.{reports}
+use Rattle.checks.specs.Answer.{numberOf, numberIn}
+use Rattle.checks.specs.declared.Answer.{Answer}
+use Rattle.checks.specs.declared.Answer.the-variants.{Accepted, Refused}
+use Rattle.checks.specs.Checked.{Reports}
 
-pub passed-zero : {checks : Checked} {number place : ℕ} → Reports checks number place → checks ≡ passed → number ≡ 0
-passed-zero (reports accepts) e = refl
-passed-zero (reports names) e = cc
-passed-zero (reports (namesSome t)) e = cc
+pub passed-zero : {checks : Answer} {number place : ℕ} → Reports checks number place → checks ≡ Accepted → number ≡ 0
+passed-zero r e = r .numberIs ∙ ap numberIn e
 
 some-number : (reason : Refusal) → 0 < numberOf reason
 some-number NoHead = lit< tt
@@ -41,7 +38,9 @@ some-number NoMultiplier = lit< tt
 some-number MeterFull = lit< tt
 some-number TooShort = lit< tt
 
-pub zero-passed : {checks : Checked} {number place : ℕ} → Reports checks number place → number ≡ 0 → checks ≡ passed
-zero-passed (reports accepts) e = refl
-zero-passed (reports (names {reason})) e = absurd (omega (arith, e, some-number reason))
-zero-passed (reports (namesSome {reason} t)) e = absurd (omega (arith, e, some-number reason))
+pub zero-passed : {checks : Answer} {number place : ℕ} → Reports checks number place → number ≡ 0 → checks ≡ Accepted
+zero-passed {checks} r e = by checks (sym (r .numberIs) ∙ e)
+  where
+    by : (checks : Answer) → numberIn checks ≡ 0 → checks ≡ Accepted
+    by Accepted z = refl
+    by (Refused reason place) z = absurd (omega (arith, z, some-number reason))

@@ -1,4 +1,3 @@
 -- What the answers of all calls mean.
 pub mod Answer
 pub mod Checked
-pub mod Combined

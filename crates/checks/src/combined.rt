@@ -1,6 +1,6 @@
 // An answer put together: of the lowest bad number that a search found, and of two answers, one after the other.
 ghost use mathlib.Core.Path.{_≡_};
-ghost use Rattle.checks.specs.Combined.{named, followed};
+ghost use Rattle.checks.specs.Checked.{andThen, named};
 use super::Answer;
 use super::Refusal;
 
@@ -17,7 +17,7 @@ pub fn named(n: usize, found: usize, reason: Refusal) -> Answer
 
 // The first answer where it is a refusal, else the next.
 pub fn followed(first: Answer, next: Answer) -> Answer
-    ensures { λ r. ⌜ r ≡ followed first next ⌝ }
+    ensures { λ r. ⌜ r ≡ andThen first next ⌝ }
 {
     match first {
         Answer::Accepted => next,

@@ -1,5 +1,5 @@
 // How a call answers: accepted, or refused for one of document 01's reasons at a place. One answer serves the reader, the checks
-// and the calls. specs/Checked.antt says what an ordered chain of checks comes to, and which answers meet it. Rests on `lists`.
+// and the calls. specs/Checked.antt says what an ordered chain of checks comes to. Rests on `lists`.
 mod combined;
 
 pub use combined::followed;

@@ -15,9 +15,8 @@ use Rattle.lists.proofs.First.{first-none}
 use Rattle.checks.specs.declared.Refusal.{Refusal}
 use Rattle.checks.specs.declared.Refusal.the-variants.{ContributionTooLarge, KeyOrRowTooLarge}
 use Rattle.checks.specs.declared.Answer.{Answer}
-use Rattle.checks.specs.Combined.{named}
-use Rattle.checks.specs.Checked.{Meets}
-use Rattle.checks.proofs.Answers.{meets-noneBad}
+use Rattle.checks.specs.Checked.{named}
+use Rattle.checks.proofs.Answers.{noneBad-found}
 use Rattle.words.specs.declared.gate.Wire.{Wire}
 use Rattle.circuit.specs.Wires.{inputsIn, modulusAt}
 use Rattle.counts.specs.Counts.{rowsOf}
@@ -53,22 +52,22 @@ bounded-none {xs} {most} {p} r h =
 -- ---- the answer
 
 pub bytes-met : (xs moduli : List ℕ) (reason : Refusal) {found : ℕ} {answer : Answer} → found ≡ firstLarge xs (λ i. getD moduli i 0) → answer ≡ named (length xs) found reason
-    → Meets (bytesChecked xs moduli reason) answer
+    → answer ≡ bytesChecked xs moduli reason
 unfolding bytesChecked
-bytes-met xs moduli reason e f = rw (f, e) (meets-noneBad (length xs) (tooLarge xs (λ i. getD moduli i 0)) reason)
+bytes-met xs moduli reason e f = noneBad-found (length xs) (tooLarge xs (λ i. getD moduli i 0)) reason e f
 
 module _ (n K : ℕ) (wires : List Wire) (xs : List ℕ) {found : ℕ} {answer : Answer} where
   pub contributions-met : found ≡ firstLarge xs (λ i. getD (blocks n (λ party. contributionModuli K wires)) i 0) → answer ≡ named (length xs) found ContributionTooLarge
-      → Meets (contributionsChecked n K wires xs) answer
+      → answer ≡ contributionsChecked n K wires xs
   unfolding contributionsChecked
   contributions-met e f = bytes-met xs (blocks n (λ party. contributionModuli K wires)) ContributionTooLarge e f
 
   pub keys-met : found ≡ firstLarge xs (λ i. getD (runs (inputsIn wires) (λ w. n * K) (modulusAt wires)) i 0) → answer ≡ named (length xs) found KeyOrRowTooLarge
-      → Meets (keysChecked n K wires xs) answer
+      → answer ≡ keysChecked n K wires xs
   unfolding keysChecked
   keys-met e f = bytes-met xs (runs (inputsIn wires) (λ w. n * K) (modulusAt wires)) KeyOrRowTooLarge e f
 
   pub rows-met : found ≡ firstLarge xs (λ i. getD (runs (length wires) (λ w. rowsOf wires w * (n * K)) (modulusAt wires)) i 0) → answer ≡ named (length xs) found KeyOrRowTooLarge
-      → Meets (rowsChecked n K wires xs) answer
+      → answer ≡ rowsChecked n K wires xs
   unfolding countedRowsChecked
   rows-met e f = bytes-met xs (runs (length wires) (λ w. rowsOf wires w * (n * K)) (modulusAt wires)) KeyOrRowTooLarge e f

@@ -17,9 +17,8 @@ use Rattle.lists.proofs.Blocks.{getD-tab}
 use Rattle.lists.proofs.Search.{Looking}
 use Rattle.checks.specs.declared.Refusal.the-variants.{ZeroOffset}
 use Rattle.checks.specs.declared.Answer.{Answer}
-use Rattle.checks.specs.Combined.{named}
-use Rattle.checks.specs.Checked.{Meets}
-use Rattle.checks.proofs.Answers.{meets-noneBad}
+use Rattle.checks.specs.Checked.{named}
+use Rattle.checks.proofs.Answers.{noneBad-found}
 use Rattle.words.specs.declared.gate.Wire.{Wire}
 use Rattle.counts.specs.Counts.{Counts, mark}
 use Rattle.counts.specs.Moduli.{used, usedBelow, someBelow}
@@ -133,6 +132,6 @@ module _ (n k : ℕ) (wires : List Wire) (xs : List ℕ) {marks ranks : List ℕ
 -- ---- the answer
 
 pub offsets-met : (n k : ℕ) (wires : List Wire) (xs : List ℕ) {found : ℕ} {answer : Answer} → found ≡ first 256 (zeroOffset n k wires xs) → answer ≡ named 256 found ZeroOffset
-    → Meets (offsetsChecked n k wires xs) answer
+    → answer ≡ offsetsChecked n k wires xs
 unfolding offsetsChecked
-offsets-met n k wires xs e f = rw (f, e) (meets-noneBad 256 (zeroOffset n k wires xs) ZeroOffset)
+offsets-met n k wires xs e f = noneBad-found 256 (zeroOffset n k wires xs) ZeroOffset e f

@@ -3,7 +3,6 @@ ghost use mathlib.Core.Path.{_≡_};
 ghost use Prim.Native.Nat.{_+_, _*_, _≤_};
 ghost use lib.ListN.{length, getD};
 ghost use Rattle.lists.specs.Blocks.{blocks, runs};
-ghost use Rattle.checks.specs.Checked.{Meets};
 ghost use Rattle.circuit.specs.Wires.{modulusAt};
 ghost use Rattle.circuit.specs.Held.{wiresIn, Room};
 ghost use Rattle.counts.specs.Counts.{mark, recordKeysOf, recordKeysIn};
@@ -108,7 +107,7 @@ fn first_in_contributions(circuit: Circuit, n: usize, k: usize, contributions: &
 pub fn contributions_checked(circuit: Circuit, n: usize, k: usize, contributions: &[u8]) -> Answer
     requires { ⌜ Room circuit × ((n ≤ 8) × (k ≤ 128)) ⌝ }
     requires { ⌜ length (now contributions) ≡ n * contributionSize k (wiresIn circuit) ⌝ }
-    ensures { λ r. ⌜ Meets (contributionsChecked n k (wiresIn circuit) (now (contributions .entry))) r ⌝ }
+    ensures { λ r. ⌜ r ≡ contributionsChecked n k (wiresIn circuit) (now (contributions .entry)) ⌝ }
 {
     let found = first_in_contributions(circuit, n, k, contributions);
     named(contributions.len(), found, Refusal::ContributionTooLarge)

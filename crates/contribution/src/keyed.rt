@@ -3,7 +3,6 @@ ghost use mathlib.Core.Path.{_≡_};
 ghost use Prim.Native.Nat.{_*_, _≤_};
 ghost use lib.ListN.{length, getD};
 ghost use Rattle.lists.specs.Blocks.{runs};
-ghost use Rattle.checks.specs.Checked.{Meets};
 ghost use Rattle.circuit.specs.Wires.{modulusAt, inputsIn};
 ghost use Rattle.circuit.specs.Held.{wiresIn, Held};
 ghost use Rattle.counts.specs.Counts.{rowsOf, rowsIn};
@@ -68,7 +67,7 @@ fn first_in_rows(circuit: Circuit, width: usize, rows: &[u8]) -> usize
 pub fn keys_checked(circuit: Circuit, n: usize, k: usize, keys: &[u8]) -> Answer
     requires { ⌜ Held circuit × ((n ≤ 8) × (k ≤ 128)) ⌝ }
     requires { ⌜ length (now keys) ≡ inputsIn (wiresIn circuit) * (n * k) ⌝ }
-    ensures { λ r. ⌜ Meets (keysChecked n k (wiresIn circuit) (now (keys .entry))) r ⌝ }
+    ensures { λ r. ⌜ r ≡ keysChecked n k (wiresIn circuit) (now (keys .entry)) ⌝ }
 {
     let width = n * k;
     let found = first_in_keys(circuit, width, keys);
@@ -79,7 +78,7 @@ pub fn keys_checked(circuit: Circuit, n: usize, k: usize, keys: &[u8]) -> Answer
 pub fn rows_checked(circuit: Circuit, n: usize, k: usize, rows: &[u8]) -> Answer
     requires { ⌜ Held circuit × ((n ≤ 8) × (k ≤ 128)) ⌝ }
     requires { ⌜ length (now rows) ≡ rowsIn (wiresIn circuit) * (n * k) ⌝ }
-    ensures { λ r. ⌜ Meets (rowsChecked n k (wiresIn circuit) (now (rows .entry))) r ⌝ }
+    ensures { λ r. ⌜ r ≡ rowsChecked n k (wiresIn circuit) (now (rows .entry)) ⌝ }
 {
     let width = n * k;
     let found = first_in_rows(circuit, width, rows);

@@ -6,7 +6,6 @@ ghost use lib.Dec.{eqb};
 ghost use lib.ListN.{length};
 ghost use Rattle.lists.specs.Blocks.{part, nthPiece};
 ghost use Rattle.lists.specs.First.{first};
-ghost use Rattle.checks.specs.Checked.{Meets};
 ghost use Rattle.circuit.specs.Held.{wiresIn, Room};
 ghost use Rattle.counts.specs.Moduli.{someBelow};
 ghost use Rattle.scheme.specs.Contribution.{contributionSize};
@@ -87,7 +86,7 @@ fn first_zero(circuit: Circuit, n: usize, k: usize, contributions: &[u8]) -> usi
 pub fn offsets_checked(circuit: Circuit, n: usize, k: usize, contributions: &[u8]) -> Answer
     requires { ⌜ Room circuit × ((n ≤ 8) × (k ≤ 128)) ⌝ }
     requires { ⌜ length (now contributions) ≡ n * contributionSize k (wiresIn circuit) ⌝ }
-    ensures { λ r. ⌜ Meets (offsetsChecked n k (wiresIn circuit) (now (contributions .entry))) r ⌝ }
+    ensures { λ r. ⌜ r ≡ offsetsChecked n k (wiresIn circuit) (now (contributions .entry)) ⌝ }
 {
     let found = first_zero(circuit, n, k, contributions);
     named(256, found, Refusal::ZeroOffset)

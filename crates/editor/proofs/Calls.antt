@@ -12,14 +12,12 @@ use borrow.Author.Tests.{le-leb}
 use Rattle.lists.specs.Blocks.{tab}
 use Rattle.checks.specs.declared.Answer.the-variants.{Accepted}
 use Rattle.checks.specs.declared.Refusal.the-variants.{TooShort}
-use Rattle.checks.specs.Checked.Checked.{passed}
 use Rattle.checks.proofs.Numbers.{passed-zero, zero-passed}
-use Rattle.checks.proofs.Passed.{andThen-passed, andThen-left, answered-passed, answered-accepted, unless-passed, afterwards-passed}
+use Rattle.checks.proofs.Passed.{andThen-passed, andThen-left, unless-passed, afterwards-passed}
 use Rattle.words.specs.Bits.{wordAt}
 use Rattle.words.specs.Encode.{fileOf}
 use Rattle.words.proofs.Files.{length-file}
 use Rattle.circuit.specs.File.{wordsIn, readFile}
-use Rattle.session.specs.Session.{fileChecked}
 use Rattle.session.proofs.Sessions.{lengths-passed}
 use Rattle.writer.specs.declared.entry.Record.{Record}
 use Rattle.writer.specs.Written.{Written, refused, wrote, writeRecords}
@@ -38,23 +36,22 @@ has-words (wrote words) e = refl
 has-words (refused reason place) e = let z : _≡_ {A = ℕ} 0 1 = cc in absurd (omega arith)
 
 module _ (records : List Record) (tables : List ℕ) (size : ℕ) where
-  wrote-so : writeChecked records tables size ≡ passed → writeRecords records tables ≡ wrote (wordsWritten records tables)
+  wrote-so : writeChecked records tables size ≡ Accepted → writeRecords records tables ≡ wrote (wordsWritten records tables)
   unfolding writeChecked wordsWritten
-  wrote-so e = has-words (writeRecords records tables) (answered-accepted _ (andThen-left _ _ e))
+  wrote-so e = has-words (writeRecords records tables) (andThen-left _ _ e)
 
-  writes : {words : List ℕ} → writeRecords records tables ≡ wrote words → leb (4 * length (wordsWritten records tables)) size ≡ true → writeChecked records tables size ≡ passed
+  writes : {words : List ℕ} → writeRecords records tables ≡ wrote words → leb (4 * length (wordsWritten records tables)) size ≡ true → writeChecked records tables size ≡ Accepted
   unfolding writeChecked answerOf
-  writes e room = andThen-passed (answered-passed (ap answerOf e)) (unless-passed TooShort 0 room)
+  writes e room = andThen-passed (ap answerOf e) (unless-passed TooShort 0 room)
 
 module _ (file : List ℕ) (count size : ℕ) where
-  read-so : recordsChecked file count size ≡ passed → readFile file .answer ≡ Accepted
-  unfolding recordsChecked fileChecked
-  read-so e = answered-accepted _ (andThen-left _ _ e)
+  read-so : recordsChecked file count size ≡ Accepted → readFile file .answer ≡ Accepted
+  unfolding recordsChecked
+  read-so e = andThen-left _ _ e
 
-  loads : readFile file .answer ≡ Accepted → count ≡ length (recordsRead file) → size ≡ length (tablesRead file) → recordsChecked file count size ≡ passed
-  unfolding recordsChecked fileChecked
-  loads e c s =
-      andThen-passed (answered-passed e) (lengths-passed (ap₂ (λ (m n : ℕ). m ∷ n ∷ []) c s))
+  loads : readFile file .answer ≡ Accepted → count ≡ length (recordsRead file) → size ≡ length (tablesRead file) → recordsChecked file count size ≡ Accepted
+  unfolding recordsChecked
+  loads e c s = andThen-passed e (lengths-passed (ap₂ (λ (m n : ℕ). m ∷ n ∷ []) c s))
 
 -- ---- written and loaded
 
@@ -65,14 +62,14 @@ front-words ws rest = take-at (fileOf ws) rest (4 * length ws) (length-file ws)
 pub written-is-loaded : WrittenIsLoaded
 written-is-loaded records records₀ loaded tables tables₀ images file₀ file words₀ words place number′ place′ w sameRecords sameTables l =
     let ws : List ℕ = wordsWritten records tables in
-    let passes : writeChecked records tables (length file₀) ≡ passed = zero-passed (w .answer) refl in
+    let passes : writeChecked records tables (length file₀) ≡ Accepted = zero-passed (w .answer) refl in
     let back : ReadBack records tables ws = written-is-read records tables ws (wrote-so records tables (length file₀) passes) in
     let front : take (4 * words) file ≡ fileOf ws =
     ap₂ (λ (n : ℕ) (f : List ℕ). take (4 * n) f) (w .wordsIs ∙ afterwards-passed passes _ _) (w .fileIs ∙ afterwards-passed passes _ _)
     ∙ front-words ws (drop (4 * length ws) file₀) in
     let call : RecordsCall (fileOf ws) records₀ tables₀ number′ place′ loaded images =
     subst (λ (f : List ℕ). RecordsCall f records₀ tables₀ number′ place′ loaded images) front l in
-    let good : recordsChecked (fileOf ws) (length records₀) (length tables₀) ≡ passed =
+    let good : recordsChecked (fileOf ws) (length records₀) (length tables₀) ≡ Accepted =
     loads (fileOf ws) (length records₀) (length tables₀) (back .accepted) (sameRecords ∙ ap (length {A = Record}) (sym (back .recordsAre)))
     (sameTables ∙ ap (length {A = ℕ}) (sym (back .tablesAre))) in
     record {
@@ -95,7 +92,7 @@ module _ (file file₀ written : List ℕ) {words₀ words number place : ℕ} (
   size-is : 4 * length (wordsWritten (recordsRead file) (tablesRead file)) ≡ length file
   size-is = ap (λ (l : List ℕ). 4 * length l) words-are ∙ sym (length-file ws) ∙ ap (length {A = ℕ}) (back .bytes)
 
-  good : writeChecked (recordsRead file) (tablesRead file) (length file₀) ≡ passed
+  good : writeChecked (recordsRead file) (tablesRead file) (length file₀) ≡ Accepted
   good = writes (recordsRead file) (tablesRead file) (length file₀) (back .words) (le-leb (4 * length (wordsWritten (recordsRead file) (tablesRead file))) (length file₀) (omega (arith, size-is, room)))
 
   rewritten : Rewritten file file₀ number written words
@@ -111,7 +108,7 @@ module _ (file file₀ written : List ℕ) {words₀ words number place : ℕ} (
 
 pub loaded-is-written : LoadedIsWritten
 loaded-is-written records₀ records file tables₀ tables file₀ written words₀ words place number′ place′ bytes l room w =
-    let passes : recordsChecked file (length records₀) (length tables₀) ≡ passed = zero-passed (l .answer) refl in
+    let passes : recordsChecked file (length records₀) (length tables₀) ≡ Accepted = zero-passed (l .answer) refl in
     rewritten file file₀ written
     (read-is-written file bytes (read-so file (length records₀) (length tables₀) passes)) room
     (subst₂ (λ (rs : List Record) (ts : List ℕ). WriteCall rs ts file₀ words₀ number′ place′ written words)

@@ -1,16 +1,15 @@
--- An answer that meets its checks, as C has it: number and place, and what a lent number or buffer holds.
+-- What checks come to, as C has it: number and place, and what a lent number or buffer holds.
 -- Assumes nothing.
-use mathlib.Core.Path.{_≡_, subst, _∙_}
+use mathlib.Core.Path.{_≡_, sym, _∙_}
 use mathlib.Core.List.{List}
 use Prim.Native.Nat.{ℕ}
 use Rattle.checks.specs.declared.Answer.{Answer}
 use Rattle.checks.specs.declared.Answer.the-variants.{Accepted, Refused}
 use Rattle.checks.specs.declared.Refusal.{Refusal}
 use Rattle.checks.specs.Answer.{numberIn, placeIn}
-use Rattle.checks.specs.Checked.{Checked, Meets, Reports, afterwards}
-use Rattle.checks.proofs.Answers.{meets-answered, meets-reports, afterwards-accepted, afterwards-refused}
-use Rattle.circuit.specs.File.{readFile}
-use Rattle.session.specs.Session.{fileChecked}
+use Rattle.checks.specs.Checked.{Reports, afterwards}
+use Rattle.checks.proofs.Answers.{afterwards-refused, told}
+use Rattle.checks.proofs.Passed.{afterwards-passed}
 use Rattle.read_calls.specs.declared.summary.Summary.{Summary}
 use Rattle.read_calls.specs.Summary.{Summarizes}
 use Rattle.read_calls.specs.declared.inputs.Counted.{Counted}
@@ -18,30 +17,17 @@ use Rattle.read_calls.specs.InputsOf.{CountsInputs, inputsOfAfter}
 use Rattle.read_calls.specs.Read.{ReadCall, InputsOfCall}
 
 -- the number and place that are told are the answer's
-pub told-so : {checks : Checked} (answer : Answer) {number place : ℕ} → Reports checks (numberIn answer) (placeIn answer)
+pub told-so : {checks : Answer} (answer : Answer) {number place : ℕ} → Reports checks (numberIn answer) (placeIn answer)
     → (number ≡ numberIn answer) × (place ≡ placeIn answer) → Reports checks number place
-told-so answer r e = rw (e .0, e .1) r
+told-so answer r e = record { numberIs = e .0 ∙ r .numberIs; placeIs = e .1 ∙ r .placeIs }
 
--- reading's only checks are the file's
-file-met : {file : List ℕ} {found : Summary} → Summarizes file found → Meets (fileChecked file) (found .answer)
-unfolding fileChecked
-file-met {file} {found} k = rw (k .answer) (meets-answered (readFile file .answer))
-
--- after a branch on the answer that was met: what is told, and a lent number
-module _ {checks : Checked} {answer told : Answer} (m : Meets checks answer) (e : answer ≡ told) {number place : ℕ}
-    (f : (number ≡ numberIn told) × (place ≡ placeIn told)) where
-  met : Meets checks told
-  met = subst (Meets checks) e m
-
-  reported : Reports checks number place
-  reported = meets-reports met (f .0) (f .1)
-
-module _ {checks : Checked} {answer : Answer} (m : Meets checks answer) where
+-- after a branch on the answer: a lent number
+module _ {checks answer : Answer} (m : answer ≡ checks) where
   after-accepted : answer ≡ Accepted → {x new : ℕ} (old : ℕ) → x ≡ new → x ≡ afterwards checks new old
-  after-accepted e {x} {new} old g = g ∙ afterwards-accepted (subst (Meets checks) e m) new old
+  after-accepted e {x} {new} old g = g ∙ sym (afterwards-passed (sym m ∙ e) new old)
 
   after-refused : {reason : Refusal} {place : ℕ} → answer ≡ Refused reason place → (new old : ℕ) → old ≡ afterwards checks new old
-  after-refused e new old = afterwards-refused (subst (Meets checks) e m) new old
+  after-refused e new old = afterwards-refused (sym m ∙ e) new old
 
 -- reading a circuit
 module _ {file : List ℕ} {found : Summary} (k : Summarizes file found) (wires inputs outputs rows moduli keys : ℕ) {number place : ℕ} where
@@ -49,9 +35,9 @@ module _ {file : List ℕ} {found : Summary} (k : Summarizes file found) (wires 
       → ReadCall file wires inputs outputs rows moduli keys number place
       (found .wires) (found .inputs) (found .outputs) (found .rows) (found .moduli) (found .records)
   read-accepted e f =
-      let m = file-met k in
+      let m = k .answer in
       record {
-        answer = reported m e f;
+        answer = told (sym e ∙ m) (f .0) (f .1);
         wiresIs = after-accepted m e wires (k .wires);
         inputsIs = after-accepted m e inputs (k .inputs);
         outputsIs = after-accepted m e outputs (k .outputs);
@@ -64,9 +50,9 @@ module _ {file : List ℕ} {found : Summary} (k : Summarizes file found) (wires 
       → (number ≡ numberIn (Refused reason at)) × (place ≡ at)
       → ReadCall file wires inputs outputs rows moduli keys number place wires inputs outputs rows moduli keys
   read-refused e f =
-      let m = file-met k in
+      let m = k .answer in
       record {
-        answer = reported m e f;
+        answer = told (sym e ∙ m) (f .0) (f .1);
         wiresIs = after-refused m e _ wires;
         inputsIs = after-refused m e _ inputs;
         outputsIs = after-refused m e _ outputs;
@@ -79,9 +65,9 @@ module _ {file : List ℕ} {found : Summary} (k : Summarizes file found) (wires 
 module _ {file : List ℕ} {n party : ℕ} {found : Counted} (k : CountsInputs file n party found) (count : ℕ) {number place : ℕ} where
   pub inputs-accepted : found .answer ≡ Accepted → (number ≡ 0) × (place ≡ 0) → InputsOfCall file n party count number place (found .count)
   unfolding inputsOfAfter
-  inputs-accepted e f = record { answer = reported (k .answer) e f; countIs = after-accepted (k .answer) e count (k .count) }
+  inputs-accepted e f = record { answer = told (sym e ∙ k .answer) (f .0) (f .1); countIs = after-accepted (k .answer) e count (k .count) }
 
   pub inputs-refused : {reason : Refusal} {at : ℕ} → found .answer ≡ Refused reason at
       → (number ≡ numberIn (Refused reason at)) × (place ≡ at) → InputsOfCall file n party count number place count
   unfolding inputsOfAfter
-  inputs-refused e f = record { answer = reported (k .answer) e f; countIs = after-refused (k .answer) e _ count }
+  inputs-refused e f = record { answer = told (sym e ∙ k .answer) (f .0) (f .1); countIs = after-refused (k .answer) e _ count }

@@ -9,7 +9,7 @@ use Rattle.residue.specs.Prime.{isPrime, remaindersBelow}
 use Rattle.residue.specs.Residue.{add, sub, mul}
 use Rattle.residue.specs.Vector.{addV, subV, mulV, keyV}
 use Rattle.shake.specs.Numbers.{bytesOf}
-use Rattle.checks.specs.Checked.{answered, andThen, unless, noneBad, afterwards}
+use Rattle.checks.specs.Checked.{andThen, unless, noneBad, afterwards}
 use Rattle.words.specs.Items.{check, afterEntry}
 use Rattle.words.specs.Reading.{said, readWord}
 use Rattle.circuit.specs.Wires.{inputsIn}
@@ -22,7 +22,7 @@ use Rattle.scheme.specs.Gate.{row, productRow₀, productRow₁, productRows, c
 use Rattle.scheme.specs.Rows.{gateRows, garbledRows, outputMasks}
 use Rattle.scheme.specs.Opening.{chosen, corrector, bared, productKeys as keysOfProduct, choiceKeys as keysOfChoice, searched, added, openFrom, rowAt, ownRows, openInput, multiplierOf, openWire, openedTo, opened, wireKeys, wireExternals}
 use Rattle.search.specs.Search.{same, multiplier}
-use Rattle.session.specs.Session.{fileChecked, sameNumbers, lengthsChecked}
+use Rattle.session.specs.Session.{sameNumbers, lengthsChecked}
 use Rattle.calls.specs.InputKeys.{inputKey}
 use Rattle.calls.specs.Decode.{decodeChecked, decodeAfter}
 use Rattle.words.specs.Encode.{fileOf}
@@ -38,5 +38,5 @@ unfolding choiceFile choiceWires fileOf bytesOf readFile headed readFrom after e
 choice-reads = refl
 
 pub table : cases ≡ printed
-unfolding cases printed wire scaled product select productDecoded choiceDecoded counts input productExternals productKeys choiceExternals choiceKeys productWires productDraw choiceWires choiceDraw drew noPad inputs keys rows openedKeys openedExternals inputsIn blocks part sumTo grown extended first firstFrom add sub mul zipWith addV subV mulV keyV recipe zeroKeyBy maskBy zeroKeysTo masksTo zeroKey mask padSum padRow productMessage₀ productMessage₁ chooserMessage₀ chooserMessage₁ correctorMessage₀ correctorMessage₁ row productRow₀ productRow₁ productRows chooserRow₀ chooserRow₁ correctorRow₀ correctorRow₁ choiceRows rowsFrom gateRows garbledRows outputMasks chosen corrector bared keysOfProduct keysOfChoice searched added openFrom rowAt ownRows openInput multiplierOf openWire openedTo opened wireKeys wireExternals same multiplier inputKey decodeChecked decodeAfter answered andThen unless noneBad afterwards fileChecked sameNumbers lengthsChecked productFile choiceFile fileOf bytesOf readFile headed readFrom after ended readWord said check afterEntry isPrime remaindersBelow
+unfolding cases printed wire scaled product select productDecoded choiceDecoded counts input productExternals productKeys choiceExternals choiceKeys productWires productDraw choiceWires choiceDraw drew noPad inputs keys rows openedKeys openedExternals inputsIn blocks part sumTo grown extended first firstFrom add sub mul zipWith addV subV mulV keyV recipe zeroKeyBy maskBy zeroKeysTo masksTo zeroKey mask padSum padRow productMessage₀ productMessage₁ chooserMessage₀ chooserMessage₁ correctorMessage₀ correctorMessage₁ row productRow₀ productRow₁ productRows chooserRow₀ chooserRow₁ correctorRow₀ correctorRow₁ choiceRows rowsFrom gateRows garbledRows outputMasks chosen corrector bared keysOfProduct keysOfChoice searched added openFrom rowAt ownRows openInput multiplierOf openWire openedTo opened wireKeys wireExternals same multiplier inputKey decodeChecked decodeAfter andThen unless noneBad afterwards sameNumbers lengthsChecked productFile choiceFile fileOf bytesOf readFile headed readFrom after ended readWord said check afterEntry isPrime remaindersBelow
 table = refl

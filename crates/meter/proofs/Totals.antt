@@ -1,6 +1,6 @@
 -- The meter's check passes exactly where there is space, and after any garblings the meter is the total rows of those accepted.
 -- Assumes nothing.
-use mathlib.Core.Path.{_≡_, refl, ap, _∙_}
+use mathlib.Core.Path.{_≡_, refl, sym, ap, _∙_}
 use mathlib.Core.List.{List, [], _∷_}
 use Prim.Native.Nat.{ℕ, _+_, _-_, _≤_, _<_}
 use native.Mathlib.Omega.{arith}
@@ -8,29 +8,28 @@ use borrow.Author.Tests.{leb-true, le-leb, lt-leb}
 use lib.Dec.{leb}
 use Rattle.checks.specs.declared.Answer.the-variants.{Accepted, Refused}
 use Rattle.checks.specs.declared.Refusal.the-variants.{MeterFull}
-use Rattle.checks.specs.Checked.{Checked, Meets, afterwards}
-use Rattle.checks.specs.Checked.Checked.{passed, refused}
+use Rattle.checks.specs.declared.Answer.{Answer}
+use Rattle.checks.specs.Checked.{afterwards}
 use Rattle.checks.proofs.Passed.{andThen-right, unless-passed, unless-true}
-use Rattle.checks.proofs.Answers.{unless-met, unless-named}
+use Rattle.checks.proofs.Answers.{unless-refused}
 use Rattle.meter.specs.Meter.{meterLimit, HasSpace, meterChecked, charged, Garbling, checksAt, handedBack, meterAfter, total}
 
 module _ (meter rows : ℕ) where
-  pub space-passed : HasSpace meter rows → meterChecked meter rows ≡ passed
+  pub space-passed : HasSpace meter rows → meterChecked meter rows ≡ Accepted
   unfolding meterChecked
   space-passed h = unless-passed MeterFull 0 (le-leb (meter + rows) meterLimit h)
 
-  pub passed-space : meterChecked meter rows ≡ passed → HasSpace meter rows
+  pub passed-space : meterChecked meter rows ≡ Accepted → HasSpace meter rows
   unfolding meterChecked
   passed-space e = leb-true (meter + rows) meterLimit (unless-true (leb (meter + rows) meterLimit) MeterFull 0 e)
 
   -- what the code compares: the meter with what the rows leave of the limit
-  pub space-met : rows ≤ meterLimit → meter ≤ meterLimit - rows → Meets (meterChecked meter rows) Accepted
-  unfolding meterChecked
-  space-met h k = unless-met MeterFull 0 (le-leb (meter + rows) meterLimit (omega arith))
+  pub space-met : rows ≤ meterLimit → meter ≤ meterLimit - rows → Accepted ≡ meterChecked meter rows
+  space-met h k = sym (space-passed (omega arith))
 
-  pub full-met : rows ≤ meterLimit → meterLimit - rows < meter → Meets (meterChecked meter rows) (Refused MeterFull 0)
+  pub full-met : rows ≤ meterLimit → meterLimit - rows < meter → Refused MeterFull 0 ≡ meterChecked meter rows
   unfolding meterChecked
-  full-met h k = unless-named MeterFull 0 (lt-leb (meter + rows) meterLimit (omega arith))
+  full-met h k = sym (unless-refused MeterFull 0 (lt-leb (meter + rows) meterLimit (omega arith)))
 
 -- ---- one garbling
 
@@ -39,17 +38,17 @@ module _ (meter : ℕ) (garbling : Garbling) where
   unfolding handedBack afterwards
   back-is = go (checksAt meter garbling)
     where
-      go : (checks : Checked) → afterwards checks (charged meter (garbling .rows)) meter ≡ meter + afterwards checks (garbling .rows) 0
-      go passed = refl
-      go (refused reason place) = omega arith
+      go : (checks : Answer) → afterwards checks (charged meter (garbling .rows)) meter ≡ meter + afterwards checks (garbling .rows) 0
+      go Accepted = refl
+      go (Refused reason place) = omega arith
 
   back-fits : meter ≤ meterLimit → handedBack meter garbling ≤ meterLimit
   unfolding handedBack afterwards checksAt
   back-fits h = go (checksAt meter garbling) refl
     where
-      go : (checks : Checked) → checksAt meter garbling ≡ checks → afterwards checks (charged meter (garbling .rows)) meter ≤ meterLimit
-      go passed e = passed-space meter (garbling .rows) (andThen-right (garbling .earlier) (meterChecked meter (garbling .rows)) e)
-      go (refused reason place) e = h
+      go : (checks : Answer) → checksAt meter garbling ≡ checks → afterwards checks (charged meter (garbling .rows)) meter ≤ meterLimit
+      go Accepted e = passed-space meter (garbling .rows) (andThen-right (garbling .earlier) (meterChecked meter (garbling .rows)) e)
+      go (Refused reason place) e = h
 
 -- ---- any number of them
 

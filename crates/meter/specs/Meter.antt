@@ -5,7 +5,8 @@ use mathlib.Core.List.{List, [], _∷_}
 use Prim.Native.Nat.{ℕ, _+_, _≤_}
 use lib.Dec.{leb}
 use Rattle.checks.specs.declared.Refusal.the-variants.{MeterFull}
-use Rattle.checks.specs.Checked.{Checked, andThen, unless, afterwards}
+use Rattle.checks.specs.declared.Answer.{Answer}
+use Rattle.checks.specs.Checked.{andThen, unless, afterwards}
 
 abbrev pub meterLimit : ℕ
 meterLimit = 4294967295
@@ -15,7 +16,7 @@ abbrev pub HasSpace : ℕ → ℕ → Type 0
 HasSpace meter rows = meter + rows ≤ meterLimit
 
 -- 21: it has
-unfoldable pub meterChecked : ℕ → ℕ → Checked
+unfoldable pub meterChecked : ℕ → ℕ → Answer
 meterChecked meter rows = unless (leb (meter + rows) meterLimit) MeterFull 0
 
 -- the meter after a garbling of so many rows that was accepted
@@ -24,11 +25,11 @@ charged meter rows = meter + rows
 
 -- a garbling, as the meter sees it: what all checks before the meter's come to, and the circuit's rows
 pub record Garbling : Type 0 where
-  pub earlier : Checked
+  pub earlier : Answer
   pub rows : ℕ
 
 -- its checks where the meter holds so much, and the meter handed back
-unfoldable pub checksAt : ℕ → Garbling → Checked
+unfoldable pub checksAt : ℕ → Garbling → Answer
 checksAt meter garbling = andThen (garbling .earlier) (meterChecked meter (garbling .rows))
 
 unfoldable pub handedBack : ℕ → Garbling → ℕ

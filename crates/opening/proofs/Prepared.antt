@@ -13,8 +13,8 @@ use Rattle.lists.proofs.Sums.{sumTo-ext, sumTo-times, sumTo-fits, times-fits}
 use Rattle.lists.proofs.Blocks.{getD-runs}
 use Rattle.residue.specs.Vector.{AllBelow}
 use Rattle.checks.specs.declared.Refusal.the-variants.{ValueTooLarge, KeyOrRowTooLarge}
-use Rattle.checks.specs.Checked.Checked.{passed}
 use Rattle.checks.proofs.Passed.{noneBad-none}
+use Rattle.checks.specs.declared.Answer.the-variants.{Accepted}
 use Rattle.words.specs.declared.gate.Wire.{Wire}
 use Rattle.circuit.specs.declared.Circuit.{Circuit}
 use Rattle.circuit.specs.Wires.{wireAt, modulusAt, inputsIn}
@@ -57,7 +57,7 @@ module _ (n K : ℕ) (wires : List Wire) where
     rows-inside = omega (arith, sumTo-fits w (length wires) bytesOf h, rows-place w, rows-place (length wires), size)
 
     -- the checked bytes
-    rows-below : rowsChecked n K wires rows ≡ passed → AllBelow (modulusAt wires w) (ownRows n K wires rows w)
+    rows-below : rowsChecked n K wires rows ≡ Accepted → AllBelow (modulusAt wires w) (ownRows n K wires rows w)
     unfolding countedRowsChecked bytesChecked ownRows
     rows-below e =
         below-part (modulusAt wires w) rows (rowAt wires w * (n * K)) (bytesOf w) rows-inside

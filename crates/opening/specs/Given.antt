@@ -7,7 +7,7 @@ use Prim.Native.Nat.{ℕ, _*_, _≤_, _<_}
 use lib.ListN.{length, getD, replicate}
 use Rattle.lists.specs.First.{first}
 use Rattle.residue.specs.Vector.{AllBelow}
-use Rattle.checks.specs.Checked.Checked.{passed}
+use Rattle.checks.specs.declared.Answer.the-variants.{Accepted}
 use Rattle.circuit.specs.declared.Circuit.{Circuit}
 use Rattle.circuit.specs.Wires.{modulusAt, inputsIn}
 use Rattle.circuit.specs.Accepted.{AcceptedCircuit}
@@ -38,10 +38,10 @@ pub record Given (circuit : Circuit) (n K party : ℕ) (contribution externals k
   pub externalsSize : length externals ≡ inputsIn (wiresIn circuit)
   pub keysSize : length keys ≡ inputsIn (wiresIn circuit) * (n * K)
   pub rowsSize : length rows ≡ rowsIn (wiresIn circuit) * (n * K)
-  pub externalsBelow : valuesChecked externals (modulusAt (wiresIn circuit)) ≡ passed
-  pub contributionBelow : contributionsChecked 1 K (wiresIn circuit) contribution ≡ passed
-  pub keysBelow : keysChecked n K (wiresIn circuit) keys ≡ passed
-  pub rowsBelow : rowsChecked n K (wiresIn circuit) rows ≡ passed
+  pub externalsBelow : valuesChecked externals (modulusAt (wiresIn circuit)) ≡ Accepted
+  pub contributionBelow : contributionsChecked 1 K (wiresIn circuit) contribution ≡ Accepted
+  pub keysBelow : keysChecked n K (wiresIn circuit) keys ≡ Accepted
+  pub rowsBelow : rowsChecked n K (wiresIn circuit) rows ≡ Accepted
 
 -- the first wire on which no multiplier fits, the number of wires where there is none; and the two buffers written, all zero where there is one
 pub record OpensAll (circuit : Circuit) (n K party : ℕ) (contribution externals keys rows wkeys₀ wexternals₀ : List ℕ) (r : ℕ) (wkeys wexternals : List ℕ) : Type 0 where

@@ -1,6 +1,6 @@
 -- Decoding: its checks after reading, the loop that writes the results, and how the call ends.
 -- Assumes nothing.
-use mathlib.Core.Path.{_≡_, sym, ap₂, subst, _∙_}
+use mathlib.Core.Path.{_≡_, sym, ap, ap₂, _∙_}
 use mathlib.Core.Bool.{Bool, false, _&&_, _||_}
 use mathlib.Core.List.{List, [], _∷_, _++_}
 use Prim.Native.Nat.{ℕ, max, _+_, _-_, _≤_, _<_}
@@ -18,9 +18,7 @@ use Rattle.checks.specs.declared.Answer.the-variants.{Accepted, Refused}
 use Rattle.checks.specs.declared.Refusal.{Refusal}
 use Rattle.checks.specs.declared.Refusal.the-variants.{ValueTooLarge}
 use Rattle.checks.specs.Answer.{numberOf}
-use Rattle.checks.specs.Combined.{followed}
-use Rattle.checks.specs.Checked.{Checked, Meets}
-use Rattle.checks.specs.Checked.Checked.{passed}
+use Rattle.checks.specs.Checked.{andThen}
 use Rattle.checks.proofs.Passed.{andThen-left, andThen-right, noneBad-none}
 use Rattle.words.specs.declared.gate.Wire.{Wire}
 use Rattle.circuit.specs.declared.Circuit.{Circuit}
@@ -35,45 +33,44 @@ use Rattle.party_calls.specs.Tables.{Front}
 use Rattle.party_calls.specs.Either.{eitherChecked}
 use Rattle.party_calls.specs.Decoding.{Masked, Decodes}
 use Rattle.party_calls.proofs.TableLoops.{front-moduli}
-use Rattle.party_calls.proofs.TwoBuffers.{either-as}
-use Rattle.party_calls.proofs.Ending.{lent-is, stage-passed, stage-next, stage-refused, fails-left, fails-right, fails-guarded, read-met, check-accepted, circuit-accepted, ends-written, ends-refused}
+use Rattle.party_calls.proofs.TwoBuffers.{either-is}
+use Rattle.party_calls.proofs.Ending.{lent-is, stage-next, stage-refused, fails-left, fails-right, fails-guarded, read-met, check-accepted, circuit-accepted, ends-written, ends-refused}
 
 -- ---- 15
 
 pub masks-met : {circuit : Circuit} {externals masks table outputs : List ℕ} {answer : Answer} → Masked circuit externals masks
     → table ≡ moduliOf (wiresIn circuit) ++ replicate (1024 - circuit .made) 0
     → Front 1024 (circuit .given) (λ i. modulusAt (wiresIn circuit) (getD (outputsIn circuit) i 0)) outputs
-    → Meets (eitherChecked externals table masks outputs) answer → Meets (decodeBytes (wiresIn circuit) (outputsIn circuit) externals masks) answer
+    → answer ≡ eitherChecked externals table masks outputs → answer ≡ decodeBytes (wiresIn circuit) (outputsIn circuit) externals masks
 masks-met {circuit} {externals} {masks} {table} {outputs} r e f m =
-    either-as externals table masks outputs (length (wiresIn circuit)) (length (outputsIn circuit)) (modulusAt (wiresIn circuit))
+    m
+    ∙ either-is externals table masks outputs (length (wiresIn circuit)) (length (outputsIn circuit)) (modulusAt (wiresIn circuit))
     (λ i. modulusAt (wiresIn circuit) (getD (outputsIn circuit) i 0))
     (r .externalsSize ∙ sym (made-is (r .held)))
     (r .masksSize ∙ sym (given-is (r .held)))
     (λ i _. front-moduli (r .held .room) e i)
     (λ i l. f .entry i (omega (arith, given-is (r .held))))
-    m
 
 -- ---- 14, and then 15
 
 module _ {circuit : Circuit} (held : Held circuit) (externals masks : List ℕ) (bytes : ℕ) {answer : Answer}
-    (m : Meets (lengthsChecked (length externals ∷ length masks ∷ bytes ∷ []) (circuit .made ∷ circuit .given ∷ circuit .given ∷ [])) answer) where
+    (m : answer ≡ lengthsChecked (length externals ∷ length masks ∷ bytes ∷ []) (circuit .made ∷ circuit .given ∷ circuit .given ∷ [])) where
   abbrev wanted : List ℕ
   wanted = length (wiresIn circuit) ∷ length (outputsIn circuit) ∷ length (outputsIn circuit) ∷ []
 
-  lengths-met : Meets (lengthsChecked (length externals ∷ length masks ∷ bytes ∷ []) wanted) answer
+  lengths-met : answer ≡ lengthsChecked (length externals ∷ length masks ∷ bytes ∷ []) wanted
   lengths-met =
-      subst (λ (l : List ℕ). Meets (lengthsChecked (length externals ∷ length masks ∷ bytes ∷ []) l) answer)
-      (ap₂ (λ (a b : ℕ). a ∷ b ∷ b ∷ []) (sym (made-is held)) (sym (given-is held))) m
+      m ∙ ap (lengthsChecked (length externals ∷ length masks ∷ bytes ∷ [])) (ap₂ (λ (a b : ℕ). a ∷ b ∷ b ∷ []) (sym (made-is held)) (sym (given-is held)))
 
   pub lent-masked : answer ≡ Accepted → Masked circuit externals masks
   lent-masked e =
-      let same = lent-is _ _ (stage-passed m e) in record { held = held; externalsSize = same 0; masksSize = same 1 }
+      let same = lent-is _ _ (sym m ∙ e) in record { held = held; externalsSize = same 0; masksSize = same 1 }
 
-  pub lent-next : answer ≡ Accepted → {r : Answer} → Meets (decodeBytes (wiresIn circuit) (outputsIn circuit) externals masks) r
-      → Meets (decodeLent (wiresIn circuit) (outputsIn circuit) externals masks bytes) r
+  pub lent-next : answer ≡ Accepted → {r : Answer} → r ≡ decodeBytes (wiresIn circuit) (outputsIn circuit) externals masks
+      → r ≡ decodeLent (wiresIn circuit) (outputsIn circuit) externals masks bytes
   lent-next e n = stage-next lengths-met e n
 
-  pub lent-refused : {reason : Refusal} {place : ℕ} → answer ≡ Refused reason place → Meets (decodeLent (wiresIn circuit) (outputsIn circuit) externals masks bytes) (Refused reason place)
+  pub lent-refused : {reason : Refusal} {place : ℕ} → answer ≡ Refused reason place → Refused reason place ≡ decodeLent (wiresIn circuit) (outputsIn circuit) externals masks bytes
   lent-refused e = stage-refused lengths-met (decodeBytes (wiresIn circuit) (outputsIn circuit) externals masks) e
 
 -- ---- the results
@@ -121,8 +118,8 @@ module _ {circuit : Circuit} {externals masks : List ℕ} {bytes : ℕ} (d : Dec
 -- ---- the whole call
 
 module _ {reading : Reading} (file externals masks before : List ℕ) (h : Holds reading (readFile file)) {check answer : Answer}
-    (checked : Meets (decodeLent (wiresIn (reading .circuit)) (outputsIn (reading .circuit)) externals masks (length before)) check)
-    (joined : answer ≡ followed (reading .answer) check) where
+    (checked : check ≡ decodeLent (wiresIn (reading .circuit)) (outputsIn (reading .circuit)) externals masks (length before))
+    (joined : answer ≡ andThen (reading .answer) check) where
   abbrev circuit : Circuit
   circuit = reading .circuit
 
@@ -132,12 +129,11 @@ module _ {reading : Reading} (file externals masks before : List ℕ) (h : Holds
   abbrev outputs : List ℕ
   outputs = outputsIn (reading .circuit)
 
-  met : Meets (decodeChecked file externals masks before) answer
+  met : answer ≡ decodeChecked file externals masks before
   unfolding decodeChecked
   met =
       read-met file h check joined
-      (subst (λ (w : List Wire). Meets (decodeLent w (readFile file .outputs) externals masks (length before)) check) (h .wires)
-      (subst (λ (o : List ℕ). Meets (decodeLent wires o externals masks (length before)) check) (h .outputs) checked))
+      (checked ∙ ap₂ (λ (w : List Wire) (o : List ℕ). decodeLent w o externals masks (length before)) (h .wires) (h .outputs))
 
   pub decode-refused : {reason : Refusal} {place : ℕ} → answer ≡ Refused reason place → DecodeCall file externals masks before (numberOf reason) place before
   unfolding decodeAfter
@@ -149,13 +145,13 @@ module _ {reading : Reading} (file externals masks before : List ℕ) (h : Holds
     held : Held circuit
     held = held-of h
 
-    all : decodeLent wires outputs externals masks (length before) ≡ passed
-    all = stage-passed checked (check-accepted file h check joined e)
+    all : decodeLent wires outputs externals masks (length before) ≡ Accepted
+    all = sym checked ∙ check-accepted file h check joined e
 
-    abbrev lengths : Checked
+    abbrev lengths : Answer
     lengths = lengthsChecked (length externals ∷ length masks ∷ length before ∷ []) (length wires ∷ length outputs ∷ length outputs ∷ [])
 
-    lengthsPassed : lengths ≡ passed
+    lengthsPassed : lengths ≡ Accepted
     lengthsPassed = andThen-left lengths (decodeBytes wires outputs externals masks) all
 
     abbrev left : ℕ → Bool

@@ -18,9 +18,7 @@ use Rattle.checks.specs.declared.Answer.{Answer}
 use Rattle.checks.specs.declared.Answer.the-variants.{Accepted, Refused}
 use Rattle.checks.specs.declared.Refusal.{Refusal}
 use Rattle.checks.specs.Answer.{numberOf}
-use Rattle.checks.specs.Combined.{followed}
-use Rattle.checks.specs.Checked.{Checked, Meets, andThen}
-use Rattle.checks.specs.Checked.Checked.{passed}
+use Rattle.checks.specs.Checked.{andThen}
 use Rattle.checks.proofs.Passed.{andThen-left, andThen-right}
 use Rattle.words.specs.declared.gate.Gate.{Gate}
 use Rattle.words.specs.declared.gate.Gate.the-variants.{Input, Add, Scale, Multiply, Project, Select}
@@ -46,7 +44,7 @@ use Rattle.session.proofs.Circuits.{held-of, made-is, inputs-made}
 use Rattle.scheme.specs.Bytes.{contributionsChecked, offsetsChecked}
 use Rattle.calls.specs.InputKeys.{inputKey, inputKeysBytes, inputKeysLent, inputKeysParty, inputKeysAsked, inputKeysMade, inputKeysChecked, inputKeysAfter, InputKeysCall}
 use Rattle.party_calls.specs.Keying.{KeysLent, KeysFit}
-use Rattle.party_calls.proofs.Ending.{lent-is, stage-passed, stage-next, stage-refused, stage-followed, read-met, check-accepted, circuit-accepted, ends-written, ends-refused}
+use Rattle.party_calls.proofs.Ending.{lent-is, stage-next, stage-refused, stage-followed, read-met, check-accepted, circuit-accepted, ends-written, ends-refused}
 
 -- ---- where an input's key stands
 
@@ -153,72 +151,72 @@ module _ {circuit : Circuit} {K : ℕ} {contribution externals : List ℕ} {byte
 -- ---- 15 to 17
 
 pub contents-met : (K : ℕ) (wires : List Wire) (contribution externals : List ℕ) {values bytes offsets second first : Answer}
-    → Meets (valuesChecked externals (modulusAt wires)) values → Meets (contributionsChecked 1 K wires contribution) bytes → Meets (offsetsChecked 1 K wires contribution) offsets
-    → second ≡ followed bytes offsets → first ≡ followed values second → Meets (inputKeysBytes K wires contribution externals) first
+    → values ≡ valuesChecked externals (modulusAt wires) → bytes ≡ contributionsChecked 1 K wires contribution → offsets ≡ offsetsChecked 1 K wires contribution
+    → second ≡ andThen bytes offsets → first ≡ andThen values second → first ≡ inputKeysBytes K wires contribution externals
 contents-met K wires contribution externals v b o e f = stage-followed v (stage-followed b o e) f
 
 -- ---- 14, and then those
 
 module _ {circuit : Circuit} (held : Held circuit) {K : ℕ} (most : K ≤ 128) (contribution externals : List ℕ) (bytes : ℕ) {size : ℕ}
     (c : Counts 429056 (contributionSize K (wiresIn circuit)) size) {answer : Answer}
-    (m : Meets (lengthsChecked (length contribution ∷ length externals ∷ bytes ∷ []) (size ∷ circuit .inputs ∷ circuit .inputs * K ∷ [])) answer) where
-  abbrev rest : Checked
+    (m : answer ≡ lengthsChecked (length contribution ∷ length externals ∷ bytes ∷ []) (size ∷ circuit .inputs ∷ circuit .inputs * K ∷ [])) where
+  abbrev rest : Answer
   rest = inputKeysBytes K (wiresIn circuit) contribution externals
 
   abbrev lent : List ℕ
   lent = length contribution ∷ length externals ∷ bytes ∷ []
 
-  lengths-met : Meets (lengthsChecked lent (contributionSize K (wiresIn circuit) ∷ inputsIn (wiresIn circuit) ∷ inputsIn (wiresIn circuit) * K ∷ [])) answer
+  lengths-met : answer ≡ lengthsChecked lent (contributionSize K (wiresIn circuit) ∷ inputsIn (wiresIn circuit) ∷ inputsIn (wiresIn circuit) * K ∷ [])
   lengths-met =
-      subst (λ (l : List ℕ). Meets (lengthsChecked lent l) answer) (ap₂ (λ (a b : ℕ). a ∷ b ∷ b * K ∷ []) (c .is) (held .inputs)) m
+      m ∙ ap (lengthsChecked lent) (ap₂ (λ (a b : ℕ). a ∷ b ∷ b * K ∷ []) (c .is) (held .inputs))
 
   pub keys-lent : answer ≡ Accepted → KeysLent circuit K contribution externals
   keys-lent e =
-      let same = lent-is _ _ (stage-passed m e) in record { held = held; most = most; contributionLength = same 0 ∙ c .is; externalsLength = same 1 }
+      let same = lent-is _ _ (sym m ∙ e) in record { held = held; most = most; contributionLength = same 0 ∙ c .is; externalsLength = same 1 }
 
-  pub keys-next : answer ≡ Accepted → {r : Answer} → Meets rest r → Meets (inputKeysLent K (wiresIn circuit) contribution externals bytes) r
+  pub keys-next : answer ≡ Accepted → {r : Answer} → r ≡ rest → r ≡ inputKeysLent K (wiresIn circuit) contribution externals bytes
   keys-next e n = stage-next lengths-met e n
 
-  pub keys-stop : {reason : Refusal} {place : ℕ} → answer ≡ Refused reason place → Meets (inputKeysLent K (wiresIn circuit) contribution externals bytes) (Refused reason place)
+  pub keys-stop : {reason : Refusal} {place : ℕ} → answer ≡ Refused reason place → Refused reason place ≡ inputKeysLent K (wiresIn circuit) contribution externals bytes
   keys-stop e = stage-refused lengths-met rest e
 
 -- ---- 12 and 13
 
 pub party-met : (n K party bytes : ℕ) (wires : List Wire) (contribution externals : List ℕ) {lent owned asked second first : Answer}
-    → Meets (inputKeysLent K wires contribution externals bytes) lent → Meets (ownersChecked n wires) owned → second ≡ followed owned lent
-    → Meets (partyChecked n party) asked → first ≡ followed asked second → Meets (inputKeysParty K wires contribution externals n party bytes) first
+    → lent ≡ inputKeysLent K wires contribution externals bytes → owned ≡ ownersChecked n wires → second ≡ andThen owned lent
+    → asked ≡ partyChecked n party → first ≡ andThen asked second → first ≡ inputKeysParty K wires contribution externals n party bytes
 party-met n K party bytes wires contribution externals l o e p f = stage-followed p (stage-followed o l e) f
 
 -- ---- 11
 
-module _ (n K : ℕ) {long : ℕ} {session : Answer} (m : Meets (sessionChecked n K) session) (k : long ≡ K) where
+module _ (n K : ℕ) {long : ℕ} {session : Answer} (m : session ≡ sessionChecked n K) (k : long ≡ K) where
   pub session-most : session ≡ Accepted → long ≤ 128
-  session-most e = omega (arith, session-fits n K (stage-passed m e) .most)
+  session-most e = omega (arith, session-fits n K (sym m ∙ e) .most)
 
   module _ (wires : List Wire) (contribution externals : List ℕ) (party bytes : ℕ) where
-    pub session-next : session ≡ Accepted → {r : Answer} → Meets (inputKeysParty long wires contribution externals n party bytes) r → Meets (inputKeysAsked K wires contribution externals n party bytes) r
-    session-next e {r} a =
-        stage-next m e (subst (λ (j : ℕ). Meets (inputKeysParty j wires contribution externals n party bytes) r) k a)
+    pub session-next : session ≡ Accepted → {r : Answer} → r ≡ inputKeysParty long wires contribution externals n party bytes → r ≡ inputKeysAsked K wires contribution externals n party bytes
+    session-next e a =
+        stage-next m e (a ∙ ap (λ (j : ℕ). inputKeysParty j wires contribution externals n party bytes) k)
 
-    pub session-stop : {reason : Refusal} {place : ℕ} → session ≡ Refused reason place → Meets (inputKeysAsked K wires contribution externals n party bytes) (Refused reason place)
+    pub session-stop : {reason : Refusal} {place : ℕ} → session ≡ Refused reason place → Refused reason place ≡ inputKeysAsked K wires contribution externals n party bytes
     session-stop e = stage-refused m (inputKeysParty K wires contribution externals n party bytes) e
 
 -- ---- the whole call
 
 module _ {reading : Reading} (file : List ℕ) (n K party : ℕ) (contribution externals before : List ℕ) (h : Holds reading (readFile file)) {check answer : Answer}
-    (checked : Meets (inputKeysAsked K (wiresIn (reading .circuit)) contribution externals n party (length before)) check)
-    (joined : answer ≡ followed (reading .answer) check) where
+    (checked : check ≡ inputKeysAsked K (wiresIn (reading .circuit)) contribution externals n party (length before))
+    (joined : answer ≡ andThen (reading .answer) check) where
   abbrev circuit : Circuit
   circuit = reading .circuit
 
   abbrev wires : List Wire
   wires = wiresIn (reading .circuit)
 
-  met : Meets (inputKeysChecked file n K party contribution externals before) answer
+  met : answer ≡ inputKeysChecked file n K party contribution externals before
   unfolding inputKeysChecked
   met =
       read-met file h check joined
-      (subst (λ (w : List Wire). Meets (inputKeysAsked K w contribution externals n party (length before)) check) (h .wires) checked)
+      (checked ∙ ap (λ (w : List Wire). inputKeysAsked K w contribution externals n party (length before)) (h .wires))
 
   pub call-refused : {reason : Refusal} {place : ℕ} → answer ≡ Refused reason place
       → InputKeysCall file n K party contribution externals before (numberOf reason) place before
@@ -226,22 +224,22 @@ module _ {reading : Reading} (file : List ℕ) (n K party : ℕ) (contribution e
   call-refused e = let d = ends-refused (inputKeysMade K (readFile file .wires) contribution externals) before met e in record { answer = d .0; keysIs = d .1 }
 
   module _ (e : answer ≡ Accepted) {long : ℕ} (k : long ≡ K) where
-    abbrev lengths : Checked
+    abbrev lengths : Answer
     lengths = lengthsChecked (length contribution ∷ length externals ∷ length before ∷ []) (contributionSize K wires ∷ inputsIn wires ∷ inputsIn wires * K ∷ [])
 
-    abbrev asked : Checked
+    abbrev asked : Answer
     asked = inputKeysParty K wires contribution externals n party (length before)
 
-    all : inputKeysAsked K wires contribution externals n party (length before) ≡ passed
-    all = stage-passed checked (check-accepted file h check joined e)
+    all : inputKeysAsked K wires contribution externals n party (length before) ≡ Accepted
+    all = sym checked ∙ check-accepted file h check joined e
 
-    given : inputKeysLent K wires contribution externals (length before) ≡ passed
+    given : inputKeysLent K wires contribution externals (length before) ≡ Accepted
     given =
         andThen-right (ownersChecked n wires) (inputKeysLent K wires contribution externals (length before))
         (andThen-right (partyChecked n party) (andThen (ownersChecked n wires) (inputKeysLent K wires contribution externals (length before)))
         (andThen-right (sessionChecked n K) asked all))
 
-    lengthsPassed : lengths ≡ passed
+    lengthsPassed : lengths ≡ Accepted
     lengthsPassed = andThen-left lengths (inputKeysBytes K wires contribution externals) given
 
     accepted : AcceptedCircuit file (wiresIn (reading .circuit)) (outputsIn (reading .circuit))

@@ -1,6 +1,6 @@
 -- The external values of a party's own inputs: the checks after reading, the loop that writes them, and how the call ends.
 -- Assumes nothing.
-use mathlib.Core.Path.{_≡_, sym, ap, subst, _∙_}
+use mathlib.Core.Path.{_≡_, sym, ap, _∙_}
 use mathlib.Core.Bool.{Bool, true, false, _||_}
 use mathlib.Core.List.{List, [], _∷_}
 use Prim.Native.Nat.{ℕ, _+_, _≤_, _<_}
@@ -19,9 +19,7 @@ use Rattle.checks.specs.declared.Answer.the-variants.{Accepted, Refused}
 use Rattle.checks.specs.declared.Refusal.{Refusal}
 use Rattle.checks.specs.declared.Refusal.the-variants.{ValueTooLarge}
 use Rattle.checks.specs.Answer.{numberOf}
-use Rattle.checks.specs.Combined.{followed}
-use Rattle.checks.specs.Checked.{Checked, Meets, andThen}
-use Rattle.checks.specs.Checked.Checked.{passed}
+use Rattle.checks.specs.Checked.{andThen}
 use Rattle.checks.proofs.Passed.{andThen-left, andThen-right, noneBad-none}
 use Rattle.words.specs.declared.gate.Wire.{Wire}
 use Rattle.circuit.specs.declared.Circuit.{Circuit}
@@ -37,8 +35,8 @@ use Rattle.calls.proofs.OwnInputs.{own-length}
 use Rattle.party_calls.specs.Tables.{Front}
 use Rattle.party_calls.specs.Either.{eitherChecked}
 use Rattle.party_calls.specs.Masking.{OwnLent, OwnFit}
-use Rattle.party_calls.proofs.TwoBuffers.{both-as}
-use Rattle.party_calls.proofs.Ending.{lent-is, stage-passed, stage-next, stage-refused, stage-followed, fails-left, fails-right, read-met, check-accepted, ends-written, ends-refused}
+use Rattle.party_calls.proofs.TwoBuffers.{both-is}
+use Rattle.party_calls.proofs.Ending.{lent-is, stage-next, stage-refused, stage-followed, fails-left, fails-right, read-met, check-accepted, ends-written, ends-refused}
 
 -- a party owns no more inputs than there are wires
 mark-small : (b : Bool) → mark b ≤ 1
@@ -63,43 +61,43 @@ module _ {circuit : Circuit} {party : ℕ} {values masks : List ℕ} (lent : Own
   modulus i = modulusAt (wiresIn circuit) (getD (ownInputs party (wiresIn circuit)) i 0)
 
   pub own-met : {table same : List ℕ} {answer : Answer} → Front 1024 (length own) modulus table → Front 1024 (length own) modulus same
-      → Meets (eitherChecked values table masks same) answer → Meets (externalsBytes party ws values masks) answer
+      → answer ≡ eitherChecked values table masks same → answer ≡ externalsBytes party ws values masks
   own-met {table} {same} t s m =
-      both-as values table masks same (length own) modulus (lent .valuesSize) (lent .masksSize) (t .entry) (s .entry) m
+      m ∙ both-is values table masks same (length own) modulus (lent .valuesSize) (lent .masksSize) (t .entry) (s .entry)
 
 -- ---- 14, and then 15
 
 module _ {circuit : Circuit} (space : Room circuit) (party : ℕ) (values masks : List ℕ) (bytes : ℕ) {count size : ℕ}
     (c : Counts 1024 (inputsOf party (wiresIn circuit)) count) (k : size ≡ count) {answer : Answer}
-    (m : Meets (lengthsChecked (length values ∷ length masks ∷ bytes ∷ []) (size ∷ size ∷ size ∷ [])) answer) where
+    (m : answer ≡ lengthsChecked (length values ∷ length masks ∷ bytes ∷ []) (size ∷ size ∷ size ∷ [])) where
   size-is : size ≡ length (ownInputs party (wiresIn circuit))
   size-is = k ∙ c .is ∙ sym (own-length party (wiresIn circuit))
 
   abbrev lent : List ℕ
   lent = length values ∷ length masks ∷ bytes ∷ []
 
-  abbrev rest : Checked
+  abbrev rest : Answer
   rest = externalsBytes party (wiresIn circuit) values masks
 
-  lengths-met : Meets (lengthsChecked lent (length (ownInputs party (wiresIn circuit)) ∷ length (ownInputs party (wiresIn circuit)) ∷ length (ownInputs party (wiresIn circuit)) ∷ [])) answer
-  lengths-met = subst (λ (n : ℕ). Meets (lengthsChecked lent (n ∷ n ∷ n ∷ [])) answer) size-is m
+  lengths-met : answer ≡ lengthsChecked lent (length (ownInputs party (wiresIn circuit)) ∷ length (ownInputs party (wiresIn circuit)) ∷ length (ownInputs party (wiresIn circuit)) ∷ [])
+  lengths-met = m ∙ ap (λ (n : ℕ). lengthsChecked lent (n ∷ n ∷ n ∷ [])) size-is
 
   pub own-lent : answer ≡ Accepted → OwnLent circuit party values masks
   own-lent e =
-      let same = lent-is _ _ (stage-passed m e) in record { room = space; valuesSize = same 0 ∙ size-is; masksSize = same 1 ∙ size-is }
+      let same = lent-is _ _ (sym m ∙ e) in record { room = space; valuesSize = same 0 ∙ size-is; masksSize = same 1 ∙ size-is }
 
-  pub own-next : answer ≡ Accepted → {r : Answer} → Meets rest r → Meets (externalsLent party (wiresIn circuit) values masks bytes) r
+  pub own-next : answer ≡ Accepted → {r : Answer} → r ≡ rest → r ≡ externalsLent party (wiresIn circuit) values masks bytes
   own-next e n = stage-next lengths-met e n
 
-  pub own-refused : {reason : Refusal} {place : ℕ} → answer ≡ Refused reason place → Meets (externalsLent party (wiresIn circuit) values masks bytes) (Refused reason place)
+  pub own-refused : {reason : Refusal} {place : ℕ} → answer ≡ Refused reason place → Refused reason place ≡ externalsLent party (wiresIn circuit) values masks bytes
   own-refused e = stage-refused lengths-met rest e
 
 -- ---- 11 to 15
 
 pub asked-met : (n party bytes : ℕ) (wires : List Wire) (values masks : List ℕ) {given owned asked parties third second first : Answer}
-    → Meets (externalsLent party wires values masks bytes) given → Meets (ownersChecked n wires) owned → third ≡ followed owned given
-    → Meets (partyChecked n party) asked → second ≡ followed asked third → Meets (partiesChecked n) parties → first ≡ followed parties second
-    → Meets (externalsAsked party wires values masks n bytes) first
+    → given ≡ externalsLent party wires values masks bytes → owned ≡ ownersChecked n wires → third ≡ andThen owned given
+    → asked ≡ partyChecked n party → second ≡ andThen asked third → parties ≡ partiesChecked n → first ≡ andThen parties second
+    → first ≡ externalsAsked party wires values masks n bytes
 asked-met n party bytes wires values masks g o e a f p k = stage-followed p (stage-followed a (stage-followed o g e) f) k
 
 -- ---- the external values: what the loop writes by its table is v + m
@@ -140,8 +138,8 @@ module _ {circuit : Circuit} {party : ℕ} {values masks : List ℕ} {bytes : �
 -- ---- the whole call
 
 module _ {reading : Reading} (file : List ℕ) (n party : ℕ) (values masks before : List ℕ) (h : Holds reading (readFile file)) {check answer : Answer}
-    (checked : Meets (externalsAsked party (wiresIn (reading .circuit)) values masks n (length before)) check)
-    (joined : answer ≡ followed (reading .answer) check) where
+    (checked : check ≡ externalsAsked party (wiresIn (reading .circuit)) values masks n (length before))
+    (joined : answer ≡ andThen (reading .answer) check) where
   abbrev wires : List Wire
   wires = wiresIn (reading .circuit)
 
@@ -151,11 +149,11 @@ module _ {reading : Reading} (file : List ℕ) (n party : ℕ) (values masks bef
   abbrev inputModulus : ℕ → ℕ
   inputModulus i = modulusAt (wiresIn (reading .circuit)) (getD (ownInputs party (wiresIn (reading .circuit))) i 0)
 
-  met : Meets (externalsChecked file n party values masks before) answer
+  met : answer ≡ externalsChecked file n party values masks before
   unfolding externalsChecked
   met =
       read-met file h check joined
-      (subst (λ (w : List Wire). Meets (externalsAsked party w values masks n (length before)) check) (h .wires) checked)
+      (checked ∙ ap (λ (w : List Wire). externalsAsked party w values masks n (length before)) (h .wires))
 
   pub externals-refused : {reason : Refusal} {place : ℕ} → answer ≡ Refused reason place
       → ExternalsCall file n party values masks before (numberOf reason) place before
@@ -163,20 +161,20 @@ module _ {reading : Reading} (file : List ℕ) (n party : ℕ) (values masks bef
   externals-refused e = let d = ends-refused (externalsMade party (readFile file .wires) values masks) before met e in record { answer = d .0; externalsIs = d .1 }
 
   module _ (e : answer ≡ Accepted) where
-    abbrev lengths : Checked
+    abbrev lengths : Answer
     lengths = lengthsChecked (length values ∷ length masks ∷ length before ∷ []) (length inputs ∷ length inputs ∷ length inputs ∷ [])
 
-    abbrev bytes : Checked
+    abbrev bytes : Answer
     bytes = externalsBytes party wires values masks
 
-    given : externalsLent party wires values masks (length before) ≡ passed
+    given : externalsLent party wires values masks (length before) ≡ Accepted
     given =
         andThen-right (ownersChecked n wires) (externalsLent party wires values masks (length before))
         (andThen-right (partyChecked n party) (andThen (ownersChecked n wires) (externalsLent party wires values masks (length before)))
         (andThen-right (partiesChecked n) (andThen (partyChecked n party) (andThen (ownersChecked n wires) (externalsLent party wires values masks (length before))))
-        (stage-passed checked (check-accepted file h check joined e))))
+        (sym checked ∙ check-accepted file h check joined e)))
 
-    lengthsPassed : lengths ≡ passed
+    lengthsPassed : lengths ≡ Accepted
     lengthsPassed = andThen-left lengths bytes given
 
     fine : (i : ℕ) → i < length inputs → (tooLarge values inputModulus i || tooLarge masks inputModulus i) ≡ false

@@ -1,6 +1,6 @@
 -- Laws of the check of two buffers at once.
 -- Assumes nothing.
-use mathlib.Core.Path.{_≡_, refl, sym, ap, subst, _∙_}
+use mathlib.Core.Path.{_≡_, refl, sym, ap, _∙_}
 use mathlib.Core.Bool.{Bool, true, false, _&&_, _||_}
 use mathlib.Core.List.{List}
 use Prim.Native.Nat.{ℕ, max, _≤_, _<_}
@@ -15,9 +15,8 @@ use Rattle.lists.proofs.First.{first-at, first-none, first-before, first-here}
 use Rattle.checks.specs.declared.Answer.{Answer}
 use Rattle.checks.specs.declared.Refusal.{Refusal}
 use Rattle.checks.specs.declared.Refusal.the-variants.{ValueTooLarge}
-use Rattle.checks.specs.Combined.{named}
-use Rattle.checks.specs.Checked.{Checked, Meets, noneBad, unless}
-use Rattle.checks.proofs.Answers.{meets-noneBad}
+use Rattle.checks.specs.Checked.{noneBad, named}
+use Rattle.checks.proofs.Answers.{noneBad-found}
 use Rattle.session.specs.Session.{tooLarge}
 use Rattle.party_calls.specs.Either.{badAt, eitherBad, eitherChecked}
 
@@ -36,9 +35,9 @@ or-right true e = refl
 or-right false e = e
 
 pub either-met : (xs ps ys qs : List ℕ) {n found : ℕ} {answer : Answer} → n ≡ max (length xs) (length ys) → found ≡ first n (eitherBad xs ps ys qs) → answer ≡ named n found ValueTooLarge
-    → Meets (eitherChecked xs ps ys qs) answer
+    → answer ≡ eitherChecked xs ps ys qs
 unfolding eitherChecked
-either-met xs ps ys qs {n} k e f = rw (f, e, k) (meets-noneBad (max (length xs) (length ys)) (eitherBad xs ps ys qs) ValueTooLarge)
+either-met xs ps ys qs {n} k e f = noneBad-found n (eitherBad xs ps ys qs) ValueTooLarge e f ∙ ap (λ (m : ℕ). noneBad m (eitherBad xs ps ys qs) ValueTooLarge) k
 
 -- a test that is the same of every number below n finds the same
 module _ (n : ℕ) (f g : ℕ → Bool) (same : (i : ℕ) → i < n → f i ≡ g i) where
@@ -56,7 +55,7 @@ module _ (n : ℕ) (f g : ℕ → Bool) (same : (i : ℕ) → i < n → f i ≡ 
 
   pub noneBad-ext : (reason : Refusal) → noneBad n f reason ≡ noneBad n g reason
   unfolding noneBad
-  noneBad-ext reason = ap (λ (k : ℕ). unless (leb n k) reason k) first-ext
+  noneBad-ext reason = ap (λ (k : ℕ). named n k reason) first-ext
 
 -- one buffer, with its length and its moduli under other names
 bad-as : (xs ps : List ℕ) (m : ℕ) (p : ℕ → ℕ) → length xs ≡ m → ((i : ℕ) → i < m → getD ps i 0 ≡ p i) → (i : ℕ) → badAt xs ps i ≡ (ltb i m && tooLarge xs p i)
@@ -71,14 +70,11 @@ module _ (xs ps ys qs : List ℕ) (m n : ℕ) (p q : ℕ → ℕ) (e : length xs
   abbrev bad : ℕ → Bool
   bad i = (ltb i m && tooLarge xs p i) || (ltb i n && tooLarge ys q i)
 
-  either-is : eitherChecked xs ps ys qs ≡ noneBad (max m n) bad ValueTooLarge
+  pub either-is : eitherChecked xs ps ys qs ≡ noneBad (max m n) bad ValueTooLarge
   unfolding eitherChecked
   either-is =
       rw (e, f)
       (noneBad-ext (max m n) (eitherBad xs ps ys qs) bad (λ i _. rw (bad-as xs ps m p e l i, bad-as ys qs n q f r i)) ValueTooLarge)
-
-  pub either-as : {answer : Answer} → Meets (eitherChecked xs ps ys qs) answer → Meets (noneBad (max m n) bad ValueTooLarge) answer
-  either-as {answer} k = subst (λ (c : Checked). Meets c answer) either-is k
 
 -- buffers of one length
 module _ (xs ps ys qs : List ℕ) (m : ℕ) (p : ℕ → ℕ) (e : length xs ≡ m) (f : length ys ≡ m)
@@ -90,5 +86,5 @@ module _ (xs ps ys qs : List ℕ) (m : ℕ) (p : ℕ → ℕ) (e : length xs ≡
       (noneBad-ext m (λ i. (ltb i m && tooLarge xs p i) || (ltb i m && tooLarge ys p i)) (λ i. tooLarge xs p i || tooLarge ys p i)
       (λ i h. rw (lt-ltb i m h)) ValueTooLarge)
 
-  pub both-as : {answer : Answer} → Meets (eitherChecked xs ps ys qs) answer → Meets (noneBad m (λ i. tooLarge xs p i || tooLarge ys p i) ValueTooLarge) answer
-  both-as {answer} k = subst (λ (c : Checked). Meets c answer) alike (either-as xs ps ys qs m m p p e f l r k)
+  pub both-is : eitherChecked xs ps ys qs ≡ noneBad m (λ i. tooLarge xs p i || tooLarge ys p i) ValueTooLarge
+  both-is = either-is xs ps ys qs m m p p e f l r ∙ alike

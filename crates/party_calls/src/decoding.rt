@@ -2,7 +2,6 @@
 ghost use mathlib.Core.Path.{_≡_};
 ghost use lib.ListN.{length};
 ghost use Rattle.checks.specs.Answer.{numberIn, placeIn};
-ghost use Rattle.checks.specs.Checked.{Meets};
 ghost use Rattle.circuit.specs.File.{readFile};
 ghost use Rattle.circuit.specs.Held.{wiresIn, outputsIn, Held, Holds};
 ghost use Rattle.calls.specs.Decode.{decodeBytes, decodeLent, decodeMade, DecodeCall};
@@ -22,7 +21,7 @@ use session::length_checked;
 // Each external value below its wire's modulus, each mask below that of its output's wire.
 fn masks_checked(circuit: Circuit, externals: &[u8], masks: &[u8]) -> Answer
     requires { ⌜ Masked circuit (now externals) (now masks) ⌝ }
-    ensures { λ r. ⌜ Meets (decodeBytes (wiresIn circuit) (outputsIn circuit) (now (externals .entry)) (now (masks .entry))) r ⌝ }
+    ensures { λ r. ⌜ r ≡ decodeBytes (wiresIn circuit) (outputsIn circuit) (now (externals .entry)) (now (masks .entry)) ⌝ }
 {
     let wires = moduli(circuit);
     let outputs = output_moduli(circuit);
@@ -32,7 +31,7 @@ fn masks_checked(circuit: Circuit, externals: &[u8], masks: &[u8]) -> Answer
 // The lengths of what is lent, and where they are right the bytes.
 fn lent_checked(circuit: Circuit, externals: &[u8], masks: &[u8], bytes: usize) -> Answer
     requires { ⌜ Held circuit ⌝ }
-    ensures { λ r. ⌜ Meets (decodeLent (wiresIn circuit) (outputsIn circuit) (now (externals .entry)) (now (masks .entry)) bytes) r ⌝ }
+    ensures { λ r. ⌜ r ≡ decodeLent (wiresIn circuit) (outputsIn circuit) (now (externals .entry)) (now (masks .entry)) bytes ⌝ }
 {
     let made = circuit.made;
     let given = circuit.given;

@@ -3,7 +3,6 @@ ghost use mathlib.Core.Path.{_≡_};
 ghost use Prim.Native.Nat.{max, _≤_};
 ghost use lib.ListN.{length};
 ghost use Rattle.lists.specs.First.{first};
-ghost use Rattle.checks.specs.Checked.{Meets};
 ghost use Rattle.party_calls.specs.Either.{badAt, eitherBad, eitherChecked, Covered};
 use checks::Answer;
 use checks::Refusal;
@@ -48,7 +47,7 @@ fn larger(a: usize, b: usize) -> usize
 // The bytes `xs` against `ps`, and `ys` against `qs`.
 pub fn either_checked(xs: &[u8], ps: &[u8], ys: &[u8], qs: &[u8]) -> Answer
     requires { ⌜ Covered (now xs) (now ps) (now ys) (now qs) ⌝ }
-    ensures { λ r. ⌜ Meets (eitherChecked (now (xs .entry)) (now (ps .entry)) (now (ys .entry)) (now (qs .entry))) r ⌝ }
+    ensures { λ r. ⌜ r ≡ eitherChecked (now (xs .entry)) (now (ps .entry)) (now (ys .entry)) (now (qs .entry)) ⌝ }
 {
     let n = larger(xs.len(), ys.len());
     let found = first_bad(n, xs, ps, ys, qs);

@@ -5,7 +5,6 @@ ghost use lib.ListN.{length};
 ghost use Rattle.lists.specs.Blocks.{part};
 ghost use Rattle.residue.specs.Vector.{keyV};
 ghost use Rattle.checks.specs.Answer.{numberIn, placeIn};
-ghost use Rattle.checks.specs.Checked.{Meets};
 ghost use Rattle.circuit.specs.File.{readFile};
 ghost use Rattle.circuit.specs.Held.{wiresIn, Held, Holds};
 ghost use Rattle.calls.specs.InputKeys.{inputKeysBytes, inputKeysLent, inputKeysParty, inputKeysAsked, inputKeysMade, InputKeysCall};
@@ -32,7 +31,7 @@ use session::values_checked;
 // The bytes, where their number is right: external values, then the contribution, then its offsets.
 fn contents_checked(circuit: Circuit, k: usize, contribution: &[u8], externals: &[u8]) -> Answer
     requires { ⌜ KeysLent circuit k (now contribution) (now externals) ⌝ }
-    ensures { λ r. ⌜ Meets (inputKeysBytes k (wiresIn circuit) (now (contribution .entry)) (now (externals .entry))) r ⌝ }
+    ensures { λ r. ⌜ r ≡ inputKeysBytes k (wiresIn circuit) (now (contribution .entry)) (now (externals .entry)) ⌝ }
 {
     let values = values_checked(circuit, externals);
     let bytes = contributions_checked(circuit, 1, k, contribution);
@@ -49,7 +48,7 @@ fn key_lengths_checked(
     bytes: usize,
 ) -> Answer
     requires { ⌜ Held circuit × (k ≤ 128) ⌝ }
-    ensures { λ r. ⌜ Meets (inputKeysLent k (wiresIn circuit) (now (contribution .entry)) (now (externals .entry)) bytes) r ⌝ }
+    ensures { λ r. ⌜ r ≡ inputKeysLent k (wiresIn circuit) (now (contribution .entry)) (now (externals .entry)) bytes ⌝ }
 {
     let size = contribution_size(circuit, k);
     let inputs = circuit.inputs;
@@ -75,7 +74,7 @@ fn party_asked(
     bytes: usize,
 ) -> Answer
     requires { ⌜ Held circuit × (k ≤ 128) ⌝ }
-    ensures { λ r. ⌜ Meets (inputKeysParty k (wiresIn circuit) (now (contribution .entry)) (now (externals .entry)) n party bytes) r ⌝ }
+    ensures { λ r. ⌜ r ≡ inputKeysParty k (wiresIn circuit) (now (contribution .entry)) (now (externals .entry)) n party bytes ⌝ }
 {
     let lent = key_lengths_checked(circuit, k, contribution, externals, bytes);
     let owners = followed(owners_checked(circuit, n), lent);
@@ -93,7 +92,7 @@ fn keys_asked(
     bytes: usize,
 ) -> Answer
     requires { ⌜ Held circuit ⌝ }
-    ensures { λ r. ⌜ Meets (inputKeysAsked k (wiresIn circuit) (now (contribution .entry)) (now (externals .entry)) n party bytes) r ⌝ }
+    ensures { λ r. ⌜ r ≡ inputKeysAsked k (wiresIn circuit) (now (contribution .entry)) (now (externals .entry)) n party bytes ⌝ }
 {
     let session = session_checked(n, k);
     let long = counted(k);

@@ -2,7 +2,6 @@
 ghost use mathlib.Core.Path.{_≡_};
 ghost use lib.ListN.{length};
 ghost use Rattle.checks.specs.Answer.{numberIn, placeIn};
-ghost use Rattle.checks.specs.Checked.{Meets};
 ghost use Rattle.circuit.specs.File.{readFile};
 ghost use Rattle.circuit.specs.Held.{wiresIn, Room, Holds};
 ghost use Rattle.calls.specs.Externals.{externalsBytes, externalsLent, externalsAsked, externalsMade, ExternalsCall};
@@ -25,7 +24,7 @@ use session::party_checked;
 // Each value and each mask below the modulus of its own input. Both are held to the same table, lent as two.
 fn own_checked(circuit: Circuit, party: u32, values: &[u8], masks: &[u8]) -> Answer
     requires { ⌜ OwnLent circuit party (now values) (now masks) ⌝ }
-    ensures { λ r. ⌜ Meets (externalsBytes party (wiresIn circuit) (now (values .entry)) (now (masks .entry))) r ⌝ }
+    ensures { λ r. ⌜ r ≡ externalsBytes party (wiresIn circuit) (now (values .entry)) (now (masks .entry)) ⌝ }
 {
     let own = own_moduli(circuit, party);
     let same = own_moduli(circuit, party);
@@ -35,7 +34,7 @@ fn own_checked(circuit: Circuit, party: u32, values: &[u8], masks: &[u8]) -> Ans
 // The lengths of what is lent, and where they are right the bytes.
 fn given_checked(circuit: Circuit, party: u32, values: &[u8], masks: &[u8], bytes: usize) -> Answer
     requires { ⌜ Room circuit ⌝ }
-    ensures { λ r. ⌜ Meets (externalsLent party (wiresIn circuit) (now (values .entry)) (now (masks .entry)) bytes) r ⌝ }
+    ensures { λ r. ⌜ r ≡ externalsLent party (wiresIn circuit) (now (values .entry)) (now (masks .entry)) bytes ⌝ }
 {
     let own = counted(inputs_of(circuit, party));
     let plain = length_checked(values.len(), own);
@@ -58,7 +57,7 @@ fn asked_checked(
     bytes: usize,
 ) -> Answer
     requires { ⌜ Room circuit ⌝ }
-    ensures { λ r. ⌜ Meets (externalsAsked party (wiresIn circuit) (now (values .entry)) (now (masks .entry)) n bytes) r ⌝ }
+    ensures { λ r. ⌜ r ≡ externalsAsked party (wiresIn circuit) (now (values .entry)) (now (masks .entry)) n bytes ⌝ }
 {
     let given = given_checked(circuit, party, values, masks, bytes);
     let owners = followed(owners_checked(circuit, n), given);

@@ -14,12 +14,9 @@ use Rattle.checks.specs.declared.Answer.the-variants.{Accepted, Refused}
 use Rattle.checks.specs.declared.Refusal.{Refusal}
 use Rattle.checks.specs.declared.Refusal.the-variants.{ValueTooLarge}
 use Rattle.checks.specs.Answer.{numberOf}
-use Rattle.checks.specs.Combined.{followed}
-use Rattle.checks.specs.Checked.{Checked, Meets}
-use Rattle.checks.specs.Checked.Checked.{passed}
-use Rattle.checks.specs.Checked.Reports.{reports}
-use Rattle.checks.proofs.Passed.{andThen-left, andThen-right, noneBad-none}
-use Rattle.checks.proofs.Answers.{meets-answered, meets-andThen, meets-refused, meets-next, meets-accepted, afterwards-accepted, afterwards-refused}
+use Rattle.checks.specs.Checked.{andThen}
+use Rattle.checks.proofs.Passed.{andThen-left, andThen-right, noneBad-none, afterwards-passed}
+use Rattle.checks.proofs.Answers.{afterwards-refused, reports, andThen-stop, andThen-next}
 use Rattle.words.specs.declared.gate.Wire.{Wire}
 use Rattle.circuit.specs.declared.Circuit.{Circuit}
 use Rattle.circuit.specs.declared.Reading.{Reading}
@@ -28,7 +25,7 @@ use Rattle.circuit.specs.File.{readFile}
 use Rattle.circuit.specs.Held.{wiresIn, outputsIn, Held, Holds}
 use Rattle.circuit.proofs.Accepted.{accepted}
 use Rattle.session.specs.Session.{fileChecked, lengthsChecked, tooLarge, valuesChecked}
-use Rattle.session.proofs.Sessions.{file-accepted, lengths-same}
+use Rattle.session.proofs.Sessions.{lengths-same}
 use Rattle.session.proofs.LentLengths.{lengths-met}
 use Rattle.session.proofs.Circuits.{held-of, made-is, given-is, inputs-made}
 use Rattle.plain.specs.Plain.{plainTo, plainValues, plainOutputs}
@@ -38,65 +35,64 @@ use Rattle.plain.specs.Ready.{Fed, Feeds, Done, Gives}
 -- ---- the checks after reading
 
 module _ {circuit : Circuit} (held : Held circuit) (values : List ℕ) (bytes : ℕ) {inputs given lent : Answer}
-    (one : Meets (lengthsChecked (length values ∷ []) (circuit .inputs ∷ [])) inputs) (two : Meets (lengthsChecked (bytes ∷ []) (circuit .given ∷ [])) given)
-    (joined : lent ≡ followed inputs given) where
+    (one : inputs ≡ lengthsChecked (length values ∷ []) (circuit .inputs ∷ [])) (two : given ≡ lengthsChecked (bytes ∷ []) (circuit .given ∷ []))
+    (joined : lent ≡ andThen inputs given) where
   abbrev wires : List Wire
   wires = wiresIn circuit
 
   abbrev outputs : List ℕ
   outputs = outputsIn circuit
 
-  abbrev rest : Checked
+  abbrev rest : Answer
   rest = valuesChecked values (modulusAt wires)
 
-  lent-met : Meets (lengthsChecked (length values ∷ bytes ∷ []) (inputsIn wires ∷ length outputs ∷ [])) lent
+  lent-met : lent ≡ lengthsChecked (length values ∷ bytes ∷ []) (inputsIn wires ∷ length outputs ∷ [])
   lent-met =
-      subst (λ (l : List ℕ). Meets (lengthsChecked (length values ∷ bytes ∷ []) l) lent) (ap₂ (λ (a b : ℕ). a ∷ b ∷ []) (held .inputs) (sym (given-is held)))
-      (lengths-met (length values) (circuit .inputs) (bytes ∷ []) (circuit .given ∷ []) one two joined)
+      lengths-met (length values) (circuit .inputs) (bytes ∷ []) (circuit .given ∷ []) one two joined
+      ∙ ap (lengthsChecked (length values ∷ bytes ∷ [])) (ap₂ (λ (a b : ℕ). a ∷ b ∷ []) (held .inputs) (sym (given-is held)))
 
-  pub lent-stops : {reason : Refusal} {place : ℕ} → lent ≡ Refused reason place → Meets (fedChecked wires outputs values bytes) (Refused reason place)
-  lent-stops e = meets-refused rest (subst (Meets _) e lent-met)
+  pub lent-stops : {reason : Refusal} {place : ℕ} → lent ≡ Refused reason place → Refused reason place ≡ fedChecked wires outputs values bytes
+  lent-stops e = andThen-stop rest (sym lent-met ∙ e)
 
   module _ (e : lent ≡ Accepted) where
-    lengths-right : lengthsChecked (length values ∷ bytes ∷ []) (inputsIn wires ∷ length outputs ∷ []) ≡ passed
-    lengths-right = meets-accepted (subst (Meets _) e lent-met)
+    lengths-right : lengthsChecked (length values ∷ bytes ∷ []) (inputsIn wires ∷ length outputs ∷ []) ≡ Accepted
+    lengths-right = sym lent-met ∙ e
 
     pub values-fit : length values ≤ circuit .made
     values-fit = omega (arith, ap (λ (l : List ℕ). getD l 0 0) (lengths-same _ _ lengths-right), held .inputs, inputs-made held)
 
-    pub values-left : {answer : Answer} → Meets rest answer → Meets (fedChecked wires outputs values bytes) answer
-    values-left m = meets-next lengths-right m
+    pub values-left : {answer : Answer} → answer ≡ rest → answer ≡ fedChecked wires outputs values bytes
+    values-left m = m ∙ sym (andThen-next rest lengths-right)
 
 -- ---- the whole call: the reader's answer, and then that of the checks after it
 
 module _ {reading : Reading} (file values before : List ℕ) (h : Holds reading (readFile file)) {check answer : Answer}
-    (checked : Meets (fedChecked (wiresIn (reading .circuit)) (outputsIn (reading .circuit)) values (length before)) check)
-    (joined : answer ≡ followed (reading .answer) check) where
+    (checked : check ≡ fedChecked (wiresIn (reading .circuit)) (outputsIn (reading .circuit)) values (length before))
+    (joined : answer ≡ andThen (reading .answer) check) where
   abbrev ws : List Wire
   ws = wiresIn (reading .circuit)
 
   abbrev os : List ℕ
   os = outputsIn (reading .circuit)
 
-  pub call-met : Meets (plainChecked file values before) answer
-  unfolding plainChecked fileChecked
+  pub call-met : answer ≡ plainChecked file values before
+  unfolding plainChecked
   call-met =
-      rw (joined, h .answer)
-      (meets-andThen (meets-answered (readFile file .answer))
-      (λ _. subst (λ (w : List Wire). Meets (fedChecked w (readFile file .outputs) values (length before)) check) (h .wires)
-      (subst (λ (o : List ℕ). Meets (fedChecked ws o values (length before)) check) (h .outputs) checked)))
+      joined
+      ∙ ap₂ andThen (h .answer)
+      (checked ∙ ap₂ (λ (w : List Wire) (o : List ℕ). fedChecked w o values (length before)) (h .wires) (h .outputs))
 
   module _ (e : answer ≡ Accepted) where
-    all : plainChecked file values before ≡ passed
-    all = meets-accepted (subst (Meets (plainChecked file values before)) e call-met)
+    all : plainChecked file values before ≡ Accepted
+    all = sym call-met ∙ e
 
-    fed-passed : fedChecked (readFile file .wires) (readFile file .outputs) values (length before) ≡ passed
+    fed-passed : fedChecked (readFile file .wires) (readFile file .outputs) values (length before) ≡ Accepted
     unfolding plainChecked
     fed-passed = andThen-right (fileChecked file) (fedChecked (readFile file .wires) (readFile file .outputs) values (length before)) all
 
     read-accepted : readFile file .answer ≡ Accepted
     unfolding plainChecked
-    read-accepted = file-accepted file (andThen-left (fileChecked file) (fedChecked (readFile file .wires) (readFile file .outputs) values (length before)) all)
+    read-accepted = andThen-left (fileChecked file) (fedChecked (readFile file .wires) (readFile file .outputs) values (length before)) all
 
     lengths : (length values ∷ length before ∷ []) ≡ (inputsIn (readFile file .wires) ∷ length (readFile file .outputs) ∷ [])
     lengths = lengths-same _ _ (andThen-left (lengthsChecked (length values ∷ length before ∷ []) (inputsIn (readFile file .wires) ∷ length (readFile file .outputs) ∷ [])) (valuesChecked values (modulusAt (readFile file .wires))) fed-passed)
@@ -131,20 +127,21 @@ module _ {reading : Reading} (file values before : List ℕ) (h : Holds reading 
     pub ends-written : {out : List ℕ} → out ≡ plainOutputs file ws os values → PlainCall file values before 0 0 out
     unfolding plainAfter
     ends-written o =
-        let m : Meets (plainChecked file values before) Accepted = subst (Meets (plainChecked file values before)) e call-met in
         record {
-          answer = reports m;
+          answer = reports (sym e ∙ call-met);
           resultsIs =
               o ∙ ap₂ (λ (w : List Wire) (p : List ℕ). plainOutputs file w p values) (h .wires) (h .outputs)
-              ∙ afterwards-accepted m (plainOutputs file (readFile file .wires) (readFile file .outputs) values) before;
+              ∙ sym (afterwards-passed all (plainOutputs file (readFile file .wires) (readFile file .outputs) values) before);
         }
 
   -- refused: the buffer is as it was
   pub ends-refused : {reason : Refusal} {place : ℕ} → answer ≡ Refused reason place → PlainCall file values before (numberOf reason) place before
   unfolding plainAfter
-  ends-refused {reason} {place} e =
-      let m : Meets (plainChecked file values before) (Refused reason place) = subst (Meets (plainChecked file values before)) e call-met in
-      record { answer = reports m; resultsIs = afterwards-refused m (plainOutputs file (readFile file .wires) (readFile file .outputs) values) before }
+  ends-refused e =
+      record {
+        answer = reports (sym e ∙ call-met);
+        resultsIs = afterwards-refused (sym call-met ∙ e) (plainOutputs file (readFile file .wires) (readFile file .outputs) values) before;
+      }
 
 -- ---- the outputs
 

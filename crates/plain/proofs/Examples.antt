@@ -6,6 +6,8 @@ use Prim.Native.Nat.{ℕ}
 use Rattle.residue.specs.Prime.{isPrime, remaindersBelow}
 use Rattle.residue.specs.Residue.{add, mul}
 use Rattle.checks.specs.declared.Refusal.the-variants.{WrongLength, ValueTooLarge, NoHead}
+use Rattle.checks.specs.declared.Answer.the-variants.{Accepted, Refused}
+use Rattle.checks.specs.Checked.{andThen, unless, noneBad}
 use Rattle.words.specs.Items.{check}
 use Rattle.words.specs.Reading.{said, readWord}
 use Rattle.circuit.specs.Wires.{inputsIn}
@@ -14,10 +16,7 @@ use Rattle.circuit.specs.File.{after as afterWord}
 use Rattle.lists.specs.Blocks.{blocks}
 use Rattle.lists.specs.First.{first, firstFrom}
 use Rattle.lists.specs.Grown.{grown, extended}
-use Rattle.checks.specs.Checked.{answered, andThen, unless, noneBad}
-use Rattle.checks.specs.Checked.Checked.{passed, refused}
-use Rattle.checks.specs.Checked.Place.{at}
-use Rattle.session.specs.Session.{fileChecked, lengthsChecked, sameNumbers, valuesChecked}
+use Rattle.session.specs.Session.{lengthsChecked, sameNumbers, valuesChecked}
 use Rattle.plain.specs.Plain.{plainBy, plainTo, plainValues, plainOutputs}
 use Rattle.plain.specs.Call.{plainChecked}
 
@@ -32,22 +31,22 @@ file =
     ∷ 0 ∷ 0 ∷ 0 ∷ 0xB0
     ∷ []
 
-accepted : plainChecked file (3 ∷ 4 ∷ []) (0 ∷ []) ≡ passed
-unfolding file readFile headed readFrom ended afterWord readWord said check isPrime remaindersBelow plainChecked fileChecked answered lengthsChecked sameNumbers valuesChecked inputsIn noneBad first firstFrom unless andThen
+accepted : plainChecked file (3 ∷ 4 ∷ []) (0 ∷ []) ≡ Accepted
+unfolding file readFile headed readFrom ended afterWord readWord said check isPrime remaindersBelow plainChecked lengthsChecked sameNumbers valuesChecked inputsIn noneBad first firstFrom unless andThen
 accepted = refl
 
 outputs : plainOutputs file (readFile file .wires) (readFile file .outputs) (3 ∷ 4 ∷ []) ≡ 2 ∷ []
 unfolding file readFile headed readFrom ended afterWord readWord said check isPrime remaindersBelow blocks plainOutputs plainValues plainTo plainBy grown extended add mul
 outputs = refl
 
-one-value : plainChecked file (3 ∷ []) (0 ∷ []) ≡ refused WrongLength (at 0)
-unfolding file readFile headed readFrom ended afterWord readWord said check isPrime remaindersBelow plainChecked fileChecked answered lengthsChecked sameNumbers valuesChecked inputsIn noneBad first firstFrom unless andThen
+one-value : plainChecked file (3 ∷ []) (0 ∷ []) ≡ Refused WrongLength 0
+unfolding file readFile headed readFrom ended afterWord readWord said check isPrime remaindersBelow plainChecked lengthsChecked sameNumbers valuesChecked inputsIn noneBad first firstFrom unless andThen
 one-value = refl
 
-too-large : plainChecked file (3 ∷ 5 ∷ []) (0 ∷ []) ≡ refused ValueTooLarge (at 1)
-unfolding file readFile headed readFrom ended afterWord readWord said check isPrime remaindersBelow plainChecked fileChecked answered lengthsChecked sameNumbers valuesChecked inputsIn noneBad first firstFrom unless andThen
+too-large : plainChecked file (3 ∷ 5 ∷ []) (0 ∷ []) ≡ Refused ValueTooLarge 1
+unfolding file readFile headed readFrom ended afterWord readWord said check isPrime remaindersBelow plainChecked lengthsChecked sameNumbers valuesChecked inputsIn noneBad first firstFrom unless andThen
 too-large = refl
 
-no-file : plainChecked [] (3 ∷ 5 ∷ []) (0 ∷ []) ≡ refused NoHead (at 0)
-unfolding readFile headed plainChecked fileChecked answered lengthsChecked sameNumbers valuesChecked inputsIn noneBad first firstFrom unless andThen
+no-file : plainChecked [] (3 ∷ 5 ∷ []) (0 ∷ []) ≡ Refused NoHead 0
+unfolding readFile headed plainChecked lengthsChecked sameNumbers valuesChecked inputsIn noneBad first firstFrom unless andThen
 no-file = refl

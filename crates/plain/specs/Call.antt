@@ -4,7 +4,8 @@ use mathlib.Core.Path.{_≡_}
 use mathlib.Core.List.{List, [], _∷_}
 use Prim.Native.Nat.{ℕ}
 use lib.ListN.{length}
-use Rattle.checks.specs.Checked.{Checked, Reports, andThen, afterwards}
+use Rattle.checks.specs.declared.Answer.{Answer}
+use Rattle.checks.specs.Checked.{Reports, andThen, afterwards}
 use Rattle.words.specs.declared.gate.Wire.{Wire}
 use Rattle.circuit.specs.Wires.{modulusAt, inputsIn}
 use Rattle.circuit.specs.File.{readFile}
@@ -12,7 +13,7 @@ use Rattle.session.specs.Session.{fileChecked, lengthsChecked, valuesChecked}
 use Rattle.plain.specs.Plain.{plainOutputs}
 
 -- the checks after reading, on a buffer of so many bytes: a value for each input and a byte for each output; each value below its modulus
-abbrev pub fedChecked : List Wire → List ℕ → List ℕ → ℕ → Checked
+abbrev pub fedChecked : List Wire → List ℕ → List ℕ → ℕ → Answer
 fedChecked wires outputs values bytes =
     andThen (lengthsChecked (length values ∷ bytes ∷ []) (inputsIn wires ∷ length outputs ∷ [])) (valuesChecked values (modulusAt wires))
 
@@ -23,7 +24,7 @@ module _ (file : List ℕ) (values results : List ℕ) where
   abbrev outputs : List ℕ
   outputs = readFile file .outputs
 
-  unfoldable pub plainChecked : Checked
+  unfoldable pub plainChecked : Answer
   plainChecked = andThen (fileChecked file) (fedChecked wires outputs values (length results))
 
   unfoldable pub plainAfter : List ℕ

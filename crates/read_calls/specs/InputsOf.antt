@@ -3,14 +3,15 @@
 use mathlib.Core.Path.{_≡_}
 use mathlib.Core.List.{List}
 use Prim.Native.Nat.{ℕ}
-use Rattle.checks.specs.Checked.{Checked, Meets, andThen, afterwards}
+use Rattle.checks.specs.declared.Answer.{Answer}
+use Rattle.checks.specs.Checked.{andThen, afterwards}
 use Rattle.circuit.specs.File.{readFile}
 use Rattle.counts.specs.Counts.{inputsOf}
 use Rattle.session.specs.Session.{fileChecked, partiesChecked, partyChecked, ownersChecked}
 use Rattle.read_calls.specs.declared.inputs.Counted.{Counted}
 
 module _ (file : List ℕ) (n party : ℕ) where
-  unfoldable pub inputsOfChecked : Checked
+  unfoldable pub inputsOfChecked : Answer
   inputsOfChecked =
       andThen (fileChecked file)
       (andThen (partiesChecked n)
@@ -23,5 +24,5 @@ module _ (file : List ℕ) (n party : ℕ) where
 
   -- the answer, and the count, which is 0 where the file is refused
   pub record CountsInputs (counted : Counted) : Type 0 where
-    pub answer : Meets inputsOfChecked (counted .answer)
+    pub answer : counted .answer ≡ inputsOfChecked
     pub count : counted .count ≡ inputsOf party (readFile file .wires)

@@ -12,7 +12,8 @@ use lib.Seq.{take-at, getD-take, length-take-le}
 use Rattle.lists.specs.Blocks.{part}
 use Rattle.lists.proofs.Parts.{part-front}
 use Rattle.lists.proofs.Blocks.{tab-ext}
-use Rattle.checks.specs.Checked.{Checked, Reports}
+use Rattle.checks.specs.declared.Answer.{Answer}
+use Rattle.checks.specs.Checked.{Reports}
 use Rattle.words.specs.declared.gate.Wire.{Wire}
 use Rattle.circuit.specs.declared.Circuit.{Circuit}
 use Rattle.circuit.specs.Held.{wiresIn, Held}
@@ -32,7 +33,7 @@ ask-ends file n party count values masks out {own} {hidden} {ys} {number} {place
     let o′ : own ≡ take count values = o ∙ part-front values count in
     let h′ : hidden ≡ take count masks = h ∙ part-front masks count in
     record {
-      answer = subst (λ (c : Checked). Reports c number place) (ap₂ (λ (a b : List ℕ). externalsChecked file n party a b (take count out)) o′ h′) (d .answer);
+      answer = subst (λ (c : Answer). Reports c number place) (ap₂ (λ (a b : List ℕ). externalsChecked file n party a b (take count out)) o′ h′) (d .answer);
       externalsIs =
           take-at ys (drop count out) count (l ∙ length-take-le count out room)
           ∙ d .externalsIs ∙ ap₂ (λ (a b : List ℕ). externalsAfter file n party a b (take count out)) o′ h′;
@@ -78,7 +79,7 @@ party-ends {circuit} held file n party count values masks before mine {own} {hid
     ap (λ (l : List ℕ). take count l) b ∙ take-replicate count 1024 0 most ∙ ap (λ (k : ℕ). replicate k 0) c in (
       record {
         answer =
-            subst (λ (x : Checked). Reports x number place)
+            subst (λ (x : Answer). Reports x number place)
             (ap₂ (λ (x y : List ℕ). externalsChecked file n party x y (take count blank)) a1 a2
             ∙ ap (λ (z : List ℕ). externalsChecked file n party (ownOf (wiresIn circuit) values party) (ownOf (wiresIn circuit) masks party) z) a3)
             (d .answer);

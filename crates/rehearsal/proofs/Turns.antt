@@ -9,7 +9,8 @@ use Rattle.lists.specs.Blocks.{part, nthPiece}
 use Rattle.lists.proofs.Sums.{times-next}
 use Rattle.lists.proofs.Written.{lent}
 use Rattle.lists.proofs.Steps.{Level, level-start, steps-long, steps-call}
-use Rattle.checks.specs.Checked.{Checked, Reports}
+use Rattle.checks.specs.declared.Answer.{Answer}
+use Rattle.checks.specs.Checked.{Reports}
 use Rattle.pads.specs.Pad.{shakePad}
 use Rattle.calls.specs.InputKeys.{inputKeysChecked, inputKeysAfter, InputKeysCall}
 use Rattle.calls.specs.Open.{openChecked, openKeys, openExternals, OpenCall}
@@ -23,16 +24,16 @@ own-part : (xs : List ℕ) {ys : List ℕ} {from : ℕ} (s i : ℕ) → ys ≡ p
 own-part xs {ys} {from} s i e k = e ∙ ap (λ (at : ℕ). part xs at s) k
 
 -- an answer to a party's checks, under another name for them
-abbrev Told : (ℕ → Checked) → ℕ → Type 0
+abbrev Told : (ℕ → Answer) → ℕ → Type 0
 Told checks j = Answered (Reports (checks j))
 
-told-as : (checks : ℕ → Checked) (i : ℕ) {check : Checked} {number place : ℕ} → check ≡ checks i → Reports check number place → Told checks i
-told-as checks i {check} {number} {place} e m = record { number = number; place = place; holds = subst (λ (c : Checked). Reports c number place) e m }
+told-as : (checks : ℕ → Answer) (i : ℕ) {check : Answer} {number place : ℕ} → check ≡ checks i → Reports check number place → Told checks i
+told-as checks i {check} {number} {place} e m = record { number = number; place = place; holds = subst (λ (c : Answer). Reports c number place) e m }
 
 -- ---- input keys
 
 module _ (file : List ℕ) (n K : ℕ) (contributions : List ℕ) (size : ℕ) (externals : List ℕ) (each : ℕ) (mine₀ : List ℕ) where
-  abbrev pub keysChecks : ℕ → Checked
+  abbrev pub keysChecks : ℕ → Answer
   keysChecks party = inputKeysChecked file n K party (nthPiece contributions size party) externals (nthPiece mine₀ each party)
 
   abbrev pub keysWritten : ℕ → List ℕ
@@ -92,7 +93,7 @@ module _ {file : List ℕ} {n K : ℕ} {contributions : List ℕ} {size : ℕ} {
 -- ---- opening
 
 module _ (file : List ℕ) (n K : ℕ) (contributions : List ℕ) (size : ℕ) (externals keys rows : List ℕ) (wide : ℕ) (wkeys₀ : List ℕ) (long : ℕ) (wexts₀ : List ℕ) where
-  abbrev pub openChecks : ℕ → Checked
+  abbrev pub openChecks : ℕ → Answer
   openChecks party = openChecked shakePad file n K party (nthPiece contributions size party) externals keys rows (nthPiece wkeys₀ wide party) (nthPiece wexts₀ long party)
 
   abbrev pub openedKeys : ℕ → List ℕ
@@ -189,7 +190,7 @@ module _ {file : List ℕ} {n K : ℕ} {contributions : List ℕ} {size : ℕ} {
 -- ---- decoding
 
 module _ (file : List ℕ) (n : ℕ) (externals : List ℕ) (long : ℕ) (masks : List ℕ) (each : ℕ) (results₀ : List ℕ) where
-  abbrev pub decodeChecks : ℕ → Checked
+  abbrev pub decodeChecks : ℕ → Answer
   decodeChecks party = decodeChecked file (nthPiece externals long party) masks (nthPiece results₀ each party)
 
   abbrev pub decodedBytes : ℕ → List ℕ

@@ -4,7 +4,7 @@ use mathlib.Core.Path.{_≡_}
 use mathlib.Core.List.{List}
 use Prim.Native.Nat.{ℕ, _*_}
 use lib.ListN.{length, getD}
-use Rattle.checks.specs.Checked.Checked.{passed}
+use Rattle.checks.specs.declared.Answer.the-variants.{Accepted}
 use Rattle.words.specs.declared.gate.Wire.{Wire}
 use Rattle.circuit.specs.Wires.{wireAt}
 use Rattle.circuit.specs.Accepted.{AcceptedCircuit}
@@ -37,7 +37,7 @@ module _ {file : List ℕ} {wires : List Wire} {outputs : List ℕ} (circuit : A
   }
 
   module _ (n K : ℕ) (contributions : List ℕ) (size : length contributions ≡ n * contributionSize K wires)
-      (bytes : contributionsChecked n K wires contributions ≡ passed) (offsets : offsetsChecked n K wires contributions ≡ passed) where
+      (bytes : contributionsChecked n K wires contributions ≡ Accepted) (offsets : offsetsChecked n K wires contributions ≡ Accepted) where
     contributed : Contributed n K wires contributions
     contributed = contributions-below n K wires contributions size bytes
 

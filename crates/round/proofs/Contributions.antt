@@ -10,8 +10,8 @@ use Rattle.lists.specs.Blocks.{blocks, part, nthPiece}
 use Rattle.lists.proofs.Blocks.{length-blocks-same}
 use Rattle.residue.specs.Vector.{NotZero}
 use Rattle.checks.specs.declared.Refusal.the-variants.{ContributionTooLarge, ZeroOffset}
-use Rattle.checks.specs.Checked.Checked.{passed}
 use Rattle.checks.proofs.Passed.{noneBad-passed, noneBad-none}
+use Rattle.checks.specs.declared.Answer.the-variants.{Accepted}
 use Rattle.words.specs.declared.gate.Wire.{Wire}
 use Rattle.counts.specs.Moduli.{used, someBelow}
 use Rattle.scheme.specs.Contribution.{offsetAt, contributionSize, contributionModuli}
@@ -27,7 +27,7 @@ use Rattle.scheme.proofs.ByteChecks.{bytes-passed, bytes-below}
 -- ---- 16
 
 module _ (n K : ℕ) (wires : List Wire) (contributions : List ℕ) where
-  pub contributions-below : length contributions ≡ n * contributionSize K wires → contributionsChecked n K wires contributions ≡ passed → Contributed n K wires contributions
+  pub contributions-below : length contributions ≡ n * contributionSize K wires → contributionsChecked n K wires contributions ≡ Accepted → Contributed n K wires contributions
   unfolding contributionsChecked
   contributions-below e k =
       let moduli : List ℕ = contributionModuli K wires in
@@ -37,7 +37,7 @@ module _ (n K : ℕ) (wires : List Wire) (contributions : List ℕ) where
       } in
       record { size = e; party = each-nth (length-contributionModuli K wires) u }
 
-  pub contributions-passed : Contributed n K wires contributions → contributionsChecked n K wires contributions ≡ passed
+  pub contributions-passed : Contributed n K wires contributions → contributionsChecked n K wires contributions ≡ Accepted
   unfolding contributionsChecked
   contributions-passed r =
       bytes-passed contributions (blocks n (λ _. contributionModuli K wires)) ContributionTooLarge
@@ -64,7 +64,7 @@ module _ (n K : ℕ) (wires : List Wire) (contributions : List ℕ) where
   abbrev offsetOf : ℕ → ℕ → List ℕ
   offsetOf p s = part (nthPiece contributions (contributionSize K wires) s) (offsetAt K wires p) K
 
-  pub offsets-not-zero : offsetsChecked n K wires contributions ≡ passed → (p s : ℕ) → p < 256 → used wires p ≡ true → s < n
+  pub offsets-not-zero : offsetsChecked n K wires contributions ≡ Accepted → (p s : ℕ) → p < 256 → used wires p ≡ true → s < n
       → allZero (part (nthPiece contributions (contributionSize K wires) s) (offsetAt K wires p) K) ≡ false
   unfolding offsetsChecked zeroOffset
   offsets-not-zero e p s h t l =
@@ -75,7 +75,7 @@ module _ (n K : ℕ) (wires : List Wire) (contributions : List ℕ) where
 
   pub offsets-passed : ((p s : ℕ) → p < 256 → used wires p ≡ true → s < n
       → allZero (part (nthPiece contributions (contributionSize K wires) s) (offsetAt K wires p) K) ≡ false)
-      → offsetsChecked n K wires contributions ≡ passed
+      → offsetsChecked n K wires contributions ≡ Accepted
   unfolding offsetsChecked zeroOffset
   offsets-passed fine =
       noneBad-passed 256 (zeroOffset n K wires contributions) ZeroOffset (λ p h. go p h (used wires p) refl)
@@ -87,8 +87,8 @@ module _ (n K : ℕ) (wires : List Wire) (contributions : List ℕ) where
 -- ---- what passes for all parties passes for party s alone, and its offsets are not zero
 
 module _ (n K : ℕ) (wires : List Wire) (contributions : List ℕ) (s : ℕ) (party : s < n) where
-  module _ (long : length contributions ≡ n * contributionSize K wires) (fine : offsetsChecked n K wires contributions ≡ passed) where
-    pub own-offsets-passed : offsetsChecked 1 K wires (nthPiece contributions (contributionSize K wires) s) ≡ passed
+  module _ (long : length contributions ≡ n * contributionSize K wires) (fine : offsetsChecked n K wires contributions ≡ Accepted) where
+    pub own-offsets-passed : offsetsChecked 1 K wires (nthPiece contributions (contributionSize K wires) s) ≡ Accepted
     own-offsets-passed =
         offsets-passed 1 K wires (nthPiece contributions (contributionSize K wires) s)
         (λ p t h u l. (

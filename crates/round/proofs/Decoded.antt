@@ -9,8 +9,8 @@ use Rattle.lists.proofs.Blocks.{tab-ext}
 use Rattle.residue.specs.Residue.{sub}
 use Rattle.residue.proofs.Vectors.{add-below}
 use Rattle.residue.proofs.Laws.{sub-add}
-use Rattle.checks.specs.Checked.Checked.{passed}
 use Rattle.checks.proofs.Passed.{andThen-passed, afterwards-passed}
+use Rattle.checks.specs.declared.Answer.the-variants.{Accepted}
 use Rattle.words.specs.declared.gate.Wire.{Wire}
 use Rattle.circuit.specs.Wires.{modulusAt}
 use Rattle.circuit.specs.File.{readFile}
@@ -19,7 +19,7 @@ use Rattle.scheme.specs.Zero.{mask}
 use Rattle.pads.specs.Pad.{Pad}
 use Rattle.plain.specs.Plain.{plainValues, plainOutputs}
 use Rattle.plain.specs.Ready.{Fed}
-use Rattle.session.proofs.Sessions.{file-passed, lengths-passed}
+use Rattle.session.proofs.Sessions.{lengths-passed}
 use Rattle.scheme.proofs.ByteChecks.{values-passed}
 use Rattle.round.proofs.DecodingPasses.{decode-passed}
 use Rattle.calls.specs.Decode.{decodeAfter}
@@ -46,10 +46,10 @@ module _ {pad : Pad} {file : List ℕ} {n K : ℕ} {contributions values : List 
 
   -- ---- plain evaluation
 
-  pub evaluates : plainly pad file n K contributions values meter lent ≡ passed
+  pub evaluates : plainly pad file n K contributions values meter lent ≡ Accepted
   unfolding plainly plainChecked
   evaluates =
-      andThen-passed (file-passed file (start .conditions .accepted))
+      andThen-passed (start .conditions .accepted)
       (andThen-passed (lengths-passed (rw (start .conditions .valuesLength, start .conditions .lengths .plain)))
       (values-passed values (modulusAt wires) (λ w h. start .conditions .valuesBelow w (omega (arith, start .conditions .valuesLength)))))
 
@@ -71,7 +71,7 @@ module _ {pad : Pad} {file : List ℕ} {n K : ℕ} {contributions values : List 
         rw (output-mask-at start i l)
         (mask-below (start .accepted) (start .drew .well) (getD outputs i 0) (start .accepted .outputsMade i l))
 
-    pub decodes : decoding pad file n K contributions values meter lent party ≡ passed
+    pub decodes : decoding pad file n K contributions values meter lent party ≡ Accepted
     unfolding decoding
     decodes =
         decode-passed

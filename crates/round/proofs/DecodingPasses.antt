@@ -9,14 +9,13 @@ use borrow.Author.Tests.{ltb-true}
 use lib.ListN.{length, getD}
 use Rattle.checks.specs.declared.Refusal.the-variants.{ValueTooLarge}
 use Rattle.checks.specs.declared.Answer.the-variants.{Accepted}
-use Rattle.checks.specs.Checked.Checked.{passed}
 use Rattle.checks.proofs.Passed.{andThen-passed, noneBad-passed}
 use Rattle.words.specs.declared.gate.Wire.{Wire}
 use Rattle.circuit.specs.Wires.{modulusAt}
 use Rattle.circuit.specs.File.{readFile}
 use Rattle.session.specs.Session.{tooLarge}
 use Rattle.calls.specs.Decode.{decodeChecked}
-use Rattle.session.proofs.Sessions.{file-passed, lengths-passed}
+use Rattle.session.proofs.Sessions.{lengths-passed}
 use Rattle.scheme.proofs.ByteChecks.{below-tooLarge, either-fine}
 
 pub record DecodeFits (file externals masks results : List ℕ) : Type 0 where
@@ -35,13 +34,13 @@ tested n i b fine = go (ltb i n) refl
     go true e = fine (ltb-true i n e)
     go false e = refl
 
-pub decode-passed : {file externals masks results : List ℕ} → DecodeFits file externals masks results → decodeChecked file externals masks results ≡ passed
+pub decode-passed : {file externals masks results : List ℕ} → DecodeFits file externals masks results → decodeChecked file externals masks results ≡ Accepted
 unfolding decodeChecked
 decode-passed {file} {externals} {masks} {results} r =
     let wires : List Wire = readFile file .wires in
     let outputs : List ℕ = readFile file .outputs in
     let modulus : ℕ → ℕ = λ i. modulusAt wires (getD outputs i 0) in
-    andThen-passed (file-passed file (r .read))
+    andThen-passed (r .read)
     (andThen-passed (lengths-passed (rw (r .externalsLength, r .masksLength, r .resultsLength)))
     (noneBad-passed (max (length wires) (length outputs))
     (λ i. (ltb i (length wires) && tooLarge externals (modulusAt wires) i) || (ltb i (length outputs) && tooLarge masks modulus i)) ValueTooLarge

@@ -6,7 +6,6 @@ use Prim.Native.Nat.{ℕ, _<_}
 use lib.ListN.{getD}
 use Rattle.lists.specs.Blocks.{blocks, nthPiece}
 use Rattle.lists.proofs.Blocks.{blocks-ext, tab-ext}
-use Rattle.checks.specs.Checked.Checked.{passed}
 use Rattle.checks.proofs.Numbers.{passed-zero}
 use Rattle.checks.proofs.Passed.{afterwards-passed}
 use Rattle.words.specs.declared.gate.Wire.{Wire}

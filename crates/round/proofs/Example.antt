@@ -12,8 +12,8 @@ use Rattle.lists.specs.First.{firstFrom, first}
 use Rattle.shake.specs.Numbers.{bytesOf}
 use Rattle.residue.specs.Prime.{remaindersBelow, isPrime}
 use Rattle.residue.specs.Residue.{add, mul}
+use Rattle.checks.specs.declared.Answer.the-variants.{Accepted}
 use Rattle.checks.specs.Checked.{unless, noneBad}
-use Rattle.checks.specs.Checked.Checked.{passed}
 use Rattle.words.specs.declared.gate.Wire.{Wire}
 use Rattle.words.specs.Items.{check, afterEntry}
 use Rattle.words.specs.Reading.{said, readWord}
@@ -55,11 +55,11 @@ size : length contributions ≡ 2 * contributionSize 1 wires
 unfolding contributions contributionSize wires sumTo someBelow recipe
 size = refl
 
-bytes : contributionsChecked 2 1 wires contributions ≡ passed
+bytes : contributionsChecked 2 1 wires contributions ≡ Accepted
 unfolding contributionsChecked bytesChecked noneBad unless first firstFrom blocks contributions contributionModuli wires someBelow recipe
 bytes = refl
 
-offsets : offsetsChecked 2 1 wires contributions ≡ passed
+offsets : offsetsChecked 2 1 wires contributions ≡ Accepted
 unfolding offsetsChecked zeroOffset noneBad unless first firstFrom part contributions contributionSize offsetAt allZero wires sumTo someBelow recipe
 offsets = refl
 
@@ -104,8 +104,8 @@ conditions =
       owners = as-read (λ ws. (w : ℕ) → w < inputsIn ws → ownerAt ws w < 2) owners;
       keyLength = omega arith;
       contributionsLength = as-read (λ ws. length contributions ≡ 2 * contributionSize 1 ws) size;
-      contributionsBytes = as-read (λ ws. contributionsChecked 2 1 ws contributions ≡ passed) bytes;
-      offsets = as-read (λ ws. offsetsChecked 2 1 ws contributions ≡ passed) offsets;
+      contributionsBytes = as-read (λ ws. contributionsChecked 2 1 ws contributions ≡ Accepted) bytes;
+      offsets = as-read (λ ws. offsetsChecked 2 1 ws contributions ≡ Accepted) offsets;
       valuesLength = as-read (λ ws. length values ≡ inputsIn ws) values-size;
       valuesBelow = as-read (λ ws. (w : ℕ) → w < inputsIn ws → getD values w 0 < modulusAt ws w) below;
       lengths =

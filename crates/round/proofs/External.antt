@@ -8,8 +8,8 @@ use lib.ListN.{length, getD, length-map}
 use Rattle.lists.proofs.Blocks.{length-tab, getD-tab}
 use Rattle.residue.specs.Residue.{add}
 use Rattle.residue.proofs.Vectors.{add-below}
-use Rattle.checks.specs.Checked.Checked.{passed}
 use Rattle.checks.proofs.Passed.{afterwards-passed}
+use Rattle.checks.specs.declared.Answer.the-variants.{Accepted}
 use Rattle.words.specs.declared.gate.Wire.{Wire}
 use Rattle.circuit.specs.Wires.{modulusAt, inputsIn}
 use Rattle.circuit.specs.File.{readFile}
@@ -61,7 +61,7 @@ module _ {pad : Pad} {file : List ℕ} {n K : ℕ} {contributions values : List 
       → getD (own all party) i 0 < modulusAt wires (getD (ownInputs party wires) i 0)
   own-fits all party i below h = rw (own-at all party i h) (below (getD (ownInputs party wires) i 0) (start .gathers .input party i h))
 
-  pub has-externals : (party : ℕ) → party < n → externalValues pad file n K contributions values meter lent party ≡ passed
+  pub has-externals : (party : ℕ) → party < n → externalValues pad file n K contributions values meter lent party ≡ Accepted
   unfolding externalValues
   has-externals party h =
       externals-passed

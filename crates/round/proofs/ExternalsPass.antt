@@ -7,13 +7,12 @@ use Prim.Native.Nat.{ℕ, _<_}
 use lib.ListN.{length, getD}
 use Rattle.checks.specs.declared.Refusal.the-variants.{ValueTooLarge}
 use Rattle.checks.specs.declared.Answer.the-variants.{Accepted}
-use Rattle.checks.specs.Checked.Checked.{passed}
 use Rattle.checks.proofs.Passed.{andThen-passed, noneBad-passed}
 use Rattle.circuit.specs.Wires.{modulusAt}
 use Rattle.circuit.specs.File.{readFile}
 use Rattle.session.specs.Session.{tooLarge}
 use Rattle.calls.specs.Externals.{ownInputs, externalsChecked}
-use Rattle.session.proofs.Sessions.{PartiesFit, OwnersFit, parties-passed, party-passed, owners-passed, file-passed, lengths-passed}
+use Rattle.session.proofs.Sessions.{PartiesFit, OwnersFit, parties-passed, party-passed, owners-passed, lengths-passed}
 use Rattle.scheme.proofs.ByteChecks.{below-tooLarge, either-fine}
 
 pub record ExternalsFit (file : List ℕ) (n party : ℕ) (values masks externals : List ℕ) : Type 0 where
@@ -29,12 +28,12 @@ pub record ExternalsFit (file : List ℕ) (n party : ℕ) (values masks external
   pub mask : (i : ℕ) → i < length (ownInputs party (readFile file .wires))
       → getD masks i 0 < modulusAt (readFile file .wires) (getD (ownInputs party (readFile file .wires)) i 0)
 
-pub externals-passed : {file : List ℕ} {n party : ℕ} {values masks externals : List ℕ} → ExternalsFit file n party values masks externals → externalsChecked file n party values masks externals ≡ passed
+pub externals-passed : {file : List ℕ} {n party : ℕ} {values masks externals : List ℕ} → ExternalsFit file n party values masks externals → externalsChecked file n party values masks externals ≡ Accepted
 unfolding externalsChecked
 externals-passed {file} {n} {party} {values} {masks} {externals} r =
     let own : List ℕ = ownInputs party (readFile file .wires) in
     let modulus : ℕ → ℕ = λ i. modulusAt (readFile file .wires) (getD own i 0) in
-    andThen-passed (file-passed file (r .read))
+    andThen-passed (r .read)
     (andThen-passed (parties-passed (r .parties))
     (andThen-passed (party-passed (r .takesPart))
     (andThen-passed (owners-passed (r .owners))

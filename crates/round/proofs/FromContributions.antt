@@ -6,7 +6,7 @@ use Prim.Native.Nat.{ℕ, _<_}
 use native.Mathlib.Omega.{arith}
 use Rattle.lists.specs.Blocks.{nthPiece}
 use Rattle.residue.proofs.Moduli.{isPrime→Prime}
-use Rattle.checks.specs.Checked.Checked.{passed}
+use Rattle.checks.specs.declared.Answer.the-variants.{Accepted}
 use Rattle.words.specs.declared.gate.Wire.{Wire}
 use Rattle.circuit.specs.Wires.{modulusAt}
 use Rattle.circuit.specs.Accepted.{AcceptedCircuit}
@@ -30,7 +30,7 @@ module _ {n K : ℕ} {file : List ℕ} {wires : List Wire} {outputs contribution
         mask-below n K wires contributions w j (omega (arith, isPrime→Prime (modulusAt wires w) (accepted .fits w h .prime) .two));
   }
 
-  pub ownPart : offsetsChecked n K wires contributions ≡ passed → (s : ℕ) → s < n → OwnPart n K s wires (drawn n K wires contributions) (drawn 1 K wires (nthPiece contributions (contributionSize K wires) s))
+  pub ownPart : offsetsChecked n K wires contributions ≡ Accepted → (s : ℕ) → s < n → OwnPart n K s wires (drawn n K wires contributions) (drawn 1 K wires (nthPiece contributions (contributionSize K wires) s))
   ownPart fine s l = record {
     party = l;
     key = λ w h k. own-key n K wires contributions (r .size) w 0 h k s l;

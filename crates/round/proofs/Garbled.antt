@@ -4,8 +4,8 @@ use mathlib.Core.Path.{_≡_, _∙_, ap}
 use mathlib.Core.List.{List}
 use Prim.Native.Nat.{ℕ, _<_}
 use lib.ListN.{length, getD}
-use Rattle.checks.specs.Checked.Checked.{passed}
 use Rattle.checks.proofs.Passed.{afterwards-passed}
+use Rattle.checks.specs.declared.Answer.the-variants.{Accepted}
 use Rattle.words.specs.declared.gate.Wire.{Wire}
 use Rattle.circuit.specs.Wires.{inputsIn}
 use Rattle.circuit.specs.File.{readFile}
@@ -31,7 +31,7 @@ module _ {pad : Pad} {file : List ℕ} {n K : ℕ} {contributions values : List 
   abbrev draw : Draw
   draw = drawn n K wires contributions
 
-  pub garbles : garbling pad file n K contributions values meter lent ≡ passed
+  pub garbles : garbling pad file n K contributions values meter lent ≡ Accepted
   unfolding garbling
   garbles =
       garble-passed file n K contributions (lent .rows) (lent .inputMasks) (lent .outputMasks) meter

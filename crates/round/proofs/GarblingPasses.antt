@@ -5,7 +5,6 @@ use mathlib.Core.List.{List}
 use Prim.Native.Nat.{ℕ, _*_}
 use lib.ListN.{length}
 use Rattle.checks.specs.declared.Answer.the-variants.{Accepted}
-use Rattle.checks.specs.Checked.Checked.{passed}
 use Rattle.checks.proofs.Passed.{andThen-passed}
 use Rattle.meter.specs.Meter.{HasSpace}
 use Rattle.meter.proofs.Totals.{space-passed}
@@ -16,7 +15,7 @@ use Rattle.counts.specs.Counts.{rowsIn}
 use Rattle.scheme.proofs.Contributed.{Contributed}
 use Rattle.scheme.specs.Bytes.{offsetsChecked}
 use Rattle.calls.specs.Garble.{garbleChecked}
-use Rattle.session.proofs.Sessions.{SessionFits, OwnersFit, session-passed, owners-passed, file-passed, lengths-passed}
+use Rattle.session.proofs.Sessions.{SessionFits, OwnersFit, session-passed, owners-passed, lengths-passed}
 use Rattle.round.proofs.Contributions.{contributions-passed}
 
 -- what garbling is given
@@ -28,15 +27,15 @@ pub record GarbleFits (file : List ℕ) (n K : ℕ) (contributions rows masks ou
   pub rowsLength : length rows ≡ rowsIn (readFile file .wires) * (n * K)
   pub masksLength : length masks ≡ inputsIn (readFile file .wires)
   pub outsLength : length outs ≡ length (readFile file .outputs)
-  pub offsets : offsetsChecked n K (readFile file .wires) contributions ≡ passed
+  pub offsets : offsetsChecked n K (readFile file .wires) contributions ≡ Accepted
   pub space : HasSpace meter (rowsIn (readFile file .wires))
 
 module _ (file : List ℕ) (n K : ℕ) (contributions rows masks outs : List ℕ) (meter : ℕ) where
-  pub garble-passed : GarbleFits file n K contributions rows masks outs meter → garbleChecked file n K contributions rows masks outs meter ≡ passed
+  pub garble-passed : GarbleFits file n K contributions rows masks outs meter → garbleChecked file n K contributions rows masks outs meter ≡ Accepted
   unfolding garbleChecked
   garble-passed r =
       andThen-passed
-      (andThen-passed (file-passed file (r .read))
+      (andThen-passed (r .read)
       (andThen-passed (session-passed (r .session))
       (andThen-passed (owners-passed (r .owners))
       (andThen-passed (lengths-passed (rw (r .contributed .size, r .rowsLength, r .masksLength, r .outsLength)))

@@ -5,7 +5,6 @@ use mathlib.Core.List.{List}
 use Prim.Native.Nat.{ℕ, _*_, _<_}
 use lib.ListN.{length, getD}
 use Rattle.checks.specs.declared.Answer.the-variants.{Accepted}
-use Rattle.checks.specs.Checked.Checked.{passed}
 use Rattle.checks.proofs.Passed.{andThen-passed}
 use Rattle.words.specs.declared.gate.Wire.{Wire}
 use Rattle.circuit.specs.Wires.{modulusAt, inputsIn}
@@ -14,7 +13,7 @@ use Rattle.scheme.specs.Contribution.{contributionSize}
 use Rattle.scheme.proofs.Contributed.{Contributed}
 use Rattle.scheme.specs.Bytes.{offsetsChecked}
 use Rattle.calls.specs.InputKeys.{inputKeysChecked}
-use Rattle.session.proofs.Sessions.{SessionFits, OwnersFit, session-passed, party-passed, owners-passed, file-passed, lengths-passed}
+use Rattle.session.proofs.Sessions.{SessionFits, OwnersFit, session-passed, party-passed, owners-passed, lengths-passed}
 use Rattle.scheme.proofs.ByteChecks.{values-passed}
 use Rattle.round.proofs.Contributions.{contributions-passed}
 
@@ -28,13 +27,13 @@ pub record InputKeysFit (file : List ℕ) (n K party : ℕ) (contribution extern
   pub keysLength : length keys ≡ inputsIn (readFile file .wires) * K
   pub external : (w : ℕ) → w < length externals → getD externals w 0 < modulusAt (readFile file .wires) w
   pub contributed : Contributed 1 K (readFile file .wires) contribution
-  pub offsets : offsetsChecked 1 K (readFile file .wires) contribution ≡ passed
+  pub offsets : offsetsChecked 1 K (readFile file .wires) contribution ≡ Accepted
 
-pub inputKeys-passed : {file : List ℕ} {n K party : ℕ} {contribution externals keys : List ℕ} → InputKeysFit file n K party contribution externals keys → inputKeysChecked file n K party contribution externals keys ≡ passed
+pub inputKeys-passed : {file : List ℕ} {n K party : ℕ} {contribution externals keys : List ℕ} → InputKeysFit file n K party contribution externals keys → inputKeysChecked file n K party contribution externals keys ≡ Accepted
 unfolding inputKeysChecked
 inputKeys-passed {file} {n} {K} {party} {contribution} {externals} {keys} r =
     let wires : List Wire = readFile file .wires in
-    andThen-passed (file-passed file (r .read))
+    andThen-passed (r .read)
     (andThen-passed (session-passed (r .session))
     (andThen-passed (party-passed (r .takesPart))
     (andThen-passed (owners-passed (r .owners))

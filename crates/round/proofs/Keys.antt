@@ -12,8 +12,8 @@ use Rattle.lists.proofs.Parts.{part-of-part}
 use Rattle.lists.proofs.Blocks.{length-blocks-same, blocks-ext, part-blocks-same, blocks-nth}
 use Rattle.residue.specs.Vector.{keyV}
 use Rattle.residue.proofs.Vectors.{keyV-length, keyV-below}
-use Rattle.checks.specs.Checked.Checked.{passed}
 use Rattle.checks.proofs.Passed.{afterwards-passed}
+use Rattle.checks.specs.declared.Answer.the-variants.{Accepted}
 use Rattle.words.specs.declared.gate.Wire.{Wire}
 use Rattle.circuit.specs.Wires.{modulusAt, inputsIn}
 use Rattle.circuit.specs.File.{readFile}
@@ -62,7 +62,7 @@ module _ {pad : Pad} {file : List ℕ} {n K : ℕ} {contributions values : List 
 
   -- ---- a party's keys
 
-  pub has-keys : (party : ℕ) → party < n → inputKeys pad file n K contributions values meter lent party ≡ passed
+  pub has-keys : (party : ℕ) → party < n → inputKeys pad file n K contributions values meter lent party ≡ Accepted
   unfolding inputKeys
   has-keys party h =
       inputKeys-passed
@@ -124,7 +124,7 @@ module _ {pad : Pad} {file : List ℕ} {n K : ℕ} {contributions values : List 
   pub keys-at : (w : ℕ) → w < inputsIn wires → nthPiece (keys pad file n K contributions values meter lent) (n * K) w ≡ key w
   keys-at w h = ap (λ (xs : List ℕ). nthPiece xs (n * K) w) keys-are ∙ part-blocks-same (inputsIn wires) (n * K) key key-size w h
 
-  pub keys-pass : keysChecked n K wires (keys pad file n K contributions values meter lent) ≡ passed
+  pub keys-pass : keysChecked n K wires (keys pad file n K contributions values meter lent) ≡ Accepted
   keys-pass =
       rw keys-are
       (keys-passed n K wires key key-size (λ w h. keyV-below (positive (start .accepted) w (input-made (start .accepted) w h)) _ _ _))

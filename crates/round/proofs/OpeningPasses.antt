@@ -8,7 +8,6 @@ use lib.ListN.{length, getD}
 use Rattle.lists.specs.Blocks.{nthPiece}
 use Rattle.checks.specs.declared.Refusal.the-variants.{WrongInputKey}
 use Rattle.checks.specs.declared.Answer.the-variants.{Accepted}
-use Rattle.checks.specs.Checked.Checked.{passed}
 use Rattle.checks.proofs.Passed.{andThen-passed, noneBad-passed}
 use Rattle.words.specs.declared.gate.Wire.{Wire}
 use Rattle.circuit.specs.Wires.{modulusAt, inputsIn}
@@ -22,7 +21,7 @@ use Rattle.search.proofs.Same.{same-refl}
 use Rattle.scheme.specs.Bytes.{offsetsChecked, keysChecked, rowsChecked}
 use Rattle.calls.specs.InputKeys.{inputKey}
 use Rattle.calls.specs.Open.{inputKeyWrong, beforeOpening}
-use Rattle.session.proofs.Sessions.{SessionFits, OwnersFit, session-passed, party-passed, owners-passed, file-passed, lengths-passed}
+use Rattle.session.proofs.Sessions.{SessionFits, OwnersFit, session-passed, party-passed, owners-passed, lengths-passed}
 use Rattle.scheme.proofs.ByteChecks.{values-passed}
 use Rattle.round.proofs.Contributions.{contributions-passed}
 
@@ -39,20 +38,20 @@ pub record OpeningFits (file : List ℕ) (n K party : ℕ) (contribution externa
   pub wexternalsLength : length wexternals ≡ length (readFile file .wires)
   pub external : (w : ℕ) → w < length externals → getD externals w 0 < modulusAt (readFile file .wires) w
   pub contributed : Contributed 1 K (readFile file .wires) contribution
-  pub offsets : offsetsChecked 1 K (readFile file .wires) contribution ≡ passed
-  pub keysBelow : keysChecked n K (readFile file .wires) keys ≡ passed
-  pub rowsBelow : rowsChecked n K (readFile file .wires) rows ≡ passed
+  pub offsets : offsetsChecked 1 K (readFile file .wires) contribution ≡ Accepted
+  pub keysBelow : keysChecked n K (readFile file .wires) keys ≡ Accepted
+  pub rowsBelow : rowsChecked n K (readFile file .wires) rows ≡ Accepted
   pub ownKey : (w : ℕ) → w < inputsIn (readFile file .wires)
       → nthPiece keys K (w * n + party) ≡ inputKey (readFile file .wires) (drawn 1 K (readFile file .wires) contribution) externals w
 
 pub opening-passed : {file : List ℕ} {n K party : ℕ} {contribution externals keys rows wkeys wexternals : List ℕ}
     → OpeningFits file n K party contribution externals keys rows wkeys wexternals
-    → beforeOpening file n K party contribution externals keys rows wkeys wexternals ≡ passed
+    → beforeOpening file n K party contribution externals keys rows wkeys wexternals ≡ Accepted
 unfolding beforeOpening
 opening-passed {file} {n} {K} {party} {contribution} {externals} {keys} {rows} {wkeys} {wexternals} r =
     let wires : List Wire = readFile file .wires in
     andThen-passed
-    (andThen-passed (file-passed file (r .read))
+    (andThen-passed (r .read)
     (andThen-passed (session-passed (r .session))
     (andThen-passed (party-passed (r .takesPart))
     (andThen-passed (owners-passed (r .owners))

@@ -15,8 +15,8 @@ use Rattle.residue.specs.Residue.{add}
 use Rattle.residue.specs.Vector.{keyV}
 use Rattle.residue.proofs.Vectors.{keyV-length}
 use Rattle.checks.specs.declared.Refusal.the-variants.{NoMultiplier}
-use Rattle.checks.specs.Checked.Checked.{passed}
 use Rattle.checks.proofs.Passed.{andThen-passed, noneBad-passed, afterwards-passed}
+use Rattle.checks.specs.declared.Answer.the-variants.{Accepted}
 use Rattle.words.specs.declared.gate.Wire.{Wire}
 use Rattle.circuit.specs.Wires.{wireAt, modulusAt}
 use Rattle.circuit.specs.File.{readFile}
@@ -92,7 +92,7 @@ module _ {pad : Pad} {file : List ℕ} {n K : ℕ} {contributions values : List 
       ∙ sumTo-times (length wires) (n * K) (rowsOf wires)
       ∙ mul-comm (n * K) (rowsIn wires)
 
-  rows-pass : rowsChecked n K wires garbled ≡ passed
+  rows-pass : rowsChecked n K wires garbled ≡ Accepted
   unfolding gateRows
   rows-pass =
       rw rows-blocks
@@ -127,7 +127,7 @@ module _ {pad : Pad} {file : List ℕ} {n K : ℕ} {contributions values : List 
 
     -- ---- the checks
 
-    before : beforeOpening file n K party (contribution party) inputs inputKeys garbled (lent .wireKeys party) (lent .wireExternals party) ≡ passed
+    before : beforeOpening file n K party (contribution party) inputs inputKeys garbled (lent .wireKeys party) (lent .wireExternals party) ≡ Accepted
     before =
         opening-passed
         (record {
@@ -149,10 +149,10 @@ module _ {pad : Pad} {file : List ℕ} {n K : ℕ} {contributions values : List 
           ownKey = λ w l. key-among start party w h l;
         })
 
-    gates : gatesChecked pad n K party wires (own party) inputs inputKeys garbled ≡ passed
+    gates : gatesChecked pad n K party wires (own party) inputs inputKeys garbled ≡ Accepted
     gates = noneBad-passed (length wires) _ NoMultiplier (λ w made. ap not (rightly w made .fits))
 
-    pub opens : opening pad file n K contributions values meter lent party ≡ passed
+    pub opens : opening pad file n K contributions values meter lent party ≡ Accepted
     unfolding opening openChecked
     opens = andThen-passed before gates
 

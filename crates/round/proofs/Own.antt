@@ -4,7 +4,7 @@ use mathlib.Core.Path.{_≡_}
 use mathlib.Core.List.{List}
 use Prim.Native.Nat.{ℕ, _<_}
 use lib.ListN.{length}
-use Rattle.checks.specs.Checked.Checked.{passed}
+use Rattle.checks.specs.declared.Answer.the-variants.{Accepted}
 use Rattle.words.specs.declared.gate.Wire.{Wire}
 use Rattle.circuit.specs.File.{readFile}
 use Rattle.scheme.specs.Contribution.{contributionSize}
@@ -30,7 +30,7 @@ module _ {pad : Pad} {file : List ℕ} {n K : ℕ} {contributions values : List 
   pub own-alone : Contributed 1 K wires contribution
   own-alone = start .drew .alone party h
 
-  pub own-offsets : offsetsChecked 1 K wires contribution ≡ passed
+  pub own-offsets : offsetsChecked 1 K wires contribution ≡ Accepted
   own-offsets = start .drew .offsets party h
 
   pub own-part : OwnPart n K party wires (drawn n K wires contributions) (drawn 1 K wires contribution)

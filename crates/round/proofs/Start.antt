@@ -6,7 +6,7 @@ use mathlib.Core.List.{List}
 use Prim.Native.Nat.{ℕ, _<_}
 use lib.ListN.{length, getD}
 use Rattle.lists.specs.Blocks.{nthPiece}
-use Rattle.checks.specs.Checked.Checked.{passed}
+use Rattle.checks.specs.declared.Answer.the-variants.{Accepted}
 use Rattle.words.specs.declared.gate.Wire.{Wire}
 use Rattle.circuit.specs.Wires.{inputsIn}
 use Rattle.circuit.specs.File.{readFile}
@@ -30,7 +30,7 @@ pub record Drew (n K : ℕ) (wires : List Wire) (contributions : List ℕ) : Typ
   pub size : (party : ℕ) → party < n → length (nthPiece contributions (contributionSize K wires) party) ≡ contributionSize K wires
   pub all : Contributed n K wires contributions
   pub alone : (party : ℕ) → party < n → Contributed 1 K wires (nthPiece contributions (contributionSize K wires) party)
-  pub offsets : (party : ℕ) → party < n → offsetsChecked 1 K wires (nthPiece contributions (contributionSize K wires) party) ≡ passed
+  pub offsets : (party : ℕ) → party < n → offsetsChecked 1 K wires (nthPiece contributions (contributionSize K wires) party) ≡ Accepted
 
 -- a party's own inputs are inputs, and an input stands at its place among its owner's
 pub record Gathers (wires : List Wire) : Type 0 where

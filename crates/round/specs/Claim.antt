@@ -9,7 +9,6 @@ use Rattle.lists.specs.Blocks.{nthPiece}
 use Rattle.residue.specs.Residue.{add}
 use Rattle.residue.specs.Vector.{keyV}
 use Rattle.checks.specs.declared.Answer.the-variants.{Accepted}
-use Rattle.checks.specs.Checked.Checked.{passed}
 use Rattle.words.specs.declared.gate.Wire.{Wire}
 use Rattle.circuit.specs.Wires.{modulusAt, inputsIn}
 use Rattle.circuit.specs.File.{readFile}
@@ -54,8 +53,8 @@ module _ (file : List ℕ) (n K : ℕ) (contributions values : List ℕ) where
     -- "key length and contributions pass the checks"
     pub keyLength : (1 ≤ K) × (K ≤ 128)
     pub contributionsLength : length contributions ≡ n * contributionSize K wires
-    pub contributionsBytes : contributionsChecked n K wires contributions ≡ passed
-    pub offsets : offsetsChecked n K wires contributions ≡ passed
+    pub contributionsBytes : contributionsChecked n K wires contributions ≡ Accepted
+    pub offsets : offsetsChecked n K wires contributions ≡ Accepted
     -- "each input [is] below its modulus"
     pub valuesLength : length values ≡ inputsIn wires
     pub valuesBelow : (w : ℕ) → w < inputsIn wires → getD values w 0 < modulusAt wires w
@@ -98,12 +97,12 @@ module _ (file : List ℕ) (n K : ℕ) (contributions values : List ℕ) where
 -- what demand 3 promises of the round
 pub record Promise (pad : Pad) (file : List ℕ) (n K : ℕ) (contributions values : List ℕ) (meter : ℕ) (lent : Lent) : Type 0 where
   -- "every call of the round in document 01 accepts, garbling and each seat's opening included"
-  pub garbles : round.garbling pad file n K contributions values meter lent ≡ passed
-  pub hasExternals : (party : ℕ) → party < n → round.externalValues pad file n K contributions values meter lent party ≡ passed
-  pub hasKeys : (party : ℕ) → party < n → round.inputKeys pad file n K contributions values meter lent party ≡ passed
-  pub opens : (party : ℕ) → party < n → round.opening pad file n K contributions values meter lent party ≡ passed
-  pub decodes : (party : ℕ) → party < n → round.decoding pad file n K contributions values meter lent party ≡ passed
-  pub evaluates : round.plainly pad file n K contributions values meter lent ≡ passed
+  pub garbles : round.garbling pad file n K contributions values meter lent ≡ Accepted
+  pub hasExternals : (party : ℕ) → party < n → round.externalValues pad file n K contributions values meter lent party ≡ Accepted
+  pub hasKeys : (party : ℕ) → party < n → round.inputKeys pad file n K contributions values meter lent party ≡ Accepted
+  pub opens : (party : ℕ) → party < n → round.opening pad file n K contributions values meter lent party ≡ Accepted
+  pub decodes : (party : ℕ) → party < n → round.decoding pad file n K contributions values meter lent party ≡ Accepted
+  pub evaluates : round.plainly pad file n K contributions values meter lent ≡ Accepted
   -- and what the rest of it says of what they leave
   pub delivers : Delivered file n K contributions values (round.wireKeys pad file n K contributions values meter lent)
       (round.wireExternals pad file n K contributions values meter lent) (round.figures pad file n K contributions values meter lent)

@@ -5,7 +5,7 @@ use mathlib.Core.List.{List, map}
 use Prim.Native.Nat.{ℕ}
 use lib.ListN.{getD}
 use Rattle.lists.specs.Blocks.{blocks, tab, nthPiece, sumTo}
-use Rattle.checks.specs.Checked.{Checked}
+use Rattle.checks.specs.declared.Answer.{Answer}
 use Rattle.words.specs.declared.gate.Gate.{Gate}
 use Rattle.words.specs.declared.gate.Gate.the-variants.{Input, Add, Scale, Multiply, Project, Select}
 use Rattle.words.specs.declared.gate.Wire.{Wire}
@@ -70,7 +70,7 @@ module _ (pad : Pad) (file : List ℕ) (n K : ℕ) (contributions values : List 
   contribution = contributionOf K wires contributions
 
   -- garbling, from all contributions
-  unfoldable pub garbling : Checked
+  unfoldable pub garbling : Answer
   garbling = garbleChecked file n K contributions (lent .rows) (lent .inputMasks) (lent .outputMasks) meter
 
   unfoldable pub rows : List ℕ
@@ -83,7 +83,7 @@ module _ (pad : Pad) (file : List ℕ) (n K : ℕ) (contributions values : List 
   outputMasks = garbleOutputMasks file n K contributions (lent .rows) (lent .inputMasks) (lent .outputMasks) meter
 
   -- at each party, the external values of its own inputs, with the masks garbling wrote for them
-  unfoldable pub externalValues : ℕ → Checked
+  unfoldable pub externalValues : ℕ → Answer
   externalValues party = externalsChecked file n party (ownOf wires values party) (ownOf wires inputMasks party) (lent .externals party)
 
   unfoldable pub ownExternals : ℕ → List ℕ
@@ -94,7 +94,7 @@ module _ (pad : Pad) (file : List ℕ) (n K : ℕ) (contributions values : List 
   externals = inWireOrder wires ownExternals
 
   -- at each party, its input keys, from all those external values in wire order
-  unfoldable pub inputKeys : ℕ → Checked
+  unfoldable pub inputKeys : ℕ → Answer
   inputKeys party = inputKeysChecked file n K party (contribution party) externals (lent .inputKeys party)
 
   unfoldable pub ownKeys : ℕ → List ℕ
@@ -105,7 +105,7 @@ module _ (pad : Pad) (file : List ℕ) (n K : ℕ) (contributions values : List 
   keys = byInput n K (inputsIn wires) ownKeys
 
   -- at each party, opening, from the same external values, all those keys and garbling's rows
-  unfoldable pub opening : ℕ → Checked
+  unfoldable pub opening : ℕ → Answer
   opening party =
       openChecked pad file n K party (contribution party) externals keys rows (lent .wireKeys party) (lent .wireExternals party)
 
@@ -118,14 +118,14 @@ module _ (pad : Pad) (file : List ℕ) (n K : ℕ) (contributions values : List 
       openExternals pad file n K party (contribution party) externals keys rows (lent .wireKeys party) (lent .wireExternals party)
 
   -- at each party, decoding, from the external bytes its opening wrote and garbling's output masks
-  unfoldable pub decoding : ℕ → Checked
+  unfoldable pub decoding : ℕ → Answer
   decoding party = decodeChecked file (wireExternals party) outputMasks (lent .results party)
 
   unfoldable pub figures : ℕ → List ℕ
   figures party = decodeAfter file (wireExternals party) outputMasks (lent .results party)
 
   -- plain evaluation
-  unfoldable pub plainly : Checked
+  unfoldable pub plainly : Answer
   plainly = plainChecked file values (lent .plain)
 
   unfoldable pub plainFigures : List ℕ

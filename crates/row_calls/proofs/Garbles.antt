@@ -1,6 +1,6 @@
 -- Garbling as a call: the checks after reading, what acceptance hands on, and how the call ends.
 -- Assumes nothing.
-use mathlib.Core.Path.{_≡_, sym, ap, ap₂, subst, _∙_}
+use mathlib.Core.Path.{_≡_, sym, ap, ap₂, _∙_}
 use mathlib.Core.List.{List, [], _∷_}
 use Prim.Native.Nat.{ℕ, _*_, _≤_}
 use native.Mathlib.Omega.{arith}
@@ -9,12 +9,9 @@ use Rattle.checks.specs.declared.Answer.{Answer}
 use Rattle.checks.specs.declared.Answer.the-variants.{Accepted, Refused}
 use Rattle.checks.specs.declared.Refusal.{Refusal}
 use Rattle.checks.specs.Answer.{numberIn, placeIn}
-use Rattle.checks.specs.Combined.{followed}
-use Rattle.checks.specs.Checked.{Checked, Meets, andThen}
-use Rattle.checks.specs.Checked.Checked.{passed}
-use Rattle.checks.specs.Checked.Reports.{reports}
-use Rattle.checks.proofs.Passed.{andThen-left, andThen-right}
-use Rattle.checks.proofs.Answers.{afterwards-accepted, afterwards-refused}
+use Rattle.checks.specs.Checked.{andThen}
+use Rattle.checks.proofs.Passed.{andThen-left, andThen-right, afterwards-passed}
+use Rattle.checks.proofs.Answers.{afterwards-refused, reports}
 use Rattle.words.specs.declared.gate.Wire.{Wire}
 use Rattle.circuit.specs.declared.Circuit.{Circuit}
 use Rattle.circuit.specs.declared.Reading.{Reading}
@@ -34,7 +31,7 @@ use Rattle.meter.proofs.Totals.{passed-space}
 use Rattle.calls.specs.Garble.{garbleBytes, garbleLengths, garbleLent, garbleOwned, garbleAsked, garbleChecked, garbleRows, garbleInputMasks, garbleOutputMasks, garbleMeter, GarbleCall}
 use Rattle.row_calls.specs.Garbled.{Draws}
 use Rattle.zero.specs.Ready.{Contributed, drawnIn}
-use Rattle.party_calls.proofs.Ending.{lent-is, stage-passed, stage-next, stage-refused, stage-followed, first-accepted, second-accepted, read-met, check-accepted, circuit-accepted}
+use Rattle.party_calls.proofs.Ending.{lent-is, stage-next, stage-refused, stage-followed, read-met, check-accepted, circuit-accepted}
 
 -- ---- 14, and then 16 and 17
 
@@ -48,56 +45,57 @@ module _ {circuit : Circuit} (held : Held circuit) (n K : ℕ) (contributions : 
   abbrev lent : List ℕ
   lent = length contributions ∷ rows ∷ masks ∷ outs ∷ []
 
-  abbrev lengths : Checked
+  abbrev lengths : Answer
   lengths = garbleLengths n K (wiresIn circuit) (outputsIn circuit) contributions rows masks outs
 
-  abbrev rest : ℕ → ℕ → Checked
+  abbrev rest : ℕ → ℕ → Answer
   rest a b = garbleBytes a b (wiresIn circuit) contributions
 
   pub lengths-met : {parties long size raw count : ℕ} → parties ≡ n → long ≡ K → Counts 429056 (contributionSize long (wiresIn circuit)) size
       → Counts 524288 (rowsIn (wiresIn circuit)) raw → count ≡ raw → {answer : Answer}
-      → Meets (lengthsChecked lent (parties * size ∷ count * (parties * long) ∷ circuit .inputs ∷ circuit .given ∷ [])) answer → Meets lengths answer
+      → answer ≡ lengthsChecked lent (parties * size ∷ count * (parties * long) ∷ circuit .inputs ∷ circuit .given ∷ []) → answer ≡ lengths
   lengths-met p l s c d {answer} m =
-      subst (λ (w : List ℕ). Meets (lengthsChecked lent w) answer)
+      m
+      ∙ ap (lengthsChecked lent)
       (four-same (ap₂ (λ (a b : ℕ). a * b) p (s .is ∙ ap (λ (k : ℕ). contributionSize k ws) l))
-      (ap₂ (λ (a b : ℕ). a * b) (d ∙ c .is) (ap₂ (λ (a b : ℕ). a * b) p l)) (held .inputs) (sym (given-is held))) m
+      (ap₂ (λ (a b : ℕ). a * b) (d ∙ c .is) (ap₂ (λ (a b : ℕ). a * b) p l)) (held .inputs) (sym (given-is held)))
 
-  module _ {answer : Answer} (m : Meets lengths answer) {parties long : ℕ} (p : parties ≡ n) (l : long ≡ K) where
+  module _ {answer : Answer} (m : answer ≡ lengths) {parties long : ℕ} (p : parties ≡ n) (l : long ≡ K) where
     pub draws-lent : n ≤ 8 → K ≤ 128 → answer ≡ Accepted → Draws circuit parties long contributions
     draws-lent few most e =
         record {
           held = held;
           parties = omega arith;
           most = omega arith;
-          size = lent-is _ _ (stage-passed m e) 0 ∙ ap₂ (λ (a b : ℕ). a * contributionSize b ws) (sym p) (sym l);
+          size = lent-is _ _ (sym m ∙ e) 0 ∙ ap₂ (λ (a b : ℕ). a * contributionSize b ws) (sym p) (sym l);
         }
 
-    pub draws-next : answer ≡ Accepted → {r : Answer} → Meets (rest parties long) r → Meets (andThen lengths (rest n K)) r
-    draws-next e {r} k = stage-next m e (subst (λ (a : ℕ). Meets (rest a K) r) p (subst (λ (b : ℕ). Meets (rest parties b) r) l k))
+    pub draws-next : answer ≡ Accepted → {r : Answer} → r ≡ rest parties long → r ≡ andThen lengths (rest n K)
+    draws-next e k = stage-next m e (k ∙ ap₂ rest p l)
 
-    pub draws-stop : {reason : Refusal} {place : ℕ} → answer ≡ Refused reason place → Meets (andThen lengths (rest n K)) (Refused reason place)
+    pub draws-stop : {reason : Refusal} {place : ℕ} → answer ≡ Refused reason place → Refused reason place ≡ andThen lengths (rest n K)
     draws-stop e = stage-refused m (rest n K) e
 
 -- ---- 11
 
-module _ (n K : ℕ) {session : Answer} (m : Meets (sessionChecked n K) session) where
+module _ (n K : ℕ) {session : Answer} (m : session ≡ sessionChecked n K) where
   pub session-in-range : session ≡ Accepted → (n ≤ 8) × (K ≤ 128)
-  session-in-range e = let f = session-fits n K (stage-passed m e) in (f .parties .most, f .most)
+  session-in-range e = let f = session-fits n K (sym m ∙ e) in (f .parties .most, f .most)
 
   module _ (wires : List Wire) (outputs contributions : List ℕ) (rows masks outs : ℕ) where
-    pub garble-next : session ≡ Accepted → {r : Answer} → Meets (garbleOwned n K wires outputs contributions rows masks outs) r
-        → Meets (garbleAsked n K wires outputs contributions rows masks outs) r
+    pub garble-next : session ≡ Accepted → {r : Answer} → r ≡ garbleOwned n K wires outputs contributions rows masks outs
+        → r ≡ garbleAsked n K wires outputs contributions rows masks outs
     garble-next e k = stage-next m e k
 
-    pub garble-stop : {reason : Refusal} {place : ℕ} → session ≡ Refused reason place → Meets (garbleAsked n K wires outputs contributions rows masks outs) (Refused reason place)
+    pub garble-stop : {reason : Refusal} {place : ℕ} → session ≡ Refused reason place → Refused reason place ≡ garbleAsked n K wires outputs contributions rows masks outs
     garble-stop e = stage-refused m (garbleOwned n K wires outputs contributions rows masks outs) e
 
 -- ---- the whole call
 
 module _ {reading : Reading} (file : List ℕ) (n K : ℕ) (contributions rows masks outs : List ℕ) (meter : ℕ) (h : Holds reading (readFile file)) {check earlier space answer : Answer} {count : ℕ}
-    (checked : Meets (garbleAsked n K (wiresIn (reading .circuit)) (outputsIn (reading .circuit)) contributions (length rows) (length masks) (length outs)) check)
-    (joined : earlier ≡ followed (reading .answer) check) (counted : Counts 524288 (rowsIn (wiresIn (reading .circuit))) count) (spaced : Meets (meterChecked meter count) space)
-    (last : answer ≡ followed earlier space) where
+    (checked : check ≡ garbleAsked n K (wiresIn (reading .circuit)) (outputsIn (reading .circuit)) contributions (length rows) (length masks) (length outs))
+    (joined : earlier ≡ andThen (reading .answer) check) (counted : Counts 524288 (rowsIn (wiresIn (reading .circuit))) count) (spaced : space ≡ meterChecked meter count)
+    (last : answer ≡ andThen earlier space) where
   abbrev circuit : Circuit
   circuit = reading .circuit
 
@@ -107,20 +105,19 @@ module _ {reading : Reading} (file : List ℕ) (n K : ℕ) (contributions rows m
   abbrev outputs : List ℕ
   outputs = outputsIn (reading .circuit)
 
-  abbrev fate : Checked
+  abbrev fate : Answer
   fate = garbleChecked file n K contributions rows masks outs meter
 
   rows-are : count ≡ rowsIn (readFile file .wires)
   rows-are = counted .is ∙ ap rowsIn (h .wires)
 
-  met : Meets fate answer
+  met : answer ≡ fate
   unfolding garbleChecked
   met =
       stage-followed
       (read-met file h check joined
-      (subst (λ (w : List Wire). Meets (garbleAsked n K w (readFile file .outputs) contributions (length rows) (length masks) (length outs)) check) (h .wires)
-      (subst (λ (o : List ℕ). Meets (garbleAsked n K wires o contributions (length rows) (length masks) (length outs)) check) (h .outputs) checked)))
-      (subst (λ (c : ℕ). Meets (meterChecked meter c) space) rows-are spaced) last
+      (checked ∙ ap₂ (λ (w : List Wire) (o : List ℕ). garbleAsked n K w o contributions (length rows) (length masks) (length outs)) (h .wires) (h .outputs)))
+      (spaced ∙ ap (meterChecked meter) rows-are) last
 
   abbrev Ends : Answer → List ℕ → List ℕ → List ℕ → ℕ → Type 0
   Ends a = GarbleCall file n K contributions rows masks outs meter (numberIn a) (placeIn a)
@@ -128,9 +125,9 @@ module _ {reading : Reading} (file : List ℕ) (n K : ℕ) (contributions rows m
   pub garble-refused : {reason : Refusal} {place : ℕ} → answer ≡ Refused reason place → Ends (Refused reason place) rows masks outs meter
   unfolding garbleRows garbleInputMasks garbleOutputMasks garbleMeter
   garble-refused {reason} {place} e =
-      let a : Meets fate (Refused reason place) = subst (Meets fate) e met in
+      let a : fate ≡ Refused reason place = sym met ∙ e in
       record {
-        answer = reports a;
+        answer = reports (sym a);
         rowsIs = afterwards-refused a _ rows;
         inputMasksIs = afterwards-refused a _ masks;
         outputMasksIs = afterwards-refused a _ outs;
@@ -139,21 +136,21 @@ module _ {reading : Reading} (file : List ℕ) (n K : ℕ) (contributions rows m
 
   module _ (e : answer ≡ Accepted) where
     read : earlier ≡ Accepted
-    read = first-accepted earlier space (sym last ∙ e)
+    read = andThen-left earlier space (sym last ∙ e)
 
-    abbrev buffers : Checked
+    abbrev buffers : Answer
     buffers = garbleLent n K wires outputs contributions (length rows) (length masks) (length outs)
 
-    all : andThen (sessionChecked n K) (andThen (ownersChecked n wires) buffers) ≡ passed
-    all = stage-passed checked (check-accepted file h check joined read)
+    all : andThen (sessionChecked n K) (andThen (ownersChecked n wires) buffers) ≡ Accepted
+    all = sym checked ∙ check-accepted file h check joined read
 
     fits : SessionFits n K
     fits = session-fits n K (andThen-left (sessionChecked n K) (andThen (ownersChecked n wires) buffers) all)
 
-    buffersPassed : buffers ≡ passed
+    buffersPassed : buffers ≡ Accepted
     buffersPassed = andThen-right (ownersChecked n wires) buffers (andThen-right (sessionChecked n K) (andThen (ownersChecked n wires) buffers) all)
 
-    lengthsPassed : garbleLengths n K wires outputs contributions (length rows) (length masks) (length outs) ≡ passed
+    lengthsPassed : garbleLengths n K wires outputs contributions (length rows) (length masks) (length outs) ≡ Accepted
     lengthsPassed =
         andThen-left (garbleLengths n K wires outputs contributions (length rows) (length masks) (length outs)) (garbleBytes n K wires contributions) buffersPassed
 
@@ -161,7 +158,7 @@ module _ {reading : Reading} (file : List ℕ) (n K : ℕ) (contributions rows m
     garble-most = fits .most
 
     pub garble-space : HasSpace meter count
-    garble-space = passed-space meter count (stage-passed spaced (second-accepted earlier space (sym last ∙ e)))
+    garble-space = passed-space meter count (sym spaced ∙ andThen-right earlier space (sym last ∙ e))
 
     module _ {parties long : ℕ} (p : parties ≡ n) (l : long ≡ K) where
       pub garble-contributed : {size : ℕ} → Counts 429056 (contributionSize long (wiresIn (reading .circuit))) size → Contributed file (reading .circuit) parties long size contributions
@@ -195,19 +192,19 @@ module _ {reading : Reading} (file : List ℕ) (n K : ℕ) (contributions rows m
           → meter′ ≡ charged meter count → Ends Accepted rows′ masks′ outs′ meter′
       unfolding garbleRows garbleInputMasks garbleOutputMasks garbleMeter
       garble-written {rows′} {masks′} {outs′} {meter′} w r =
-          let a : Meets fate Accepted = subst (Meets fate) e met in
+          let a : fate ≡ Accepted = sym met ∙ e in
           record {
-            answer = reports a;
+            answer = reports (sym a);
             rowsIs =
                 w .0
                 ∙ ap₂ (λ (a b : ℕ). garbledRows shakePad a b file wires (drawnIn circuit parties long contributions)) p l
                 ∙ ap₂ (λ (v : List Wire) (d : Draw). garbledRows shakePad n K file v d) (h .wires) drawn-is
-                ∙ afterwards-accepted a _ rows;
-            inputMasksIs = w .1 .0 ∙ ap₂ (λ (v : List Wire) (d : Draw). inputMasks v d) (h .wires) drawn-is ∙ afterwards-accepted a _ masks;
+                ∙ sym (afterwards-passed a _ rows);
+            inputMasksIs = w .1 .0 ∙ ap₂ (λ (v : List Wire) (d : Draw). inputMasks v d) (h .wires) drawn-is ∙ sym (afterwards-passed a _ masks);
             outputMasksIs =
                 w .1 .1
                 ∙ ap (λ (o : List ℕ). outputMasks wires o (drawnIn circuit parties long contributions)) (h .outputs)
                 ∙ ap₂ (λ (v : List Wire) (d : Draw). outputMasks v (readFile file .outputs) d) (h .wires) drawn-is
-                ∙ afterwards-accepted a _ outs;
-            meterIs = r ∙ ap (charged meter) rows-are ∙ afterwards-accepted a _ meter;
+                ∙ sym (afterwards-passed a _ outs);
+            meterIs = r ∙ ap (charged meter) rows-are ∙ sym (afterwards-passed a _ meter);
           }

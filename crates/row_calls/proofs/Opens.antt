@@ -1,6 +1,6 @@
 -- Opening as a call: the checks after reading, what acceptance hands on, the party's own keys, and how the call ends.
 -- Assumes nothing.
-use mathlib.Core.Path.{_≡_, refl, sym, ap, ap₂, subst, _∙_}
+use mathlib.Core.Path.{_≡_, sym, ap, ap₂, subst, _∙_}
 use mathlib.Core.Bool.{Bool, not}
 use mathlib.Core.List.{List, [], _∷_}
 use Prim.Native.Nat.{ℕ, _+_, _*_, _≤_, _<_}
@@ -20,12 +20,9 @@ use Rattle.checks.specs.declared.Answer.the-variants.{Accepted, Refused}
 use Rattle.checks.specs.declared.Refusal.{Refusal}
 use Rattle.checks.specs.declared.Refusal.the-variants.{WrongInputKey, NoMultiplier}
 use Rattle.checks.specs.Answer.{numberIn, placeIn}
-use Rattle.checks.specs.Combined.{followed, named}
-use Rattle.checks.specs.Checked.{Checked, Meets, andThen, afterwards}
-use Rattle.checks.specs.Checked.Checked.{passed, refused}
-use Rattle.checks.specs.Checked.Reports.{reports}
+use Rattle.checks.specs.Checked.{andThen, afterwards, named}
 use Rattle.checks.proofs.Passed.{andThen-left, andThen-right, afterwards-passed}
-use Rattle.checks.proofs.Answers.{meets-noneBad, named-past, named-found, meets-next, meets-refused, afterwards-accepted, afterwards-refused}
+use Rattle.checks.proofs.Answers.{named-past, named-found, afterwards-refused, reports, noneBad-found, andThen-stop, andThen-next}
 use Rattle.words.specs.declared.gate.Wire.{Wire}
 use Rattle.circuit.specs.declared.Circuit.{Circuit}
 use Rattle.circuit.specs.declared.Reading.{Reading}
@@ -51,14 +48,14 @@ use Rattle.opening.specs.Given.{Given, OpensAll}
 use Rattle.row_calls.specs.Opened.{OpenSizes, Compared, firstWrong, GatesOpened, InputsOpened}
 use Rattle.party_calls.proofs.TwoBuffers.{first-ext}
 use Rattle.party_calls.proofs.KeyPlaces.{one-key}
-use Rattle.party_calls.proofs.Ending.{lent-is, stage-passed, stage-next, stage-refused, stage-followed, read-met, check-accepted, circuit-accepted}
+use Rattle.party_calls.proofs.Ending.{lent-is, stage-next, stage-refused, stage-followed, read-met, check-accepted, circuit-accepted}
 
 -- ---- 15 to 18
 
 pub bytes-met : (n K : ℕ) (wires : List Wire) (contribution externals keys rows : List ℕ) {values bytes offsets lent lines last third second first : Answer}
-    → Meets (valuesChecked externals (modulusAt wires)) values → Meets (contributionsChecked 1 K wires contribution) bytes → Meets (offsetsChecked 1 K wires contribution) offsets
-    → Meets (keysChecked n K wires keys) lent → Meets (rowsChecked n K wires rows) lines → last ≡ followed lent lines → third ≡ followed offsets last → second ≡ followed bytes third
-    → first ≡ followed values second → Meets (openBytes n K wires contribution externals keys rows) first
+    → values ≡ valuesChecked externals (modulusAt wires) → bytes ≡ contributionsChecked 1 K wires contribution → offsets ≡ offsetsChecked 1 K wires contribution
+    → lent ≡ keysChecked n K wires keys → lines ≡ rowsChecked n K wires rows → last ≡ andThen lent lines → third ≡ andThen offsets last → second ≡ andThen bytes third
+    → first ≡ andThen values second → first ≡ openBytes n K wires contribution externals keys rows
 bytes-met n K wires contribution externals keys rows v b o k r e f g h =
     stage-followed v (stage-followed b (stage-followed o (stage-followed k r e) f) g) h
 
@@ -71,28 +68,29 @@ six-same e f g h i j = rw (e, f, g, h, i, j)
 module _ {circuit : Circuit} (held : Held circuit) (n K : ℕ) (few : n ≤ 8) (most : K ≤ 128) (contribution externals keys rows : List ℕ) (wkeys wexternals : ℕ)
     {parties long size raw count : ℕ} (p : parties ≡ n) (l : long ≡ K) (s : Counts 429056 (contributionSize long (wiresIn circuit)) size)
     (c : Counts 524288 (rowsIn (wiresIn circuit)) raw) (d : count ≡ raw) {answer : Answer}
-    (m : Meets (lengthsChecked (length contribution ∷ length externals ∷ length keys ∷ length rows ∷ wkeys ∷ wexternals ∷ []) (size ∷ circuit .inputs ∷ circuit .inputs * (parties * long) ∷ count * (parties * long) ∷ circuit .made * (parties * long) ∷ circuit .made ∷ [])) answer) where
+    (m : answer ≡ lengthsChecked (length contribution ∷ length externals ∷ length keys ∷ length rows ∷ wkeys ∷ wexternals ∷ []) (size ∷ circuit .inputs ∷ circuit .inputs * (parties * long) ∷ count * (parties * long) ∷ circuit .made * (parties * long) ∷ circuit .made ∷ [])) where
   abbrev ws : List Wire
   ws = wiresIn circuit
 
   abbrev lent : List ℕ
   lent = length contribution ∷ length externals ∷ length keys ∷ length rows ∷ wkeys ∷ wexternals ∷ []
 
-  abbrev rest : ℕ → ℕ → Checked
+  abbrev rest : ℕ → ℕ → Answer
   rest a b = openBytes a b (wiresIn circuit) contribution externals keys rows
 
   wide : parties * long ≡ n * K
   wide = ap₂ (λ (a b : ℕ). a * b) p l
 
-  lengths-met : Meets (openLengths n K ws contribution externals keys rows wkeys wexternals) answer
+  lengths-met : answer ≡ openLengths n K ws contribution externals keys rows wkeys wexternals
   lengths-met =
-      subst (λ (w : List ℕ). Meets (lengthsChecked lent w) answer)
+      m
+      ∙ ap (lengthsChecked lent)
       (six-same (s .is ∙ ap (λ (k : ℕ). contributionSize k ws) l) (held .inputs) (ap₂ (λ (a b : ℕ). a * b) (held .inputs) wide)
-      (ap₂ (λ (a b : ℕ). a * b) (d ∙ c .is) wide) (ap₂ (λ (a b : ℕ). a * b) (sym (made-is held)) wide) (sym (made-is held))) m
+      (ap₂ (λ (a b : ℕ). a * b) (d ∙ c .is) wide) (ap₂ (λ (a b : ℕ). a * b) (sym (made-is held)) wide) (sym (made-is held)))
 
   pub open-sizes : answer ≡ Accepted → OpenSizes circuit parties long contribution externals keys rows
   open-sizes e =
-      let same = lent-is _ _ (stage-passed m e) in
+      let same = lent-is _ _ (sym m ∙ e) in
       record {
         held = held;
         parties = omega arith;
@@ -103,29 +101,27 @@ module _ {circuit : Circuit} (held : Held circuit) (n K : ℕ) (few : n ≤ 8) (
         rowsLength = same 3 ∙ ap (λ (a : ℕ). a * (parties * long)) (d ∙ c .is);
       }
 
-  pub lent-next : answer ≡ Accepted → {r : Answer} → Meets (rest parties long) r → Meets (openLent n K (wiresIn circuit) contribution externals keys rows wkeys wexternals) r
-  lent-next e {r} k =
-      stage-next lengths-met e
-      (subst (λ (a : ℕ). Meets (rest a K) r) p (subst (λ (b : ℕ). Meets (rest parties b) r) l k))
+  pub lent-next : answer ≡ Accepted → {r : Answer} → r ≡ rest parties long → r ≡ openLent n K (wiresIn circuit) contribution externals keys rows wkeys wexternals
+  lent-next e k = stage-next lengths-met e (k ∙ ap₂ rest p l)
 
-  pub lent-stop : {reason : Refusal} {place : ℕ} → answer ≡ Refused reason place → Meets (openLent n K (wiresIn circuit) contribution externals keys rows wkeys wexternals) (Refused reason place)
+  pub lent-stop : {reason : Refusal} {place : ℕ} → answer ≡ Refused reason place → Refused reason place ≡ openLent n K (wiresIn circuit) contribution externals keys rows wkeys wexternals
   lent-stop e = stage-refused lengths-met (rest n K) e
 
 -- ---- 12 and 13
 
 module _ (n K : ℕ) (wires : List Wire) (contribution externals keys rows : List ℕ) (party wkeys wexternals : ℕ) where
-  pub party-followed : {lent owned asked second first : Answer} → Meets (openLent n K wires contribution externals keys rows wkeys wexternals) lent → Meets (ownersChecked n wires) owned
-      → second ≡ followed owned lent → Meets (partyChecked n party) asked → first ≡ followed asked second → Meets (openParty n K wires contribution externals keys rows party wkeys wexternals) first
+  pub party-followed : {lent owned asked second first : Answer} → lent ≡ openLent n K wires contribution externals keys rows wkeys wexternals → owned ≡ ownersChecked n wires
+      → second ≡ andThen owned lent → asked ≡ partyChecked n party → first ≡ andThen asked second → first ≡ openParty n K wires contribution externals keys rows party wkeys wexternals
   party-followed l o e p f = stage-followed p (stage-followed o l e) f
 
   -- ---- 11
 
-  module _ {session : Answer} (m : Meets (sessionChecked n K) session) where
-    pub open-next : session ≡ Accepted → {r : Answer} → Meets (openParty n K wires contribution externals keys rows party wkeys wexternals) r
-        → Meets (openAsked n K wires contribution externals keys rows party wkeys wexternals) r
+  module _ {session : Answer} (m : session ≡ sessionChecked n K) where
+    pub open-next : session ≡ Accepted → {r : Answer} → r ≡ openParty n K wires contribution externals keys rows party wkeys wexternals
+        → r ≡ openAsked n K wires contribution externals keys rows party wkeys wexternals
     open-next e k = stage-next m e k
 
-    pub open-stop : {reason : Refusal} {place : ℕ} → session ≡ Refused reason place → Meets (openAsked n K wires contribution externals keys rows party wkeys wexternals) (Refused reason place)
+    pub open-stop : {reason : Refusal} {place : ℕ} → session ≡ Refused reason place → Refused reason place ≡ openAsked n K wires contribution externals keys rows party wkeys wexternals
     open-stop e = stage-refused m (openParty n K wires contribution externals keys rows party wkeys wexternals) e
 
 -- ---- 19
@@ -217,7 +213,7 @@ module _ {circuit : Circuit} {n K party : ℕ} {contribution externals keys rows
 
   -- ---- 20
 
-  abbrev fate : Checked
+  abbrev fate : Answer
   fate = gatesChecked shakePad n K party (wiresIn circuit) (drawn 1 K (wiresIn circuit) contribution) externals keys rows
 
   pub gates-met : {wkeys₀ wexternals₀ wkeys wexternals : List ℕ} {r : ℕ} {answer : Answer} → OpensAll circuit n K party contribution externals keys rows wkeys₀ wexternals₀ r wkeys wexternals
@@ -231,29 +227,29 @@ module _ {circuit : Circuit} {n K party : ℕ} {contribution externals keys rows
       joined : answer ≡ named (length wires) r NoMultiplier
       joined = e ∙ ap (λ (a : ℕ). named a r NoMultiplier) (sym made)
 
-      met : Meets fate (named (length wires) r NoMultiplier)
-      met = subst (λ (a : ℕ). Meets fate (named (length wires) a NoMultiplier)) (sym (v .found)) (meets-noneBad (length wires) _ NoMultiplier)
+      met : answer ≡ fate
+      met = noneBad-found (length wires) _ NoMultiplier (v .found) joined
 
       by : Dec (length wires ≤ r) → GatesOpened n K party (wiresIn circuit) contribution externals keys rows wkeys₀ wexternals₀ answer wkeys wexternals
       by (yes h) =
-          let a : Meets fate Accepted = subst (Meets fate) (sym (named-past (length wires) r NoMultiplier h)) met in
+          let a : fate ≡ Accepted = sym met ∙ joined ∙ named-past (length wires) r NoMultiplier h in
           record {
-            met = subst (Meets fate) (sym joined) met;
-            keysAre = v .allKeys h ∙ afterwards-accepted a _ (replicate (length wkeys₀) 0);
-            externalsAre = v .allExternals h ∙ afterwards-accepted a _ (replicate (length wexternals₀) 0);
+            answerIs = met;
+            keysAre = v .allKeys h ∙ sym (afterwards-passed a _ (replicate (length wkeys₀) 0));
+            externalsAre = v .allExternals h ∙ sym (afterwards-passed a _ (replicate (length wexternals₀) 0));
           }
       by (no h) =
           let l : r < length wires = omega arith in
-          let a : Meets fate (Refused NoMultiplier r) = subst (Meets fate) (sym (named-found (length wires) r NoMultiplier l)) met in
+          let a : fate ≡ Refused NoMultiplier r = sym met ∙ joined ∙ named-found (length wires) r NoMultiplier l in
           record {
-            met = subst (Meets fate) (sym joined) met;
+            answerIs = met;
             keysAre = v .noKeys l ∙ afterwards-refused a _ (replicate (length wkeys₀) 0);
             externalsAre = v .noExternals l ∙ afterwards-refused a _ (replicate (length wexternals₀) 0);
           }
 
   -- ---- 19, and then 20
 
-  abbrev own : Checked
+  abbrev own : Answer
   own = ownKeysChecked n K party (wiresIn circuit) contribution externals keys
 
   module _ (wkeys₀ wexternals₀ : List ℕ) {r : ℕ} {answer : Answer} (f : r ≡ firstWrong n K party (wiresIn circuit) contribution externals keys)
@@ -261,40 +257,34 @@ module _ {circuit : Circuit} {n K party : ℕ} {contribution externals keys rows
     abbrev Opened : Answer → List ℕ → List ℕ → Type 0
     Opened = InputsOpened n K party (wiresIn circuit) contribution externals keys rows wkeys₀ wexternals₀
 
-    own-met : Meets own answer
+    own-met : answer ≡ own
     own-met =
-        subst (Meets own) (sym (e ∙ ap₂ (λ (a b : ℕ). named a b WrongInputKey) count f))
-        (meets-noneBad (inputsIn wires) (inputKeyWrong n K party wires contribution externals keys) WrongInputKey)
+        noneBad-found (inputsIn wires) (inputKeyWrong n K party wires contribution externals keys) WrongInputKey f
+        (e ∙ ap (λ (a : ℕ). named a r WrongInputKey) count)
 
     pub own-next : {wkeys wexternals : List ℕ} {z : Answer} → answer ≡ Accepted
         → GatesOpened n K party (wiresIn circuit) contribution externals keys rows wkeys₀ wexternals₀ z wkeys wexternals → Opened z wkeys wexternals
     own-next a t =
-        let p : own ≡ passed = stage-passed own-met a in
+        let p : own ≡ Accepted = sym own-met ∙ a in
         record {
-          met = stage-next own-met a (t .met);
+          answerIs = stage-next own-met a (t .answerIs);
           keysAre = t .keysAre ∙ sym (afterwards-passed p _ wkeys₀);
           externalsAre = t .externalsAre ∙ sym (afterwards-passed p _ wexternals₀);
         }
 
     pub own-stop : {reason : Refusal} {place : ℕ} → answer ≡ Refused reason place → Opened (Refused reason place) wkeys₀ wexternals₀
     own-stop {reason} {place} a =
-        let m : Meets own (Refused reason place) = subst (Meets own) a own-met in
-        record { met = meets-refused fate m; keysAre = afterwards-refused m _ wkeys₀; externalsAre = afterwards-refused m _ wexternals₀ }
+        let m : own ≡ Refused reason place = sym own-met ∙ a in
+        record { answerIs = stage-refused own-met fate a; keysAre = afterwards-refused m _ wkeys₀; externalsAre = afterwards-refused m _ wexternals₀ }
 
 -- ---- the whole call
 
-andThen-assoc : (a b c : Checked) → andThen (andThen a b) c ≡ andThen a (andThen b c)
-unfolding andThen
-andThen-assoc passed b c = refl
-andThen-assoc (refused reason place) b c = refl
-
-after-both : (a b : Checked) (new old : List ℕ) → a ≡ passed → afterwards (andThen a b) new old ≡ afterwards b new old
-unfolding andThen
-after-both a b new old e = rw (e, andThen)
+after-both : (a b : Answer) (new old : List ℕ) → a ≡ Accepted → afterwards (andThen a b) new old ≡ afterwards b new old
+after-both a b new old e = ap (λ (c : Answer). afterwards c new old) (andThen-next b e)
 
 module _ {reading : Reading} (file : List ℕ) (n K party : ℕ) (contribution externals keys rows wkeys wexternals : List ℕ) (h : Holds reading (readFile file)) {check answer : Answer}
-    (checked : Meets (openAsked n K (wiresIn (reading .circuit)) contribution externals keys rows party (length wkeys) (length wexternals)) check)
-    (joined : answer ≡ followed (reading .answer) check) where
+    (checked : check ≡ openAsked n K (wiresIn (reading .circuit)) contribution externals keys rows party (length wkeys) (length wexternals))
+    (joined : answer ≡ andThen (reading .answer) check) where
   abbrev read : List Wire
   read = readFile file .wires
 
@@ -304,19 +294,19 @@ module _ {reading : Reading} (file : List ℕ) (n K party : ℕ) (contribution e
   abbrev here : List Wire
   here = wiresIn (reading .circuit)
 
-  abbrev earlier : Checked
+  abbrev earlier : Answer
   earlier = andThen (fileChecked file) (openAsked n K read contribution externals keys rows party (length wkeys) (length wexternals))
 
-  abbrev ownKeys : Checked
+  abbrev ownKeys : Answer
   ownKeys = ownKeysChecked n K party read contribution externals keys
 
-  abbrev gates : Checked
+  abbrev gates : Answer
   gates = gatesChecked shakePad n K party read (drawn 1 K read contribution) externals keys rows
 
-  earlier-met : Meets earlier answer
+  earlier-met : answer ≡ earlier
   earlier-met =
       read-met file h check joined
-      (subst (λ (w : List Wire). Meets (openAsked n K w contribution externals keys rows party (length wkeys) (length wexternals)) check) (h .wires) checked)
+      (checked ∙ ap (λ (w : List Wire). openAsked n K w contribution externals keys rows party (length wkeys) (length wexternals)) (h .wires))
 
   abbrev Opens : Answer → List ℕ → List ℕ → Type 0
   Opens a = OpenCall file n K party contribution externals keys rows wkeys wexternals (numberIn a) (placeIn a)
@@ -330,28 +320,28 @@ module _ {reading : Reading} (file : List ℕ) (n K party : ℕ) (contribution e
       afterwards gates (wireExternals shakePad n K party read (drawn 1 K read contribution) externals keys rows) (replicate (length wexternals) 0)
 
   -- the call's ends, by the checks as they were made
-  ends : {a : Answer} {wkeys′ wexternals′ : List ℕ} → Meets (andThen (andThen earlier ownKeys) gates) a → wkeys′ ≡ afterwards (andThen earlier ownKeys) zeroKeys wkeys
+  ends : {a : Answer} {wkeys′ wexternals′ : List ℕ} → a ≡ andThen (andThen earlier ownKeys) gates → wkeys′ ≡ afterwards (andThen earlier ownKeys) zeroKeys wkeys
       → wexternals′ ≡ afterwards (andThen earlier ownKeys) zeroExternals wexternals → Opens a wkeys′ wexternals′
   unfolding openChecked openKeys openExternals beforeOpening
   ends m k x = record { answer = reports m; wireKeysIs = k; wireExternalsIs = x }
 
   pub open-refused : {reason : Refusal} {place : ℕ} → answer ≡ Refused reason place → Opens (Refused reason place) wkeys wexternals
   open-refused {reason} {place} e =
-      let m : Meets (andThen earlier ownKeys) (Refused reason place) = stage-refused earlier-met ownKeys e in
-      ends (meets-refused gates m) (afterwards-refused m zeroKeys wkeys) (afterwards-refused m zeroExternals wexternals)
+      let m : Refused reason place ≡ andThen earlier ownKeys = stage-refused earlier-met ownKeys e in
+      ends (andThen-stop gates (sym m)) (afterwards-refused (sym m) zeroKeys wkeys) (afterwards-refused (sym m) zeroExternals wexternals)
 
   module _ (e : answer ≡ Accepted) {parties long seat : ℕ} (p : parties ≡ n) (l : long ≡ K) (t : seat ≡ party) where
-    abbrev bytes : Checked
+    abbrev bytes : Answer
     bytes = openBytes n K here contribution externals keys rows
 
-    abbrev lengths : Checked
+    abbrev lengths : Answer
     lengths = openLengths n K here contribution externals keys rows (length wkeys) (length wexternals)
 
-    abbrev asked : Checked
+    abbrev asked : Answer
     asked = openParty n K here contribution externals keys rows party (length wkeys) (length wexternals)
 
-    all : andThen (sessionChecked n K) asked ≡ passed
-    all = stage-passed checked (check-accepted file h check joined e)
+    all : andThen (sessionChecked n K) asked ≡ Accepted
+    all = sym checked ∙ check-accepted file h check joined e
 
     fits : SessionFits n K
     fits = session-fits n K (andThen-left (sessionChecked n K) asked all)
@@ -359,28 +349,28 @@ module _ {reading : Reading} (file : List ℕ) (n K party : ℕ) (contribution e
     seated : party < n
     seated = party-below n party (andThen-left (partyChecked n party) (andThen (ownersChecked n here) (andThen lengths bytes)) (andThen-right (sessionChecked n K) asked all))
 
-    lentPassed : andThen lengths bytes ≡ passed
+    lentPassed : andThen lengths bytes ≡ Accepted
     lentPassed =
         andThen-right (ownersChecked n here) (andThen lengths bytes)
         (andThen-right (partyChecked n party) (andThen (ownersChecked n here) (andThen lengths bytes)) (andThen-right (sessionChecked n K) asked all))
 
-    sizes : lengths ≡ passed
+    sizes : lengths ≡ Accepted
     sizes = andThen-left lengths bytes lentPassed
 
     -- 16 on, 17 on, 18 on
-    abbrev lines : Checked
+    abbrev lines : Answer
     lines = andThen (keysChecked n K here keys) (rowsChecked n K here rows)
 
-    abbrev offsets : Checked
+    abbrev offsets : Answer
     offsets = andThen (offsetsChecked 1 K here contribution) lines
 
-    contents : bytes ≡ passed
+    contents : bytes ≡ Accepted
     contents = andThen-right lengths bytes lentPassed
 
-    contributed : andThen (contributionsChecked 1 K here contribution) offsets ≡ passed
+    contributed : andThen (contributionsChecked 1 K here contribution) offsets ≡ Accepted
     contributed = andThen-right (valuesChecked externals (modulusAt here)) (andThen (contributionsChecked 1 K here contribution) offsets) contents
 
-    lined : lines ≡ passed
+    lined : lines ≡ Accepted
     lined =
         andThen-right (offsetsChecked 1 K here contribution) lines (andThen-right (contributionsChecked 1 K here contribution) offsets contributed)
 
@@ -423,8 +413,8 @@ module _ {reading : Reading} (file : List ℕ) (n K party : ℕ) (contribution e
         (subst (λ (a : ℕ). Came a K party here z wkeys′ wexternals′) p
         (subst (λ (b : ℕ). Came parties b party here z wkeys′ wexternals′) l
         (subst (λ (c : ℕ). Came parties long c here z wkeys′ wexternals′) t came))) in
-        let q : earlier ≡ passed = stage-passed earlier-met e in
+        let q : earlier ≡ Accepted = sym earlier-met ∙ e in
         ends
-        (subst (λ (c : Checked). Meets c z) (sym (andThen-assoc earlier ownKeys gates)) (meets-next q (there .met)))
+        (there .answerIs ∙ sym (ap (λ (c : Answer). andThen c gates) (andThen-next ownKeys q)))
         (there .keysAre ∙ sym (after-both earlier ownKeys zeroKeys wkeys q))
         (there .externalsAre ∙ sym (after-both earlier ownKeys zeroExternals wexternals q))

@@ -6,7 +6,7 @@ use Prim.Native.Nat.{ℕ, _*_, _≤_, _<_}
 use lib.ListN.{length, replicate}
 use Rattle.lists.specs.First.{first}
 use Rattle.checks.specs.declared.Answer.{Answer}
-use Rattle.checks.specs.Checked.{Checked, Meets, andThen, afterwards}
+use Rattle.checks.specs.Checked.{andThen, afterwards}
 use Rattle.words.specs.declared.gate.Wire.{Wire}
 use Rattle.circuit.specs.declared.Circuit.{Circuit}
 use Rattle.circuit.specs.Wires.{inputsIn}
@@ -42,10 +42,10 @@ abbrev pub firstWrong : ℕ → ℕ → ℕ → List Wire → List ℕ → List 
 firstWrong n K party wires contribution externals keys = first (inputsIn wires) (inputKeyWrong n K party wires contribution externals keys)
 
 module _ (n K party : ℕ) (wires : List Wire) (contribution externals keys rows wkeys₀ wexternals₀ : List ℕ) where
-  abbrev ownKeys : Checked
+  abbrev ownKeys : Answer
   ownKeys = ownKeysChecked n K party wires contribution externals keys
 
-  abbrev gates : Checked
+  abbrev gates : Answer
   gates = gatesChecked shakePad n K party wires (drawn 1 K wires contribution) externals keys rows
 
   -- the keys and the external values of all wires, or zeros where no multiplier fits
@@ -58,12 +58,12 @@ module _ (n K party : ℕ) (wires : List Wire) (contribution externals keys rows
 
   -- the gates' stage: 20, and what both buffers hold then
   pub record GatesOpened (answer : Answer) (wkeys wexternals : List ℕ) : Type 0 where
-    pub met : Meets gates answer
+    pub answerIs : answer ≡ gates
     pub keysAre : wkeys ≡ newKeys
     pub externalsAre : wexternals ≡ newExternals
 
   -- 19, then that stage
   pub record InputsOpened (answer : Answer) (wkeys wexternals : List ℕ) : Type 0 where
-    pub met : Meets (andThen ownKeys gates) answer
+    pub answerIs : answer ≡ andThen ownKeys gates
     pub keysAre : wkeys ≡ afterwards ownKeys newKeys wkeys₀
     pub externalsAre : wexternals ≡ afterwards ownKeys newExternals wexternals₀

@@ -1,7 +1,7 @@
 // Garbling as a call: rows, input masks and output masks from the contributions of all parties, and the row meter charged.
+ghost use mathlib.Core.Path.{_≡_};
 ghost use Prim.Native.Nat.{_≤_};
 ghost use Rattle.checks.specs.Answer.{numberIn, placeIn};
-ghost use Rattle.checks.specs.Checked.{Meets};
 ghost use Rattle.circuit.specs.File.{readFile};
 ghost use Rattle.circuit.specs.Held.{wiresIn, outputsIn, Held, Holds};
 ghost use Rattle.calls.specs.Garble.{garbleBytes, garbleLengths, garbleLent, garbleOwned, garbleAsked, GarbleCall};
@@ -38,7 +38,7 @@ struct Lengths {
 // The bytes, where their number is right: the contributions, then their offsets.
 fn draws_checked(circuit: Circuit, n: usize, k: usize, contributions: &[u8]) -> Answer
     requires { ⌜ Draws circuit n k (now contributions) ⌝ }
-    ensures { λ r. ⌜ Meets (garbleBytes n k (wiresIn circuit) (now (contributions .entry))) r ⌝ }
+    ensures { λ r. ⌜ r ≡ garbleBytes n k (wiresIn circuit) (now (contributions .entry)) ⌝ }
 {
     let bytes = contributions_checked(circuit, n, k, contributions);
     let offsets = offsets_checked(circuit, n, k, contributions);
@@ -48,7 +48,7 @@ fn draws_checked(circuit: Circuit, n: usize, k: usize, contributions: &[u8]) -> 
 // The lengths of what is lent.
 fn lengths_checked(circuit: Circuit, n: u32, k: u32, contributions: &[u8], lent: Lengths) -> Answer
     requires { ⌜ Held circuit × ((n ≤ 8) × (k ≤ 128)) ⌝ }
-    ensures { λ r. ⌜ Meets (garbleLengths n k (wiresIn circuit) (outputsIn circuit) (now (contributions .entry)) (lent .rows) (lent .inputs) (lent .outputs)) r ⌝ }
+    ensures { λ r. ⌜ r ≡ garbleLengths n k (wiresIn circuit) (outputsIn circuit) (now (contributions .entry)) (lent .rows) (lent .inputs) (lent .outputs) ⌝ }
 {
     let parties = counted(n);
     let long = counted(k);
@@ -67,7 +67,7 @@ fn lengths_checked(circuit: Circuit, n: u32, k: u32, contributions: &[u8], lent:
 // Those, and where they are right the bytes.
 fn buffers_checked(circuit: Circuit, n: u32, k: u32, contributions: &[u8], lent: Lengths) -> Answer
     requires { ⌜ Held circuit × ((n ≤ 8) × (k ≤ 128)) ⌝ }
-    ensures { λ r. ⌜ Meets (garbleLent n k (wiresIn circuit) (outputsIn circuit) (now (contributions .entry)) (lent .rows) (lent .inputs) (lent .outputs)) r ⌝ }
+    ensures { λ r. ⌜ r ≡ garbleLent n k (wiresIn circuit) (outputsIn circuit) (now (contributions .entry)) (lent .rows) (lent .inputs) (lent .outputs) ⌝ }
 {
     let parties = counted(n);
     let long = counted(k);
@@ -81,7 +81,7 @@ fn buffers_checked(circuit: Circuit, n: u32, k: u32, contributions: &[u8], lent:
 // The owners, and then what is lent.
 fn garble_owned(circuit: Circuit, n: u32, k: u32, contributions: &[u8], lent: Lengths) -> Answer
     requires { ⌜ Held circuit × ((n ≤ 8) × (k ≤ 128)) ⌝ }
-    ensures { λ r. ⌜ Meets (garbleOwned n k (wiresIn circuit) (outputsIn circuit) (now (contributions .entry)) (lent .rows) (lent .inputs) (lent .outputs)) r ⌝ }
+    ensures { λ r. ⌜ r ≡ garbleOwned n k (wiresIn circuit) (outputsIn circuit) (now (contributions .entry)) (lent .rows) (lent .inputs) (lent .outputs) ⌝ }
 {
     let owners = owners_checked(circuit, n);
     let buffers = buffers_checked(circuit, n, k, contributions, lent);
@@ -91,7 +91,7 @@ fn garble_owned(circuit: Circuit, n: u32, k: u32, contributions: &[u8], lent: Le
 // The session, and where it is in range the rest.
 fn garble_asked(circuit: Circuit, n: u32, k: u32, contributions: &[u8], lent: Lengths) -> Answer
     requires { ⌜ Held circuit ⌝ }
-    ensures { λ r. ⌜ Meets (garbleAsked n k (wiresIn circuit) (outputsIn circuit) (now (contributions .entry)) (lent .rows) (lent .inputs) (lent .outputs)) r ⌝ }
+    ensures { λ r. ⌜ r ≡ garbleAsked n k (wiresIn circuit) (outputsIn circuit) (now (contributions .entry)) (lent .rows) (lent .inputs) (lent .outputs) ⌝ }
 {
     let session = session_checked(n, k);
     match session {

@@ -7,7 +7,6 @@ ghost use Rattle.lists.specs.Blocks.{nthPiece};
 ghost use Rattle.lists.specs.First.{first};
 ghost use Rattle.search.specs.Search.{same};
 ghost use Rattle.checks.specs.Answer.{numberIn, placeIn};
-ghost use Rattle.checks.specs.Checked.{Meets};
 ghost use Rattle.circuit.specs.File.{readFile};
 ghost use Rattle.circuit.specs.Held.{wiresIn, Held, Holds};
 ghost use Rattle.calls.specs.Open.{openBytes, openLent, openParty, openAsked, OpenCall};
@@ -49,7 +48,7 @@ fn bytes_checked(
     rows: &[u8],
 ) -> Answer
     requires { ⌜ OpenSizes circuit n k (now contribution) (now externals) (now keys) (now rows) ⌝ }
-    ensures { λ r. ⌜ Meets (openBytes n k (wiresIn circuit) (now (contribution .entry)) (now (externals .entry)) (now (keys .entry)) (now (rows .entry))) r ⌝ }
+    ensures { λ r. ⌜ r ≡ openBytes n k (wiresIn circuit) (now (contribution .entry)) (now (externals .entry)) (now (keys .entry)) (now (rows .entry)) ⌝ }
 {
     let values = values_checked(circuit, externals);
     let bytes = contributions_checked(circuit, 1, k, contribution);
@@ -73,7 +72,7 @@ fn open_lent(
     wexternals: usize,
 ) -> Answer
     requires { ⌜ Held circuit × ((n ≤ 8) × (k ≤ 128)) ⌝ }
-    ensures { λ r. ⌜ Meets (openLent n k (wiresIn circuit) (now (contribution .entry)) (now (externals .entry)) (now (keys .entry)) (now (rows .entry)) wkeys wexternals) r ⌝ }
+    ensures { λ r. ⌜ r ≡ openLent n k (wiresIn circuit) (now (contribution .entry)) (now (externals .entry)) (now (keys .entry)) (now (rows .entry)) wkeys wexternals ⌝ }
 {
     let parties = counted(n);
     let long = counted(k);
@@ -118,8 +117,8 @@ fn open_party(
     wexternals: usize,
 ) -> Answer
     requires { ⌜ Held circuit × ((asked .n ≤ 8) × (asked .k ≤ 128)) ⌝ }
-    ensures { λ r. ⌜ Meets (openParty (asked .n) (asked .k) (wiresIn circuit) (now (contribution .entry)) (now (externals .entry)) (now (keys .entry)) (now (rows .entry))
-        (asked .party) wkeys wexternals) r ⌝ }
+    ensures { λ r. ⌜ r ≡ openParty (asked .n) (asked .k) (wiresIn circuit) (now (contribution .entry)) (now (externals .entry)) (now (keys .entry)) (now (rows .entry))
+        (asked .party) wkeys wexternals ⌝ }
 {
     let n = asked.n;
     let k = asked.k;
@@ -150,8 +149,8 @@ fn open_asked(
     wexternals: usize,
 ) -> Answer
     requires { ⌜ Held circuit ⌝ }
-    ensures { λ r. ⌜ Meets (openAsked (asked .n) (asked .k) (wiresIn circuit) (now (contribution .entry)) (now (externals .entry)) (now (keys .entry)) (now (rows .entry))
-        (asked .party) wkeys wexternals) r ⌝ }
+    ensures { λ r. ⌜ r ≡ openAsked (asked .n) (asked .k) (wiresIn circuit) (now (contribution .entry)) (now (externals .entry)) (now (keys .entry)) (now (rows .entry))
+        (asked .party) wkeys wexternals ⌝ }
 {
     let session = session_checked(asked.n, asked.k);
     match session {

@@ -10,8 +10,8 @@ use Rattle.lists.specs.Blocks.{blocks, runs}
 use Rattle.residue.specs.Vector.{AllBelow}
 use Rattle.checks.specs.declared.Refusal.{Refusal}
 use Rattle.checks.specs.declared.Refusal.the-variants.{ValueTooLarge, KeyOrRowTooLarge}
-use Rattle.checks.specs.Checked.Checked.{passed}
 use Rattle.checks.proofs.Passed.{noneBad-passed, noneBad-none}
+use Rattle.checks.specs.declared.Answer.the-variants.{Accepted}
 use Rattle.words.specs.declared.gate.Wire.{Wire}
 use Rattle.circuit.specs.Wires.{modulusAt, inputsIn}
 use Rattle.scheme.proofs.EachBelow.{runs-each}
@@ -33,19 +33,19 @@ either-fine e f = rw (e, f)
 -- ---- 15
 
 module _ (xs : List ℕ) (modulus : ℕ → ℕ) where
-  pub values-passed : ((i : ℕ) → i < length xs → getD xs i 0 < modulus i) → valuesChecked xs modulus ≡ passed
+  pub values-passed : ((i : ℕ) → i < length xs → getD xs i 0 < modulus i) → valuesChecked xs modulus ≡ Accepted
   unfolding valuesChecked
   values-passed below = noneBad-passed (length xs) (tooLarge xs modulus) ValueTooLarge (λ i h. below-tooLarge xs modulus i (below i h))
 
 -- ---- 16 and 18
 
 module _ (xs moduli : List ℕ) (reason : Refusal) where
-  pub bytes-passed : ((i : ℕ) → i < length xs → getD xs i 0 < getD moduli i 0) → bytesChecked xs moduli reason ≡ passed
+  pub bytes-passed : ((i : ℕ) → i < length xs → getD xs i 0 < getD moduli i 0) → bytesChecked xs moduli reason ≡ Accepted
   unfolding bytesChecked
   bytes-passed below =
       noneBad-passed (length xs) (tooLarge xs (λ i. getD moduli i 0)) reason (λ i h. below-tooLarge xs (λ i. getD moduli i 0) i (below i h))
 
-  pub bytes-below : bytesChecked xs moduli reason ≡ passed → (i : ℕ) → i < length xs → getD xs i 0 < getD moduli i 0
+  pub bytes-below : bytesChecked xs moduli reason ≡ Accepted → (i : ℕ) → i < length xs → getD xs i 0 < getD moduli i 0
   unfolding bytesChecked
   bytes-below e i h =
       tooLarge-below xs (λ i. getD moduli i 0) i (noneBad-none (length xs) (tooLarge xs (λ i. getD moduli i 0)) reason e i h)
@@ -54,7 +54,7 @@ module _ (xs moduli : List ℕ) (reason : Refusal) where
 pub keys-passed : (n K : ℕ) (wires : List Wire) (f : ℕ → List ℕ)
     → ((w : ℕ) → w < inputsIn wires → length (f w) ≡ n * K)
     → ((w : ℕ) → w < inputsIn wires → AllBelow (modulusAt wires w) (f w))
-    → keysChecked n K wires (blocks (inputsIn wires) f) ≡ passed
+    → keysChecked n K wires (blocks (inputsIn wires) f) ≡ Accepted
 unfolding keysChecked
 keys-passed n K wires f e b =
     bytes-passed (blocks (inputsIn wires) f) (runs (inputsIn wires) (λ w. n * K) (modulusAt wires)) KeyOrRowTooLarge
@@ -64,7 +64,7 @@ keys-passed n K wires f e b =
 pub rows-passed : (n K : ℕ) (wires : List Wire) (count : ℕ → ℕ) (f : ℕ → List ℕ)
     → ((w : ℕ) → w < length wires → length (f w) ≡ count w * (n * K))
     → ((w : ℕ) → w < length wires → AllBelow (modulusAt wires w) (f w))
-    → countedRowsChecked n K wires count (blocks (length wires) f) ≡ passed
+    → countedRowsChecked n K wires count (blocks (length wires) f) ≡ Accepted
 unfolding countedRowsChecked
 rows-passed n K wires count f e b =
     bytes-passed (blocks (length wires) f) (runs (length wires) (λ w. count w * (n * K)) (modulusAt wires)) KeyOrRowTooLarge

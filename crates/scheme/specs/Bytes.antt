@@ -8,7 +8,8 @@ use lib.ListN.{length, getD}
 use Rattle.lists.specs.Blocks.{blocks, runs, part, nthPiece}
 use Rattle.checks.specs.declared.Refusal.{Refusal}
 use Rattle.checks.specs.declared.Refusal.the-variants.{ContributionTooLarge, ZeroOffset, KeyOrRowTooLarge}
-use Rattle.checks.specs.Checked.{Checked, noneBad}
+use Rattle.checks.specs.declared.Answer.{Answer}
+use Rattle.checks.specs.Checked.{noneBad}
 use Rattle.words.specs.declared.gate.Wire.{Wire}
 use Rattle.circuit.specs.Wires.{modulusAt, inputsIn}
 use Rattle.counts.specs.Counts.{rowsOf}
@@ -17,7 +18,7 @@ use Rattle.scheme.specs.Contribution.{contributionSize, contributionModu
 use Rattle.session.specs.Session.{tooLarge}
 
 -- each byte against its modulus; the lowest bad one is named
-unfoldable pub bytesChecked : List ℕ → List ℕ → Refusal → Checked
+unfoldable pub bytesChecked : List ℕ → List ℕ → Refusal → Answer
 bytesChecked xs moduli reason = noneBad (length xs) (tooLarge xs (λ i. getD moduli i 0)) reason
 
 unfoldable pub allZero : List ℕ → Bool
@@ -26,7 +27,7 @@ allZero (x ∷ xs) = eqb x 0 && allZero xs
 
 module _ (n K : ℕ) (wires : List Wire) where
   -- 16: n contributions, one after another
-  unfoldable pub contributionsChecked : List ℕ → Checked
+  unfoldable pub contributionsChecked : List ℕ → Answer
   contributionsChecked contributions =
       bytesChecked contributions (blocks n (λ party. contributionModuli K wires)) ContributionTooLarge
 
@@ -35,16 +36,16 @@ module _ (n K : ℕ) (wires : List Wire) where
   zeroOffset contributions p =
       used wires p && someBelow n (λ party. allZero (part (nthPiece contributions (contributionSize K wires) party) (offsetAt K wires p) K))
 
-  unfoldable pub offsetsChecked : List ℕ → Checked
+  unfoldable pub offsetsChecked : List ℕ → Answer
   offsetsChecked contributions = noneBad 256 (zeroOffset contributions) ZeroOffset
 
   -- 18: a bad key byte is named before any row byte; a key byte is judged by the input's modulus, a row byte by the receiving one
-  unfoldable pub keysChecked : List ℕ → Checked
+  unfoldable pub keysChecked : List ℕ → Answer
   keysChecked keys = bytesChecked keys (runs (inputsIn wires) (λ w. n * K) (modulusAt wires)) KeyOrRowTooLarge
 
   -- .. where each wire has so many rows
-  unfoldable pub countedRowsChecked : (ℕ → ℕ) → List ℕ → Checked
+  unfoldable pub countedRowsChecked : (ℕ → ℕ) → List ℕ → Answer
   countedRowsChecked count rows = bytesChecked rows (runs (length wires) (λ w. count w * (n * K)) (modulusAt wires)) KeyOrRowTooLarge
 
-  abbrev pub rowsChecked : List ℕ → Checked
+  abbrev pub rowsChecked : List ℕ → Answer
   rowsChecked = countedRowsChecked (rowsOf wires)

@@ -1,31 +1,30 @@
 -- 14, one length after another: how to check several lent lengths.
 --
--- Where the code says `followed(length_checked(a, x), followed(length_checked(b, y), length_checked(c, z)))`, the answer meets
+-- Where the code says `followed(length_checked(a, x), followed(length_checked(b, y), length_checked(c, z)))`, the answer is
 -- `lengthsChecked (a ∷ b ∷ c ∷ []) (x ∷ y ∷ z ∷ [])` by `lengths-met (lengths-met last)`, each with what its call ensures.
 -- Assumes nothing.
-use mathlib.Core.Path.{_≡_, refl}
+use mathlib.Core.Path.{_≡_, refl, sym, ap, ap₂, _∙_}
 use mathlib.Core.Bool.{Bool, true, false, _&&_}
 use mathlib.Core.List.{List, [], _∷_}
 use Prim.Native.Nat.{ℕ}
-use borrow.Author.Tests.{eq-eqb, ne-eqb}
+use borrow.Author.Tests.{ne-eqb}
 use lib.Dec.{eqb}
 use Rattle.checks.specs.declared.Answer.{Answer}
 use Rattle.checks.specs.declared.Answer.the-variants.{Accepted, Refused}
 use Rattle.checks.specs.declared.Refusal.the-variants.{WrongLength}
-use Rattle.checks.specs.Combined.{followed}
-use Rattle.checks.specs.Checked.{Meets, unless, andThen}
-use Rattle.checks.proofs.Answers.{unless-met, unless-named, meets-andThen}
+use Rattle.checks.specs.Checked.{unless, andThen}
+use Rattle.checks.proofs.Answers.{unless-refused}
+use Rattle.session.proofs.Sessions.{lengths-passed}
 use Rattle.session.specs.Session.{sameNumbers, lengthsChecked}
 
 -- one length
 module _ (lent wanted : ℕ) where
-  pub length-met : lent ≡ wanted → Meets (lengthsChecked (lent ∷ []) (wanted ∷ [])) Accepted
-  unfolding lengthsChecked sameNumbers
-  length-met e = unless-met WrongLength 0 (rw (eq-eqb lent wanted e))
+  pub length-met : lent ≡ wanted → Accepted ≡ lengthsChecked (lent ∷ []) (wanted ∷ [])
+  length-met e = sym (lengths-passed (ap (λ (n : ℕ). n ∷ []) e))
 
-  pub length-wrong : (lent ≡ wanted → ⊥) → Meets (lengthsChecked (lent ∷ []) (wanted ∷ [])) (Refused WrongLength 0)
+  pub length-wrong : (lent ≡ wanted → ⊥) → Refused WrongLength 0 ≡ lengthsChecked (lent ∷ []) (wanted ∷ [])
   unfolding lengthsChecked sameNumbers
-  length-wrong n = unless-named WrongLength 0 (rw (ne-eqb lent wanted n))
+  length-wrong n = sym (unless-refused WrongLength 0 (rw (ne-eqb lent wanted n)))
 
 -- two tests, one refusal
 two-tests : (a b : Bool) → unless (a && b) WrongLength 0 ≡ andThen (unless (a && true) WrongLength 0) (unless b WrongLength 0)
@@ -39,5 +38,5 @@ module _ (x y : ℕ) (xs ys : List ℕ) where
   unfolding lengthsChecked sameNumbers
   lengths-cons = two-tests (eqb x y) (sameNumbers xs ys)
 
-  pub lengths-met : {first next answer : Answer} → Meets (lengthsChecked (x ∷ []) (y ∷ [])) first → Meets (lengthsChecked xs ys) next → answer ≡ followed first next → Meets (lengthsChecked (x ∷ xs) (y ∷ ys)) answer
-  lengths-met m n e = rw (e, lengths-cons) (meets-andThen m (λ _. n))
+  pub lengths-met : {first next answer : Answer} → first ≡ lengthsChecked (x ∷ []) (y ∷ []) → next ≡ lengthsChecked xs ys → answer ≡ andThen first next → answer ≡ lengthsChecked (x ∷ xs) (y ∷ ys)
+  lengths-met m n e = e ∙ ap₂ andThen m n ∙ sym lengths-cons

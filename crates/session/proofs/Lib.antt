@@ -1,4 +1,4 @@
--- Laws of the session's checks: when they pass, and which answers of the code meet them.
+-- Laws of the session's checks: when they pass, and what the code's answers come to.
 pub mod Sessions
 pub mod LentLengths
 pub mod Circuits

@@ -1,4 +1,4 @@
--- The session's checks, 1 to 14: when they pass, and what it gives that they did.
+-- The session's checks, 11 to 14: when they pass, and what it gives that they did.
 -- Assumes nothing.
 use mathlib.Core.Path.{_≡_, refl, sym, ap, _∙_}
 use mathlib.Core.Bool.{Bool, true, false, _&&_}
@@ -10,25 +10,13 @@ use borrow.Author.Tests.{leb-true, le-leb, ltb-true, lt-ltb, leb-false, lt-leb, 
 use Rattle.residue.proofs.Table.{and-left, and-right}
 use Rattle.checks.specs.declared.Refusal.the-variants.{SessionRange, NoSuchParty, OwnerAbsent, WrongLength}
 use Rattle.checks.specs.declared.Answer.the-variants.{Accepted}
-use Rattle.checks.specs.Checked.Checked.{passed}
-use Rattle.checks.proofs.Passed.{unless-passed, unless-true, noneBad-passed, noneBad-none, answered-passed, answered-accepted}
+use Rattle.checks.proofs.Passed.{unless-passed, unless-true, noneBad-passed, noneBad-none}
 use Rattle.words.specs.declared.gate.Owned.{Owned}
 use Rattle.words.specs.declared.gate.Gate.{Gate}
 use Rattle.words.specs.declared.gate.Gate.the-variants.{Input, Add, Scale, Multiply, Project, Select}
 use Rattle.words.specs.declared.gate.Wire.{Wire}
 use Rattle.circuit.specs.Wires.{wireAt}
-use Rattle.circuit.specs.File.{readFile}
-use Rattle.session.specs.Session.{fileChecked, partiesChecked, sessionChecked, partyChecked, ownerAbsent, ownersChecked, sameNumbers, lengthsChecked}
-
--- ---- 1 to 10
-
-pub file-passed : (file : List ℕ) → readFile file .answer ≡ Accepted → fileChecked file ≡ passed
-unfolding fileChecked
-file-passed file e = answered-passed e
-
-pub file-accepted : (file : List ℕ) → fileChecked file ≡ passed → readFile file .answer ≡ Accepted
-unfolding fileChecked
-file-accepted file e = answered-accepted (readFile file .answer) e
+use Rattle.session.specs.Session.{partiesChecked, sessionChecked, partyChecked, ownerAbsent, ownersChecked, sameNumbers, lengthsChecked}
 
 -- ---- 11
 
@@ -52,16 +40,16 @@ pub record SessionFits (n K : ℕ) : Type 0 where
 fit : (n : ℕ) → (leb 2 n && leb n 8) ≡ true → PartiesFit n
 fit n e = record { least = leb-true 2 n (and-left (leb 2 n) (leb n 8) e); most = leb-true n 8 (and-right (leb 2 n) (leb n 8) e) }
 
-pub parties-passed : {n : ℕ} → PartiesFit n → partiesChecked n ≡ passed
+pub parties-passed : {n : ℕ} → PartiesFit n → partiesChecked n ≡ Accepted
 unfolding partiesChecked
 parties-passed {n} r = unless-passed SessionRange 0 (ranged 2 8 n (r .least) (r .most))
 
-pub session-passed : {n K : ℕ} → SessionFits n K → sessionChecked n K ≡ passed
+pub session-passed : {n K : ℕ} → SessionFits n K → sessionChecked n K ≡ Accepted
 unfolding sessionChecked
 session-passed {n} {K} r =
     unless-passed SessionRange 0 (both (ranged 2 8 n (r .parties .least) (r .parties .most)) (ranged 1 128 K (r .least) (r .most)))
 
-pub session-fits : (n K : ℕ) → sessionChecked n K ≡ passed → SessionFits n K
+pub session-fits : (n K : ℕ) → sessionChecked n K ≡ Accepted → SessionFits n K
 unfolding sessionChecked
 session-fits n K e =
     let test = unless-true ((leb 2 n && leb n 8) && (leb 1 K && leb K 128)) SessionRange 0 e in
@@ -74,11 +62,11 @@ session-fits n K e =
 
 -- ---- 12
 
-pub party-passed : {n party : ℕ} → party < n → partyChecked n party ≡ passed
+pub party-passed : {n party : ℕ} → party < n → partyChecked n party ≡ Accepted
 unfolding partyChecked
 party-passed {n} {party} h = unless-passed NoSuchParty party (lt-ltb party n h)
 
-pub party-below : (n party : ℕ) → partyChecked n party ≡ passed → party < n
+pub party-below : (n party : ℕ) → partyChecked n party ≡ Accepted → party < n
 unfolding partyChecked
 party-below n party e = ltb-true party n (unless-true (ltb party n) NoSuchParty party e)
 
@@ -96,13 +84,13 @@ owner-fine n (Multiply g) h = refl
 owner-fine n (Project g) h = refl
 owner-fine n (Select g) h = refl
 
-pub owners-passed : {n : ℕ} {wires : List Wire} → OwnersFit n wires → ownersChecked n wires ≡ passed
+pub owners-passed : {n : ℕ} {wires : List Wire} → OwnersFit n wires → ownersChecked n wires ≡ Accepted
 unfolding ownersChecked
 owners-passed {n} {wires} r =
     noneBad-passed (length wires) (λ w. ownerAbsent n (wireAt wires w .gate)) OwnerAbsent
     (λ w h. owner-fine n (wireAt wires w .gate) (λ g e. r .below w g h e))
 
-pub owners-fit : (n : ℕ) (wires : List Wire) → ownersChecked n wires ≡ passed → OwnersFit n wires
+pub owners-fit : (n : ℕ) (wires : List Wire) → ownersChecked n wires ≡ Accepted → OwnersFit n wires
 unfolding ownersChecked
 owners-fit n wires e = record {
   below = λ w g h k.
@@ -125,10 +113,10 @@ numbers-same (x ∷ xs) [] e = cc
 numbers-same (x ∷ xs) (y ∷ ys) e =
     rw (eqb-true x y (and-left (eqb x y) (sameNumbers xs ys) e), numbers-same xs ys (and-right (eqb x y) (sameNumbers xs ys) e))
 
-pub lengths-passed : {lent wanted : List ℕ} → lent ≡ wanted → lengthsChecked lent wanted ≡ passed
+pub lengths-passed : {lent wanted : List ℕ} → lent ≡ wanted → lengthsChecked lent wanted ≡ Accepted
 unfolding lengthsChecked
 lengths-passed {lent} {wanted} e = unless-passed WrongLength 0 (rw e (same-numbers wanted))
 
-pub lengths-same : (lent wanted : List ℕ) → lengthsChecked lent wanted ≡ passed → lent ≡ wanted
+pub lengths-same : (lent wanted : List ℕ) → lengthsChecked lent wanted ≡ Accepted → lent ≡ wanted
 unfolding lengthsChecked
 lengths-same lent wanted e = numbers-same lent wanted (unless-true (sameNumbers lent wanted) WrongLength 0 e)

@@ -7,7 +7,8 @@ use Prim.Native.Nat.{ℕ}
 use lib.Dec.{eqb, leb, ltb}
 use lib.ListN.{length, getD}
 use Rattle.checks.specs.declared.Refusal.the-variants.{SessionRange, NoSuchParty, OwnerAbsent, WrongLength, ValueTooLarge}
-use Rattle.checks.specs.Checked.{Checked, unless, noneBad, answered}
+use Rattle.checks.specs.declared.Answer.{Answer}
+use Rattle.checks.specs.Checked.{unless, noneBad}
 use Rattle.words.specs.declared.gate.Gate.{Gate}
 use Rattle.words.specs.declared.gate.Gate.the-variants.{Input, Add, Scale, Multiply, Project, Select}
 use Rattle.words.specs.declared.gate.Wire.{Wire}
@@ -15,19 +16,19 @@ use Rattle.circuit.specs.Wires.{wireAt}
 use Rattle.circuit.specs.File.{readFile}
 
 -- 1 to 10: the reader's answer
-unfoldable pub fileChecked : List ℕ → Checked
-fileChecked file = answered (readFile file .answer)
+abbrev pub fileChecked : List ℕ → Answer
+fileChecked file = readFile file .answer
 
 -- 11: two to eight parties
-unfoldable pub partiesChecked : ℕ → Checked
+unfoldable pub partiesChecked : ℕ → Answer
 partiesChecked n = unless (leb 2 n && leb n 8) SessionRange 0
 
 -- 11: parties and key length, 1 to 128
-unfoldable pub sessionChecked : ℕ → ℕ → Checked
+unfoldable pub sessionChecked : ℕ → ℕ → Answer
 sessionChecked n K = unless ((leb 2 n && leb n 8) && (leb 1 K && leb K 128)) SessionRange 0
 
 -- 12: the party asked for
-unfoldable pub partyChecked : ℕ → ℕ → Checked
+unfoldable pub partyChecked : ℕ → ℕ → Answer
 partyChecked n party = unless (ltb party n) NoSuchParty party
 
 -- 13: every input's owner takes part
@@ -39,7 +40,7 @@ ownerAbsent n (Multiply gate) = false
 ownerAbsent n (Project gate) = false
 ownerAbsent n (Select gate) = false
 
-unfoldable pub ownersChecked : ℕ → List Wire → Checked
+unfoldable pub ownersChecked : ℕ → List Wire → Answer
 ownersChecked n wires = noneBad (length wires) (λ w. ownerAbsent n (wireAt wires w .gate)) OwnerAbsent
 
 -- 14: each lent length is exact: the lengths lent are those wanted, one by one
@@ -49,7 +50,7 @@ sameNumbers [] (y ∷ ys) = false
 sameNumbers (x ∷ xs) [] = false
 sameNumbers (x ∷ xs) (y ∷ ys) = eqb x y && sameNumbers xs ys
 
-unfoldable pub lengthsChecked : List ℕ → List ℕ → Checked
+unfoldable pub lengthsChecked : List ℕ → List ℕ → Answer
 lengthsChecked lent wanted = unless (sameNumbers lent wanted) WrongLength 0
 
 -- an entry of a list is not below its modulus
@@ -57,5 +58,5 @@ abbrev pub tooLarge : List ℕ → (ℕ → ℕ) → ℕ → Bool
 tooLarge xs modulus i = leb (modulus i) (getD xs i 0)
 
 -- 15: each value, external value or mask is below its modulus
-unfoldable pub valuesChecked : List ℕ → (ℕ → ℕ) → Checked
+unfoldable pub valuesChecked : List ℕ → (ℕ → ℕ) → Answer
 valuesChecked xs modulus = noneBad (length xs) (tooLarge xs modulus) ValueTooLarge

@@ -2,7 +2,6 @@
 ghost use mathlib.Core.Path.{_≡_};
 ghost use lib.Dec.{leb};
 ghost use Rattle.lists.specs.First.{first};
-ghost use Rattle.checks.specs.Checked.{Meets};
 ghost use Rattle.circuit.specs.Wires.{wireAt};
 ghost use Rattle.circuit.specs.Held.{wiresIn, Room};
 ghost use Rattle.session.specs.Session.{ownerAbsent, ownersChecked};
@@ -52,7 +51,7 @@ fn first_absent(circuit: Circuit, n: u32) -> usize
 
 pub fn owners_checked(circuit: Circuit, n: u32) -> Answer
     requires { ⌜ Room circuit ⌝ }
-    ensures { λ r. ⌜ Meets (ownersChecked n (wiresIn circuit)) r ⌝ }
+    ensures { λ r. ⌜ r ≡ ownersChecked n (wiresIn circuit) ⌝ }
 {
     let made = circuit.made;
     let found = first_absent(circuit, n);

@@ -1,12 +1,12 @@
 // How many parties there are, how long their keys, and which of them is asked for.
-ghost use Rattle.checks.specs.Checked.{Meets};
+ghost use mathlib.Core.Path.{_≡_};
 ghost use Rattle.session.specs.Session.{partiesChecked, sessionChecked, partyChecked};
 use checks::Answer;
 use checks::Refusal;
 use lists::number_index;
 
 pub fn parties_checked(n: u32) -> Answer
-    ensures { λ r. ⌜ Meets (partiesChecked n) r ⌝ }
+    ensures { λ r. ⌜ r ≡ partiesChecked n ⌝ }
 {
     if n < 2 {
         return Answer::Refused(Refusal::SessionRange, 0);
@@ -19,7 +19,7 @@ pub fn parties_checked(n: u32) -> Answer
 
 // Parties and key length. Both have one refusal at one place, so either may be looked at first.
 pub fn session_checked(n: u32, k: u32) -> Answer
-    ensures { λ r. ⌜ Meets (sessionChecked n k) r ⌝ }
+    ensures { λ r. ⌜ r ≡ sessionChecked n k ⌝ }
 {
     if k < 1 {
         return Answer::Refused(Refusal::SessionRange, 0);
@@ -31,7 +31,7 @@ pub fn session_checked(n: u32, k: u32) -> Answer
 }
 
 pub fn party_checked(n: u32, party: u32) -> Answer
-    ensures { λ r. ⌜ Meets (partyChecked n party) r ⌝ }
+    ensures { λ r. ⌜ r ≡ partyChecked n party ⌝ }
 {
     if party < n {
         return Answer::Accepted;

@@ -3,7 +3,6 @@ ghost use mathlib.Core.Path.{_≡_};
 ghost use Prim.Native.Nat.{_≤_};
 ghost use lib.ListN.{length};
 ghost use Rattle.lists.specs.First.{first};
-ghost use Rattle.checks.specs.Checked.{Meets};
 ghost use Rattle.circuit.specs.Wires.{modulusAt};
 ghost use Rattle.circuit.specs.Held.{wiresIn, Room};
 ghost use Rattle.session.specs.Session.{tooLarge, valuesChecked};
@@ -33,7 +32,7 @@ fn first_too_large(circuit: Circuit, values: &[u8]) -> usize
 // One value for each of the first wires, of which there are no fewer.
 pub fn values_checked(circuit: Circuit, values: &[u8]) -> Answer
     requires { ⌜ Room circuit × (length (now values) ≤ circuit .made) ⌝ }
-    ensures { λ r. ⌜ Meets (valuesChecked (now (values .entry)) (modulusAt (wiresIn circuit))) r ⌝ }
+    ensures { λ r. ⌜ r ≡ valuesChecked (now (values .entry)) (modulusAt (wiresIn circuit)) ⌝ }
 {
     let found = first_too_large(circuit, values);
     named(values.len(), found, Refusal::ValueTooLarge)

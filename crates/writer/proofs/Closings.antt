@@ -1,6 +1,6 @@
 -- After the last record: what the two walks and the end of the file come to is what the call that writes promises.
 -- Assumes nothing.
-use mathlib.Core.Path.{_≡_, refl, sym, ap, subst, _∙_}
+use mathlib.Core.Path.{_≡_, refl, sym, ap, _∙_}
 use mathlib.Core.Bool.{Bool, true, false, true≢false, cond}
 use mathlib.Core.List.{List, [], _∷_, _++_}
 use Prim.Native.Nat.{ℕ, suc, _+_, _*_, _≤_, _<_}
@@ -14,9 +14,9 @@ use Rattle.checks.specs.declared.Answer.the-variants.{Accepted, Refused}
 use Rattle.checks.specs.declared.Refusal.{Refusal}
 use Rattle.checks.specs.declared.Refusal.the-variants.{NotDue, NoOutput, WrongLength, TooShort}
 use Rattle.checks.specs.Answer.{numberIn, placeIn}
-use Rattle.checks.specs.Checked.{Meets, answered, afterwards}
-use Rattle.checks.proofs.Answers.{meets-answered, meets-refused, meets-next, meets-reports, unless-met, unless-named, afterwards-accepted, afterwards-refused}
-use Rattle.checks.proofs.Passed.{answered-passed}
+use Rattle.checks.specs.Checked.{afterwards}
+use Rattle.checks.proofs.Answers.{afterwards-refused, unless-refused, andThen-stop, andThen-next, told}
+use Rattle.checks.proofs.Passed.{andThen-passed, unless-passed, afterwards-passed}
 use Rattle.words.specs.declared.gate.Due.{Due}
 use Rattle.words.specs.declared.gate.Step.the-variants.{Ends}
 use Rattle.words.specs.declared.item.Item.the-variants.{End}
@@ -81,23 +81,23 @@ module _ {records : List Record} {tables before : List ℕ} {lay : Bool} {pen : 
 
 -- the call's checks, by what the records come to
 module _ (records : List Record) (tables : List ℕ) (size : ℕ) where
-  checks-refused : {reason : Refusal} {place : ℕ} → writeRecords records tables ≡ refused reason place → Meets (writeChecked records tables size) (Refused reason place)
+  checks-refused : {reason : Refusal} {place : ℕ} → writeRecords records tables ≡ refused reason place → Refused reason place ≡ writeChecked records tables size
   unfolding writeChecked answerOf
-  checks-refused {reason} {place} e = meets-refused _ (subst (λ (w : Written). Meets (answered (answerOf w)) (Refused reason place)) (sym e) (meets-answered (Refused reason place)))
+  checks-refused e = andThen-stop _ (ap answerOf e)
 
   words-are : {ws : List ℕ} → writeRecords records tables ≡ wrote ws → wordsWritten records tables ≡ ws
   unfolding wordsWritten wordsOf
   words-are e = ap wordsOf e
 
-  checks-short : {ws : List ℕ} → writeRecords records tables ≡ wrote ws → leb (4 * length ws) size ≡ false → Meets (writeChecked records tables size) (Refused TooShort 0)
+  checks-short : {ws : List ℕ} → writeRecords records tables ≡ wrote ws → leb (4 * length ws) size ≡ false → Refused TooShort 0 ≡ writeChecked records tables size
   unfolding writeChecked answerOf
-  checks-short {ws} e f =
-      meets-next (answered-passed (ap answerOf e)) (unless-named TooShort 0 (ap (λ (l : List ℕ). leb (4 * length l) size) (words-are e) ∙ f))
+  checks-short e f =
+      sym (andThen-next _ (ap answerOf e) ∙ unless-refused TooShort 0 (ap (λ (l : List ℕ). leb (4 * length l) size) (words-are e) ∙ f))
 
-  checks-met : {ws : List ℕ} → writeRecords records tables ≡ wrote ws → leb (4 * length ws) size ≡ true → Meets (writeChecked records tables size) Accepted
+  checks-met : {ws : List ℕ} → writeRecords records tables ≡ wrote ws → leb (4 * length ws) size ≡ true → Accepted ≡ writeChecked records tables size
   unfolding writeChecked answerOf
-  checks-met {ws} e f =
-      meets-next (answered-passed (ap answerOf e)) (unless-met TooShort 0 (ap (λ (l : List ℕ). leb (4 * length l) size) (words-are e) ∙ f))
+  checks-met e f =
+      sym (andThen-passed (ap answerOf e) (unless-passed TooShort 0 (ap (λ (l : List ℕ). leb (4 * length l) size) (words-are e) ∙ f)))
 
 module _ {records : List Record} {tables file₀ : List ℕ} {judged laid : Pen} {settled : Settled} {moduli₁ file₁ moduli₂ file₂ : List ℕ} where
   module _ {words₀ number place words : ℕ} {file : List ℕ} (w₁ : Walked false tables file₀ records (length records) judged moduli₁ file₁)
@@ -106,15 +106,15 @@ module _ {records : List Record} {tables file₀ : List ℕ} {judged laid : Pen}
     Call = WriteCall records tables file₀ words₀ number place file words
 
     -- refused: nothing was touched
-    refused-call : {reason : Refusal} {at : ℕ} → Meets (writeChecked records tables (length file₀)) (Refused reason at) → settled ≡ unsettled (Refused reason at) → Call
+    refused-call : {reason : Refusal} {at : ℕ} → Refused reason at ≡ writeChecked records tables (length file₀) → settled ≡ unsettled (Refused reason at) → Call
     refused-call {reason} {at} m e =
         let off : settled .lay ≡ false = ap (λ (s : Settled). s .lay) e in
         let so : settled .answer ≡ Refused reason at = ap (λ (s : Settled). s .answer) e in
         let same : file ≡ file₀ = f .fileIs ∙ ap (λ (b : Bool). cond b (putWord file₂ (laid .at) (wordOf End)) file₂) off ∙ kept-file w₂ off ∙ kept-file w₁ refl in
         record {
-          answer = meets-reports m (f .numberIs ∙ ap numberIn so) (f .placeIs ∙ ap placeIn so);
-          fileIs = same ∙ afterwards-refused m _ file₀;
-          wordsIs = f .wordsIs ∙ ap (λ (b : Bool). cond b (settled .words) words₀) off ∙ afterwards-refused m _ words₀;
+          answer = told m (f .numberIs ∙ ap numberIn so) (f .placeIs ∙ ap placeIn so);
+          fileIs = same ∙ afterwards-refused (sym m) _ file₀;
+          wordsIs = f .wordsIs ∙ ap (λ (b : Bool). cond b (settled .words) words₀) off ∙ afterwards-refused (sym m) _ words₀;
         }
 
     -- accepted: the words stand at the front
@@ -122,7 +122,7 @@ module _ {records : List Record} {tables file₀ : List ℕ} {judged laid : Pen}
         → settled .answer ≡ Accepted → settled .lay ≡ true → settled .words ≡ length (ws ++ (wordOf End ∷ [])) → laid .at ≡ length ws → file₂ ≡ front ws file₁ → Call
     accepted-call ws e room so lays count at laid-so =
         let all : List ℕ = ws ++ (wordOf End ∷ []) in
-        let m : Meets (writeChecked records tables (length file₀)) Accepted = checks-met records tables (length file₀) e room in
+        let m : Accepted ≡ writeChecked records tables (length file₀) = checks-met records tables (length file₀) e room in
         let same : file₁ ≡ file₀ = kept-file w₁ refl in
         let written-so : file ≡ front all file₀ =
         f .fileIs ∙ ap (λ (b : Bool). cond b (putWord file₂ (laid .at) (wordOf End)) file₂) lays
@@ -131,11 +131,11 @@ module _ {records : List Record} {tables file₀ : List ℕ} {judged laid : Pen}
         ∙ put-front ws file₀ (wordOf End) (leb-true (4 * length all) (length file₀) room) in
         let words-so : wordsWritten records tables ≡ all = words-are records tables (length file₀) e in
         record {
-          answer = meets-reports m (f .numberIs ∙ ap numberIn so) (f .placeIs ∙ ap placeIn so);
-          fileIs = written-so ∙ ap (λ (l : List ℕ). front l file₀) (sym words-so) ∙ afterwards-accepted m _ file₀;
+          answer = told m (f .numberIs ∙ ap numberIn so) (f .placeIs ∙ ap placeIn so);
+          fileIs = written-so ∙ ap (λ (l : List ℕ). front l file₀) (sym words-so) ∙ sym (afterwards-passed (sym m) _ file₀);
           wordsIs =
               f .wordsIs ∙ ap (λ (b : Bool). cond b (settled .words) words₀) lays ∙ count ∙ ap length (sym words-so)
-              ∙ afterwards-accepted m _ words₀;
+              ∙ sym (afterwards-passed (sym m) _ words₀);
         }
 
     -- the second walk has laid the words that the first has judged

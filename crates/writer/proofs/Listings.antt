@@ -17,10 +17,9 @@ use Rattle.residue.proofs.Moduli.{isPrime→Prime}
 use Rattle.checks.specs.declared.Refusal.{Refusal}
 use Rattle.checks.specs.declared.Answer.{Answer}
 use Rattle.checks.specs.declared.Answer.the-variants.{Accepted, Refused}
-use Rattle.checks.specs.Combined.{followed}
-use Rattle.checks.specs.Checked.{Checked, Meets}
-use Rattle.checks.proofs.Passed.{andThen-left, andThen-right}
-use Rattle.checks.proofs.Answers.{meets-accepted, meets-answered, meets-andThen, afterwards-accepted, afterwards-refused}
+use Rattle.checks.specs.Checked.{andThen}
+use Rattle.checks.proofs.Passed.{andThen-left, andThen-right, afterwards-passed}
+use Rattle.checks.proofs.Answers.{afterwards-refused}
 use Rattle.words.specs.Bits.{wordAt, image}
 use Rattle.words.specs.declared.gate.Projection.{Projection}
 use Rattle.words.specs.declared.gate.Gate.{Gate}
@@ -36,7 +35,7 @@ use Rattle.circuit.proofs.Accepted.{accepted}
 use Rattle.counts.specs.Counts.{Counts}
 use Rattle.counts.proofs.Wires.{wire-at, padded-modulus}
 use Rattle.session.specs.Session.{fileChecked, lengthsChecked}
-use Rattle.session.proofs.Sessions.{file-accepted, lengths-same}
+use Rattle.session.proofs.Sessions.{lengths-same}
 use Rattle.session.proofs.LentLengths.{lengths-met}
 use Rattle.session.proofs.Circuits.{made-is, given-is}
 use Rattle.writer.specs.declared.entry.Record.{Record}
@@ -293,10 +292,10 @@ module _ {file : List ℕ} {circuit : Circuit} {bytes : ℕ} (fills : Fills file
 -- ---- the call: the reader's answer, and then that of the lengths
 
 module _ {reading : Reading} (file : List ℕ) (room : ℕ) (tables₀ : List ℕ) (h : Holds reading (readFile file)) {entries : ℕ} {records images lent answer : Answer}
-    (one : Meets (lengthsChecked (room ∷ []) ((reading .circuit .made + reading .circuit .given) ∷ [])) records)
+    (one : records ≡ lengthsChecked (room ∷ []) ((reading .circuit .made + reading .circuit .given) ∷ []))
     (counted : Counts 261120 (entriesIn (wiresIn (reading .circuit))) entries)
-    (two : Meets (lengthsChecked (length tables₀ ∷ []) (entries ∷ [])) images)
-    (both : lent ≡ followed records images) (joined : answer ≡ followed (reading .answer) lent) where
+    (two : images ≡ lengthsChecked (length tables₀ ∷ []) (entries ∷ []))
+    (both : lent ≡ andThen records images) (joined : answer ≡ andThen (reading .answer) lent) where
   -- the lengths that are wanted
   records-long : reading .circuit .made + reading .circuit .given ≡ length (recordsRead file)
   unfolding recordsRead
@@ -306,29 +305,29 @@ module _ {reading : Reading} (file : List ℕ) (room : ℕ) (tables₀ : List �
   unfolding tablesRead
   images-long = counted .is ∙ ap entriesIn (h .wires) ∙ sym (length-tables file (readFile file .wires))
 
-  abbrev lengths : Checked
+  abbrev lengths : Answer
   lengths = lengthsChecked (room ∷ length tables₀ ∷ []) (length (recordsRead file) ∷ length (tablesRead file) ∷ [])
 
-  lengths-are : Meets lengths lent
+  lengths-are : lent ≡ lengths
   lengths-are =
-      subst (λ (l : List ℕ). Meets (lengthsChecked (room ∷ length tables₀ ∷ []) l) lent) (ap₂ (λ (a b : ℕ). a ∷ b ∷ []) records-long images-long)
-      (lengths-met room (reading .circuit .made + reading .circuit .given) (length tables₀ ∷ []) (entries ∷ []) one two both)
+      lengths-met room (reading .circuit .made + reading .circuit .given) (length tables₀ ∷ []) (entries ∷ []) one two both
+      ∙ ap (lengthsChecked (room ∷ length tables₀ ∷ [])) (ap₂ (λ (a b : ℕ). a ∷ b ∷ []) records-long images-long)
 
-  checks-met : Meets (recordsChecked file room (length tables₀)) answer
-  unfolding recordsChecked fileChecked
-  checks-met = rw (joined, h .answer) (meets-andThen (meets-answered (readFile file .answer)) (λ _. lengths-are))
+  checks-met : answer ≡ recordsChecked file room (length tables₀)
+  unfolding recordsChecked
+  checks-met = joined ∙ ap₂ andThen (h .answer) lengths-are
 
   module _ (e : answer ≡ Accepted) where
-    met : Meets (recordsChecked file room (length tables₀)) Accepted
-    met = subst (Meets (recordsChecked file room (length tables₀))) e checks-met
+    all : recordsChecked file room (length tables₀) ≡ Accepted
+    all = sym checks-met ∙ e
 
     read-accepted : readFile file .answer ≡ Accepted
     unfolding recordsChecked
-    read-accepted = file-accepted file (andThen-left (fileChecked file) lengths (meets-accepted met))
+    read-accepted = andThen-left (fileChecked file) lengths all
 
     same : (room ∷ length tables₀ ∷ []) ≡ (length (recordsRead file) ∷ length (tablesRead file) ∷ [])
     unfolding recordsChecked
-    same = lengths-same _ _ (andThen-right (fileChecked file) lengths (meets-accepted met))
+    same = lengths-same _ _ (andThen-right (fileChecked file) lengths all)
 
     room-is : room ≡ reading .circuit .made + reading .circuit .given
     room-is = ap (λ (l : List ℕ). getD l 0 0) same ∙ sym records-long
@@ -352,14 +351,14 @@ module _ {reading : Reading} (file : List ℕ) (room : ℕ) (tables₀ : List �
     unfolding recordsRead tablesRead
     ends-listed {fields} {tables} r t =
         record {
-          answer = met;
-          countIs = afterwards-accepted met room 0;
+          answer = sym all;
+          countIs = sym (afterwards-passed all room 0);
           recordsAre =
               ap (λ (n : ℕ). tab n (recordFrom fields)) room-is
               ∙ r
               ∙ ap₂ recordsOf (h .wires) (h .outputs)
-              ∙ afterwards-accepted met (recordsRead file) [];
-          tablesAre = t ∙ ap (tablesOf file) (h .wires) ∙ afterwards-accepted met (tablesRead file) tables₀;
+              ∙ sym (afterwards-passed all (recordsRead file) []);
+          tablesAre = t ∙ ap (tablesOf file) (h .wires) ∙ sym (afterwards-passed all (tablesRead file) tables₀);
         }
 
   -- refused: no record, and the tables are as they were
@@ -367,10 +366,10 @@ module _ {reading : Reading} (file : List ℕ) (room : ℕ) (tables₀ : List �
       → Listing file room tables₀ (record { answer = Refused reason place; count = 0 }) fields tables₀
   unfolding blocks
   ends-refused {fields} {reason} {place} e =
-      let m : Meets (recordsChecked file room (length tables₀)) (Refused reason place) = subst (Meets (recordsChecked file room (length tables₀))) e checks-met in
+      let all : recordsChecked file room (length tables₀) ≡ Refused reason place = sym checks-met ∙ e in
       record {
-        answer = m;
-        countIs = afterwards-refused m room 0;
-        recordsAre = afterwards-refused m (recordsRead file) [];
-        tablesAre = afterwards-refused m (tablesRead file) tables₀;
+        answer = sym all;
+        countIs = afterwards-refused all room 0;
+        recordsAre = afterwards-refused all (recordsRead file) [];
+        tablesAre = afterwards-refused all (tablesRead file) tables₀;
       }

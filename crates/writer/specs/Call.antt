@@ -8,7 +8,7 @@ use lib.ListN.{length, drop}
 use Rattle.checks.specs.declared.Answer.{Answer}
 use Rattle.checks.specs.declared.Answer.the-variants.{Accepted, Refused}
 use Rattle.checks.specs.declared.Refusal.the-variants.{TooShort}
-use Rattle.checks.specs.Checked.{Checked, Reports, answered, andThen, unless, afterwards}
+use Rattle.checks.specs.Checked.{Reports, andThen, unless, afterwards}
 use Rattle.words.specs.Encode.{fileOf}
 use Rattle.circuit.specs.File.{readFile}
 use Rattle.session.specs.Session.{fileChecked, lengthsChecked}
@@ -30,8 +30,8 @@ module _ (records : List Record) (tables : List ℕ) where
   unfoldable pub wordsWritten : List ℕ
   wordsWritten = wordsOf (writeRecords records tables)
 
-  unfoldable pub writeChecked : ℕ → Checked
-  writeChecked size = andThen (answered (answerOf (writeRecords records tables))) (unless (leb (4 * length wordsWritten) size) TooShort 0)
+  unfoldable pub writeChecked : ℕ → Answer
+  writeChecked size = andThen (answerOf (writeRecords records tables)) (unless (leb (4 * length wordsWritten) size) TooShort 0)
 
   -- the number and place that it answers; the words stand at the front of the buffer, and all bytes past them are as they were
   pub record WriteCall (file₀ : List ℕ) (words₀ number place : ℕ) (file : List ℕ) (words : ℕ) : Type 0 where
@@ -48,7 +48,7 @@ module _ (file : List ℕ) where
   tablesRead = tablesOf file (readFile file .wires)
 
   -- 1 to 10, and then 14 unless both lent lengths are those of the list and of the tables
-  unfoldable pub recordsChecked : ℕ → ℕ → Checked
+  unfoldable pub recordsChecked : ℕ → ℕ → Answer
   recordsChecked count size = andThen (fileChecked file) (lengthsChecked (count ∷ size ∷ []) (length recordsRead ∷ length tablesRead ∷ []))
 
   pub record RecordsCall (records₀ : List Record) (tables₀ : List ℕ) (number place : ℕ) (records : List Record) (tables : List ℕ) : Type 0 where

@@ -5,7 +5,7 @@ use mathlib.Core.List.{List, [], _∷_}
 use Prim.Native.Nat.{ℕ, _+_, _*_, _≤_, _<_}
 use lib.ListN.{length}
 use Rattle.lists.specs.Blocks.{tab, sumTo}
-use Rattle.checks.specs.Checked.{Meets, afterwards}
+use Rattle.checks.specs.Checked.{afterwards}
 use Rattle.words.specs.Bits.{wordAt, image}
 use Rattle.words.specs.declared.gate.Projection.{Projection}
 use Rattle.words.specs.declared.gate.Gate.{Gate}
@@ -21,7 +21,7 @@ use Rattle.writer.specs.Call.{recordsRead, tablesRead, recordsChecked}
 
 -- the answer; the numbers of as many records as there is room for, and the tables; where the call is refused no record, and the tables as they were
 pub record Listing (file : List ℕ) (room : ℕ) (tables₀ : List ℕ) (listed : Listed) (fields tables : List ℕ) : Type 0 where
-  pub answer : Meets (recordsChecked file room (length tables₀)) (listed .answer)
+  pub answer : listed .answer ≡ recordsChecked file room (length tables₀)
   pub countIs : listed .count ≡ afterwards (recordsChecked file room (length tables₀)) room 0
   pub recordsAre : tab (listed .count) (recordFrom fields) ≡ afterwards (recordsChecked file room (length tables₀)) (recordsRead file) []
   pub tablesAre : tables ≡ afterwards (recordsChecked file room (length tables₀)) (tablesRead file) tables₀

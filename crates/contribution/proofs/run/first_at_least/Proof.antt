@@ -11,4 +11,4 @@ first-at-least-spec =
     (λ c κs. search needs)
     (λ c. bounded-none (c .before .bound .ensures) (c .if1 .taken))
     (λ c κs. search needs)
-    (λ c. search needs))
+    (λ c. c .searched .ensures))
