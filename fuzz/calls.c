@@ -5,7 +5,7 @@
  * An input is a head, `struct head`, and a circuit file. The file is lent as it stands, or mended into one that the reader must accept, or
  * mended and then damaged in one place. Each call is made once with loose lengths and contents. The file's words are written again from
  * their records, as they are and with one fault each. Where the circuit is accepted and n, K and party are in range, a whole round is
- * played, and then some of its calls again with one fault each, whose answer is known.
+ * played, and then some of its calls again with one fault each, or two bytes too large, whose answer is known.
  *
  * Every buffer lies against a page that faults when it is touched; what a call only reads is lent by a mapping that faults when it is
  * written. What a call writes is filled first with 255, which is below no modulus: so a byte that an accepted call leaves out shows, and so
@@ -956,7 +956,7 @@ static void play(void) {
     rounds++;
 }
 
-/* ---- calls of the round again, each with one fault; all else is right, so the answer is known */
+/* ---- calls of the round again, each with one fault or two bytes too large; all else is right, so the answer is known */
 
 enum { BAD_N, BAD_K, BAD_PARTY, OWNER_ABSENT, BAD_LENGTH, BAD_BYTE, ZERO_OFFSET, OTHER_KEY, OTHER_ROW, FULL_METER, FAULT_KINDS };
 COUNTERS static uint8_t met_fault[CALLS][FAULT_KINDS];
@@ -1012,14 +1012,19 @@ static void change(struct buffer *b, size_t at, int too_large, uint16_t by) {
     bytes(b)[at] = (uint8_t)(too_large ? p + by % (256 - p) : (was + 1 + by % (p - 1)) % p);
 }
 
-static void spoil_byte(enum call c, struct fault f) {
+/* Two bytes too large, the second at or behind the first, or of a row, anywhere, where the first is a key's: the first is named. */
+static void spoil_bytes(enum call c, struct fault f) {
     struct buffer *b = one_of(c, f, 0);
     if (b->length == 0)
         return;
+    struct buffer *then = b == &keys && rows.length > 0 && drawn(2) ? &rows : b;
     const size_t at = drawn((uint32_t)b->length);
-    const uint8_t was = bytes(b)[at];
+    const size_t behind = then == b ? at + drawn((uint32_t)(b->length - at)) : drawn((uint32_t)rows.length);
+    const uint8_t was = bytes(b)[at], was_behind = bytes(then)[behind];
+    change(then, behind, 1, drawn(256));
     change(b, at, 1, f.where / 8);
     must(c, b == &keys || b == &rows ? 18 : b == &contribution || b == &contributions ? 16 : 15, at);
+    bytes(then)[behind] = was_behind;
     bytes(b)[at] = was;
 }
 
@@ -1081,7 +1086,7 @@ static void spoil(struct fault f) {
     else if (f.kind == BAD_LENGTH)
         spoil_length(c, f);
     else if (f.kind == BAD_BYTE)
-        spoil_byte(c, f);
+        spoil_bytes(c, f);
     else if (f.kind == ZERO_OFFSET)
         spoil_offset(c, f);
     else if (f.kind == FULL_METER)

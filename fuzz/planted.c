@@ -6,7 +6,7 @@
 #include <stdlib.h>
 #include <string.h>
 
-enum { FAULTS = 21 }; /* fuzz/run reads this line */
+enum { FAULTS = 22 }; /* fuzz/run reads this line */
 
 #define FILE_PARAMETERS const uint8_t *file, size_t length
 #define READ_ONLY(name) const uint8_t *name, size_t name##_length
@@ -68,6 +68,9 @@ lupiknam_answer lupiknam_garble(FILE_PARAMETERS, uint32_t n, uint32_t k, READ_ON
         output_masks[output_masks_length] = 0;
     if (planted(8) && a.number == 0 && rows_length > 0) // the last byte not written
         rows[rows_length - 1] = 255;
+    if (planted(22) && a.number == 16) // a bad byte behind the lowest
+        for (size_t i = a.place; i < contributions_length; i++)
+            a.place = contributions[i] > 250 ? i : a.place;
     return a;
 }
 

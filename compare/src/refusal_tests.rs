@@ -1,4 +1,4 @@
-//! The order of the refusals of garbling and opening.
+//! The order and the places of the refusals of garbling, input keys and opening.
 
 use crate::circuit::{Refusal, read};
 use crate::contribution::length;
@@ -83,6 +83,16 @@ fn garbling_judges_bytes_then_offsets_then_the_meter() {
     assert_eq!(garbled(&setting, u32::MAX), Err((11, 0)));
 }
 
+/// From the last byte on, one after another too large: each is the lowest of all that are.
+#[test]
+fn garbling_names_the_lowest_byte_of_all_contributions() {
+    let mut setting = setting();
+    for at in (0..2 * EACH).rev() {
+        setting.contributions[at] = 5;
+        assert_eq!(garbled(&setting, u32::MAX), Err((16, at)));
+    }
+}
+
 /// What party 0 opens with, in a round with no fault.
 struct Opening {
     setting: Setting,
@@ -156,4 +166,55 @@ fn opening_judges_bytes_then_own_keys_then_gates() {
     assert_eq!(opened(&opening), (Err((15, 1)), [9, 9]));
     opening.keys.pop();
     assert_eq!(opened(&opening), (Err((14, 0)), [9, 9]));
+}
+
+/// Asks for the input keys of party 0; nothing is written where that is refused.
+fn keyed(opening: &Opening) -> Result<(), (u32, usize)> {
+    let own = &opening.setting.contributions[..EACH];
+    let (file, externals) = (&opening.setting.file, &opening.externals);
+    let mut keys = [9; 4];
+    let result = input_keys(file, (2, 2, 0), own, externals, &mut keys);
+    assert_eq!(result.is_err(), keys == [9; 4]);
+    result.map_err(|refusal| (refusal.number, refusal.place))
+}
+
+#[test]
+fn input_keys_and_opening_name_the_lowest_byte_of_the_contribution() {
+    let mut opening = opening();
+    assert_eq!(keyed(&opening), Ok(()));
+    for at in (0..EACH).rev() {
+        opening.setting.contributions[at] = 5;
+        assert_eq!(keyed(&opening), Err((16, at)));
+        assert_eq!(opened(&opening), (Err((16, at)), [9, 9]));
+    }
+}
+
+#[test]
+fn opening_names_the_lowest_key_byte() {
+    let mut opening = opening();
+    for at in (0..opening.keys.len()).rev() {
+        opening.keys[at] = 5;
+        assert_eq!(opened(&opening), (Err((18, at)), [9, 9]));
+    }
+}
+
+#[test]
+fn opening_names_the_lowest_row_byte() {
+    let mut opening = opening();
+    for at in (0..opening.rows.len()).rev() {
+        opening.rows[at] = 5;
+        assert_eq!(opened(&opening), (Err((18, at)), [9, 9]));
+    }
+}
+
+#[test]
+fn opening_names_a_key_byte_before_a_lower_row_byte() {
+    let mut opening = opening();
+    opening.rows[2] = 5;
+    opening.keys[7] = 5;
+    assert_eq!(opened(&opening), (Err((18, 7)), [9, 9]));
+    opening.rows.fill(5);
+    assert_eq!(opened(&opening), (Err((18, 7)), [9, 9]));
+    opening.keys[1] = 2;
+    assert_eq!(opened(&opening), (Err((18, 1)), [9, 9]));
 }

@@ -55,7 +55,8 @@ pub fn check_both_below(one: (&[u8], &[u8]), other: (&[u8], &[u8])) -> Result<()
     refuse_place(lowest, 15)
 }
 
-/// 16: each byte of one or several contributions is below its modulus.
+/// 16: each byte of one or several contributions is below its modulus; the place is the lowest that
+/// is not, counted through all of them.
 pub fn check_contributions(circuit: &Circuit, k: usize, bytes: &[u8]) -> Result<(), Refusal> {
     let moduli = byte_moduli(circuit, k);
     let mut pairs = bytes.iter().zip(moduli.iter().cycle());
@@ -68,14 +69,16 @@ pub fn check_offsets(parties: &[Contribution]) -> Result<(), Refusal> {
     refuse_place(lowest.map(usize::from), 17)
 }
 
-/// 18: each key byte is below its input's modulus. `size` is that of all parties' keys together.
+/// 18: each key byte is below its input's modulus; the place is the lowest that is not. `size` is
+/// that of all parties' keys together.
 pub fn check_keys(circuit: &Circuit, size: usize, keys: &[u8]) -> Result<(), Refusal> {
     let moduli: Vec<u8> = circuit.input_moduli().collect();
     let bad = (0..keys.len()).find(|at| keys[*at] >= moduli[*at / size]);
     refuse_place(bad, 18)
 }
 
-/// 18: each row byte is below the modulus of the wire that the row is for.
+/// 18: each row byte is below the modulus of the wire that the row is for; the place is the lowest
+/// that is not. Keys are judged before.
 pub fn check_rows(circuit: &Circuit, size: usize, rows: &[u8]) -> Result<(), Refusal> {
     let moduli = row_moduli(circuit);
     let bad = (0..rows.len()).find(|at| rows[*at] >= moduli[*at / size]);

@@ -38,7 +38,7 @@ struct Spoiler<'s> {
 impl Spoiler<'_> {
     /// Puts in one fault, or what might be one.
     fn spoil(&mut self, step: &mut Step) {
-        match self.rng.below(20) {
+        match self.rng.below(21) {
             0 => step.n = self.number(step.n, 8),
             1 => step.k = self.number(step.k, 128),
             2 => step.party = self.party(step),
@@ -51,6 +51,7 @@ impl Spoiler<'_> {
             15 => self.move_key(step),
             16 => self.tamper(step),
             17 | 18 => self.meter(step),
+            19 => self.raise_both(step),
             _ => self.file(step),
         }
     }
@@ -108,16 +109,18 @@ impl Spoiler<'_> {
     }
 
     /// Puts other bytes into a buffer that is only read; `byte` gives one from its modulus.
-    fn put(&mut self, step: &mut Step, byte: fn(&mut Rng, u8) -> u8) {
-        let buffer = self.rng.below(self.moduli.len());
+    fn put(&mut self, step: &mut Step, buffer: usize, byte: fn(&mut Rng, u8) -> u8) {
         let length = step.buffers[buffer].len().min(self.moduli[buffer].len());
         if length == 0 {
             return;
         }
+        let mut at = self.rng.below(length);
         for _ in 0..self.rng.pick(&[1, 1, 2, 5]) {
-            let at = match self.rng.below(6) {
+            at = match self.rng.below(7) {
                 0 => 0,
                 1 => length - 1,
+                // Beside the one before, as two in one key or record are rare by chance.
+                2 => at.saturating_sub(1),
                 _ => self.rng.below(length),
             };
             step.buffers[buffer][at] = byte(self.rng, self.moduli[buffer][at]);
@@ -126,15 +129,23 @@ impl Spoiler<'_> {
 
     /// Bytes not below their modulus.
     fn raise(&mut self, step: &mut Step) {
-        self.put(step, |rng, p| {
-            let any = rng.between(usize::from(p), 255) as u8;
-            rng.pick(&[p, p, p + 1, 255, any])
-        });
+        let buffer = self.rng.below(self.moduli.len());
+        self.put(step, buffer, high);
+    }
+
+    /// Such bytes in both keys and rows, which 18 judges one after the other.
+    fn raise_both(&mut self, step: &mut Step) {
+        if step.name != Name::Open {
+            return self.raise(step);
+        }
+        self.put(step, 2, high);
+        self.put(step, 3, high);
     }
 
     /// Other bytes below their modulus.
     fn change(&mut self, step: &mut Step) {
-        self.put(step, |rng, p| rng.below(usize::from(p)) as u8);
+        let buffer = self.rng.below(self.moduli.len());
+        self.put(step, buffer, |rng, p| rng.below(usize::from(p)) as u8);
     }
 
     /// Bits anywhere in any buffer, or now and then one byte all over a buffer.
@@ -251,4 +262,10 @@ impl Spoiler<'_> {
             _ => {}
         }
     }
+}
+
+/// A byte not below this modulus.
+fn high(rng: &mut Rng, p: u8) -> u8 {
+    let any = rng.between(usize::from(p), 255) as u8;
+    rng.pick(&[p, p, p + 1, 255, any])
 }

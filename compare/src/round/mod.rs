@@ -5,9 +5,9 @@ mod difference;
 mod engine;
 mod faults;
 mod loose;
-mod places;
 mod run;
 mod second;
+mod several;
 mod step;
 mod tally;
 

@@ -2,7 +2,7 @@
 
 use super::chain::Made;
 use super::difference::Difference;
-use super::places::agree;
+use super::several::sorts;
 use super::step::{NAMES, Name, Step};
 use std::collections::BTreeMap;
 use std::process::ExitCode;
@@ -10,7 +10,8 @@ use std::process::ExitCode;
 /// How many differences are printed; the others are counted.
 const SHOWN: usize = 5;
 
-/// A run of this many cases must meet every refusal that each call can give.
+/// A run of this many cases must meet every refusal that each call can give, and 16 and 18 with
+/// several bytes too large.
 const THOROUGH: u64 = 1000;
 
 #[derive(Default)]
@@ -23,6 +24,8 @@ pub struct Tally {
     failed: u64,
     /// How often each call gave each number, 0 where it was accepted.
     met: BTreeMap<(Name, u32), u64>,
+    /// How often a call was refused by 16 or 18 with several bytes too large, and where these were.
+    several: BTreeMap<(Name, &'static str), u64>,
     /// Of each sort of difference, the smallest one.
     smallest: BTreeMap<(&'static str, u32, u32), Difference>,
 }
@@ -33,7 +36,10 @@ impl Tally {
         self.calls += 1;
         let answer = (step.name, made.ours.answer.number);
         *self.met.entry(answer).or_default() += 1;
-        if agree(step, made) {
+        for (sort, is) in sorts(step, made.ours.answer.number) {
+            *self.several.entry((step.name, sort)).or_default() += u64::from(is);
+        }
+        if made.ours == made.engines {
             return;
         }
         self.differences += 1;
@@ -69,13 +75,15 @@ impl Tally {
         }
     }
 
-    /// Prints the counts; the run failed if anything differs, or if a long run missed a refusal.
+    /// Prints the counts; the run failed if anything differs, or if a long run missed a refusal or a
+    /// sort of several bytes too large.
     pub fn report(mut self) -> ExitCode {
         let count = self.passed + self.failed;
         let mut missed = Vec::new();
         for name in NAMES {
             missed.extend(self.line(name));
         }
+        missed.extend(self.line_of_several());
         println!(
             "{} rounds, {} of them wrong; {} calls, {} differences",
             self.rounds, self.wrong_rounds, self.calls, self.differences
@@ -107,5 +115,19 @@ impl Tally {
         }
         println!();
         missed
+    }
+
+    /// Prints how often several bytes were too large, and gives the sorts never met. Those of a
+    /// refusal that was never met are not listed: it is missed itself.
+    fn line_of_several(&self) -> Vec<String> {
+        let line = |((name, sort), times): (&(Name, &str), &u64)| {
+            format!("{} {sort}: {times}", name.text())
+        };
+        let counts: Vec<String> = self.several.iter().map(line).collect();
+        println!("several bytes too large: {}", counts.join(", "));
+        let never = self.several.iter().filter(|(_, times)| **times == 0);
+        never
+            .map(|((name, sort), _)| format!("{}, several bytes {sort}", name.text()))
+            .collect()
     }
 }
