@@ -78,10 +78,10 @@ extern "C" {
  *   13      owner of an input not below the number of parties                 wire, the lowest such
  *   14      a lent length is not exact                                        0
  *   15      value, external value or mask not below its modulus               its index in its buffer, the lowest such
- *   16      byte of a contribution not below its modulus                      index of some such byte
+ *   16      byte of a contribution not below its modulus                      its index in its buffer, the lowest such
  *   17      an offset is zero                                                 its modulus, the lowest such
- *   18      byte of a key or of a row not below its modulus                   index in its buffer of some such byte, of a key if
- *                                                                             there is one
+ *   18      byte of a key or of a row not below its modulus                   its index in its buffer, the lowest such; of a key
+ *                                                                             if any key byte is too large
  *   19      own input key is not zero key plus external value times offset    wire, the lowest such
  *   20      no multiplier fits the key that a gate's rows give                wire, the lowest such
  *   21      row meter would pass 4,294,967,295                                0
