@@ -129,7 +129,7 @@ static void make_room(uint32_t n, uint32_t k) {
 
 static void garble(void) {
     uint32_t meter = 0;
-    must(lupiknam_garble(r.file, r.file_length, r.n, r.k, r.contributions, r.n * r.contribution, r.row_bytes, r.rows_length,
+    must(lupiknam_garble(r.file, r.file_length, r.n, r.k, 0, r.contributions, r.n * r.contribution, r.row_bytes, r.rows_length,
                          r.input_masks, r.inputs, r.output_masks, r.outputs, &meter),
          "garble");
 }
@@ -162,7 +162,7 @@ static void input_keys(uint32_t party) {
 }
 
 static void open_at_0(void) {
-    must(lupiknam_open(r.file, r.file_length, r.n, r.k, 0, r.contributions, r.contribution, r.externals, r.inputs, r.keys, r.keys_length,
+    must(lupiknam_open(r.file, r.file_length, r.n, r.k, 0, 0, r.contributions, r.contribution, r.externals, r.inputs, r.keys, r.keys_length,
                        r.row_bytes, r.rows_length, r.wire_keys, r.wire_keys_length, r.wire_externals, r.wires),
          "open");
 }
@@ -183,9 +183,9 @@ static void play_round(void) {
     }
 }
 
-// 13 + K bytes and the padding are taken in, 8K bytes given out, 136 at a time; the first block out needs no permutation of its own
+// 17 + K bytes and the padding are taken in, 8K bytes given out, 136 at a time; the first block out needs no permutation of its own
 static size_t permutations(uint32_t rows) {
-    size_t pad = (13 + r.k) / 136 + 1 + (8 * r.k + 135) / 136 - 1;
+    size_t pad = (17 + r.k) / 136 + 1 + (8 * r.k + 135) / 136 - 1;
     return (size_t)rows * r.n * r.n * pad;
 }
 

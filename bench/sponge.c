@@ -31,8 +31,8 @@ static double median(double *times) {
 }
 
 static uint64_t state[25], out[128];
-// what a pad's input has before the key: modulus, wire, component and receiver are 0
-static uint8_t prefix[13] = "ROWPAD", key[128];
+// what a pad's input has before the key: round, modulus, wire, component and receiver are 0
+static uint8_t prefix[17] = "ROWPAD", key[128];
 static size_t numbers;
 
 // OpenSSL's interface, loaded at run time: the bench needs no headers of it

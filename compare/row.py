@@ -1,7 +1,7 @@
 #!/usr/bin/env python3
 """Prints the two rows of the circuit in crates/examples/specs/Row.antt, for both receivers: a bit projected to 7 and 200 modulo 251, two
-parties, key length 1. Written from document 01; SHAKE256 is python's hashlib. Row 0 must be the one that is written there, which the prover
-computes from the definitions."""
+parties, key length 1, round 0x04030201. Written from documents 01 and 02 (order 3); SHAKE256 is python's hashlib. Row 0 must be the one that
+is written there, which the prover computes from the definitions."""
 import hashlib
 import pathlib
 import re
@@ -9,10 +9,11 @@ import re
 # of each party: offsets modulo 2 and 251; zero key and mask share of the bit; zero key and mask share of its image
 CONTRIBUTIONS = [[1, 100, 1, 0, 33, 17], [1, 9, 0, 1, 250, 90]]
 IMAGES = [7, 200]
+ROUND = 0x04030201
 
 
 def pad(modulus, wire, component, receiver, key, q):
-    taken = b"ROWPAD" + bytes([modulus]) + wire.to_bytes(4, "little") + bytes([component, receiver, key])
+    taken = b"ROWPAD" + ROUND.to_bytes(4, "little") + bytes([modulus]) + wire.to_bytes(4, "little") + bytes([component, receiver, key])
     return int.from_bytes(hashlib.shake_256(taken).digest(8), "little") % q
 
 

@@ -47,12 +47,12 @@ struct head {
     uint8_t lying; /* bit 0: buffers begin, not end, at a guard page; bit 1: an empty buffer is NULL */
     uint8_t style; /* how contributions are drawn */
     uint8_t loose; /* what loose calls are filled with */
-    uint32_t n, k, party, meter, seed, damage;
+    uint32_t n, k, party, meter, seed, damage, round;
     struct fault faults[FAULTS];
 };
 
 static struct head head;
-_Static_assert(sizeof head == 44, "fuzz/run writes heads of 44 bytes");
+_Static_assert(sizeof head == 48, "fuzz/run writes heads of 48 bytes");
 
 static uint64_t random_state;
 
@@ -172,7 +172,7 @@ static size_t entries; /* of all tables */
 static uint8_t primes[PRIMES], modulus[MOST_WIRES], owner[MOST_WIRES], records_of[MOST_WIRES], row_modulus[MOST_ROWS];
 static uint8_t contribution_modulus[128 * PRIMES + 129 * 3 * MOST_WIRES];
 static uint16_t output_wire[MOST_OUTPUTS], own_wire[MOST_WIRES];
-static uint32_t n, k, party, opened_rows, own;
+static uint32_t n, k, party, round_number, opened_rows, own;
 
 static int is_prime(unsigned m) {
     return memchr(primes, (int)m, PRIMES) != NULL && m != 0;
@@ -346,14 +346,14 @@ static lupiknam_answer call(enum call c) {
     case PLAIN:
         return lupiknam_plain(f, file.length, IN(values), OUT(figures));
     case GARBLE:
-        return lupiknam_garble(f, file.length, n, k, IN(contributions), OUT(rows), OUT(input_masks), OUT(output_masks), m);
+        return lupiknam_garble(f, file.length, n, k, round_number, IN(contributions), OUT(rows), OUT(input_masks), OUT(output_masks), m);
     case EXTERNALS:
         return lupiknam_externals(f, file.length, n, party, IN(own_values), IN(own_masks), OUT(own_externals));
     case INPUT_KEYS:
         return lupiknam_input_keys(f, file.length, n, k, party, IN(contribution), IN(externals), OUT(own_keys));
     case OPEN:
-        return lupiknam_open(f, file.length, n, k, party, IN(contribution), IN(externals), IN(keys), IN(rows), OUT(wire_keys),
-            OUT(wire_externals));
+        return lupiknam_open(f, file.length, n, k, party, round_number, IN(contribution), IN(externals), IN(keys), IN(rows),
+            OUT(wire_keys), OUT(wire_externals));
     case DECODE:
         return lupiknam_decode(f, file.length, IN(wire_externals), IN(output_masks), OUT(decoded));
     case RECORDS:
@@ -614,7 +614,7 @@ static void read_file(const uint8_t *data, size_t size) {
 /* ---- loose calls: lengths right or nearly so or any, contents all one byte */
 
 static int dear(void) {
-    const uint64_t pad = (13 + (uint64_t)k) / 136 + (8 * (uint64_t)k + 135) / 136;
+    const uint64_t pad = (17 + (uint64_t)k) / 136 + (8 * (uint64_t)k + 135) / 136;
     return (counts.rows + (uint64_t)n * opened_rows) * n * n * pad > MOST_PERMUTATIONS;
 }
 
@@ -958,7 +958,7 @@ static void play(void) {
 
 /* ---- calls of the round again, each with one fault or two bytes too large; all else is right, so the answer is known */
 
-enum { BAD_N, BAD_K, BAD_PARTY, OWNER_ABSENT, BAD_LENGTH, BAD_BYTE, ZERO_OFFSET, OTHER_KEY, OTHER_ROW, FULL_METER, FAULT_KINDS };
+enum { BAD_N, BAD_K, BAD_PARTY, OWNER_ABSENT, BAD_LENGTH, BAD_BYTE, ZERO_OFFSET, OTHER_KEY, OTHER_ROW, OTHER_ROUND, FULL_METER, FAULT_KINDS };
 COUNTERS static uint8_t met_fault[CALLS][FAULT_KINDS];
 
 static const uint32_t odd_numbers[] = {0, 129, 255, 256, 258, 1 << 16 | 3, UINT32_MAX, 1u << 31 | 2, 1u << 24 | 16};
@@ -1058,6 +1058,17 @@ static void spoil_opening(struct fault f) {
     bytes(b)[at] = was;
 }
 
+/* Opening in another round than garbling: no byte that is lent is wrong, so it is accepted or meets 20. */
+static void spoil_round(struct fault f) {
+    static const uint32_t bits[] = {1, 1 << 8, 1 << 16, 1u << 31, UINT32_MAX};
+    const uint32_t was = round_number;
+    round_number ^= bits[f.where % 5];
+    lupiknam_answer a = make(OPEN);
+    check(a.number == 0 || a.number == 20, "opening in another round is accepted or meets 20");
+    check(opened_rows > 0 || a.number == 0, "the round matters to rows alone");
+    round_number = was;
+}
+
 static void spoil_meter(struct fault f) {
     uint32_t full = UINT32_MAX - counts.rows;
     if (counts.rows > 0 && f.where & 1)
@@ -1089,6 +1100,8 @@ static void spoil(struct fault f) {
         spoil_bytes(c, f);
     else if (f.kind == ZERO_OFFSET)
         spoil_offset(c, f);
+    else if (f.kind == OTHER_ROUND)
+        spoil_round(f);
     else if (f.kind == FULL_METER)
         spoil_meter(f);
     else
@@ -1137,7 +1150,7 @@ int LLVMFuzzerTestOneInput(const uint8_t *data, size_t size) {
         return 0;
     memcpy(&head, data, sizeof head);
     random_state = head.seed;
-    n = head.n, k = head.k, party = head.party;
+    n = head.n, k = head.k, party = head.party, round_number = head.round;
     if (head.mode % 4 != 0) {
         n = 2 + n % 7;
         k = 1 + k % 128;

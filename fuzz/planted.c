@@ -6,7 +6,7 @@
 #include <stdlib.h>
 #include <string.h>
 
-enum { FAULTS = 22 }; /* fuzz/run reads this line */
+enum { FAULTS = 24 }; /* fuzz/run reads this line */
 
 #define FILE_PARAMETERS const uint8_t *file, size_t length
 #define READ_ONLY(name) const uint8_t *name, size_t name##_length
@@ -15,13 +15,13 @@ enum { FAULTS = 22 }; /* fuzz/run reads this line */
 lupiknam_answer engine_read(FILE_PARAMETERS, uint32_t *, uint32_t *, uint32_t *, uint32_t *, uint32_t *, uint32_t *);
 lupiknam_answer engine_inputs_of(FILE_PARAMETERS, uint32_t, uint32_t, uint32_t *);
 lupiknam_answer engine_plain(FILE_PARAMETERS, READ_ONLY(values), WRITTEN(outputs));
-lupiknam_answer engine_garble(FILE_PARAMETERS, uint32_t, uint32_t, READ_ONLY(contributions), WRITTEN(rows), WRITTEN(input_masks),
+lupiknam_answer engine_garble(FILE_PARAMETERS, uint32_t, uint32_t, uint32_t, READ_ONLY(contributions), WRITTEN(rows), WRITTEN(input_masks),
     WRITTEN(output_masks), uint32_t *);
 lupiknam_answer engine_externals(FILE_PARAMETERS, uint32_t, uint32_t, READ_ONLY(values), READ_ONLY(masks), WRITTEN(externals));
 lupiknam_answer engine_input_keys(FILE_PARAMETERS, uint32_t, uint32_t, uint32_t, READ_ONLY(contribution), READ_ONLY(externals),
     WRITTEN(keys));
-lupiknam_answer engine_open(FILE_PARAMETERS, uint32_t, uint32_t, uint32_t, READ_ONLY(contribution), READ_ONLY(externals), READ_ONLY(keys),
-    READ_ONLY(rows), WRITTEN(wire_keys), WRITTEN(wire_externals));
+lupiknam_answer engine_open(FILE_PARAMETERS, uint32_t, uint32_t, uint32_t, uint32_t, READ_ONLY(contribution), READ_ONLY(externals),
+    READ_ONLY(keys), READ_ONLY(rows), WRITTEN(wire_keys), WRITTEN(wire_externals));
 lupiknam_answer engine_decode(FILE_PARAMETERS, READ_ONLY(externals), READ_ONLY(masks), WRITTEN(outputs));
 lupiknam_answer engine_records(FILE_PARAMETERS, lupiknam_record *, size_t, WRITTEN(tables));
 lupiknam_answer engine_write(const lupiknam_record *, size_t, READ_ONLY(tables), WRITTEN(file), uint32_t *);
@@ -58,9 +58,11 @@ lupiknam_answer lupiknam_plain(FILE_PARAMETERS, READ_ONLY(values), WRITTEN(outpu
     return a;
 }
 
-lupiknam_answer lupiknam_garble(FILE_PARAMETERS, uint32_t n, uint32_t k, READ_ONLY(contributions), WRITTEN(rows), WRITTEN(input_masks),
-    WRITTEN(output_masks), uint32_t *meter) {
-    lupiknam_answer a = engine_garble(file, length, n, k, contributions, contributions_length, rows, rows_length, input_masks,
+lupiknam_answer lupiknam_garble(FILE_PARAMETERS, uint32_t n, uint32_t k, uint32_t round, READ_ONLY(contributions), WRITTEN(rows),
+    WRITTEN(input_masks), WRITTEN(output_masks), uint32_t *meter) {
+    if (planted(23)) // the round in two bytes
+        round &= 65535;
+    lupiknam_answer a = engine_garble(file, length, n, k, round, contributions, contributions_length, rows, rows_length, input_masks,
         input_masks_length, output_masks, output_masks_length, meter);
     if (planted(6) && a.number == 17) // the meter counts though the call is refused
         ++*meter;
@@ -90,9 +92,11 @@ lupiknam_answer lupiknam_input_keys(FILE_PARAMETERS, uint32_t n, uint32_t k, uin
     return a;
 }
 
-lupiknam_answer lupiknam_open(FILE_PARAMETERS, uint32_t n, uint32_t k, uint32_t party, READ_ONLY(contribution), READ_ONLY(externals),
-    READ_ONLY(keys), READ_ONLY(rows), WRITTEN(wire_keys), WRITTEN(wire_externals)) {
-    lupiknam_answer a = engine_open(file, length, n, k, party, contribution, contribution_length, externals, externals_length, keys,
+lupiknam_answer lupiknam_open(FILE_PARAMETERS, uint32_t n, uint32_t k, uint32_t party, uint32_t round, READ_ONLY(contribution),
+    READ_ONLY(externals), READ_ONLY(keys), READ_ONLY(rows), WRITTEN(wire_keys), WRITTEN(wire_externals)) {
+    if (planted(24)) // the round ignored
+        round = 0;
+    lupiknam_answer a = engine_open(file, length, n, k, party, round, contribution, contribution_length, externals, externals_length, keys,
         keys_length, rows, rows_length, wire_keys, wire_keys_length, wire_externals, wire_externals_length);
     if (planted(11) && a.number == 20) // not all zero after 20
         wire_keys[wire_keys_length / 2] = 1;

@@ -1,7 +1,7 @@
 // Plays a round of a circuit file on this one machine: all parties by turns, through the engine's calls. Prints the price list, who owns
 // which input, each party's figures beside the plain circuit's, the bytes that a party sends and the time that each call took.
 //
-//   demo_round FILE [--parties N] [--key-length K] [--values A,B,...] [--seed N]
+//   demo_round FILE [--parties N] [--key-length K] [--values A,B,...] [--round N] [--seed N]
 //
 // One process holds every party's secrets here, and prints their values: this shows a round, it does not keep one.
 //
@@ -29,7 +29,7 @@ enum kind { INPUT = 2, ADD, SCALE, MULTIPLY, PROJECT, ENTRY, SELECT, BRANCHES, O
 
 // as the command has them; NULL where it has none
 struct options {
-    const char *path, *parties, *key_length, *values, *seed;
+    const char *path, *parties, *key_length, *values, *round, *seed;
 };
 
 struct wire {
@@ -51,7 +51,7 @@ static const char *const call_names[CALLS] = {"read", "plain", "garble", "extern
 
 struct round {
     const struct circuit *circuit;
-    uint32_t n, k;
+    uint32_t n, k, number; // the number of the round
     size_t contribution_length, rows_length, keys_length, wire_keys_length;
     uint8_t *contributions, *rows, *keys, *own_keys, *wire_keys;
     uint8_t values[MOST_WIRES], input_masks[MOST_WIRES], externals[MOST_WIRES], wire_externals[MOST_WIRES];
@@ -349,7 +349,7 @@ static uint32_t parties_needed(const struct circuit *c) {
 // is lent nothing meets in any case.
 static void check_session(const struct circuit *c, uint32_t n, uint32_t k) {
     uint32_t meter = 0;
-    lupiknam_answer answer = lupiknam_garble(c->file, c->length, n, k, NULL, 0, NULL, 0, NULL, 0, NULL, 0, &meter);
+    lupiknam_answer answer = lupiknam_garble(c->file, c->length, n, k, 0, NULL, 0, NULL, 0, NULL, 0, NULL, 0, &meter);
     if (answer.number != 14)
         must(answer, GARBLE);
 }
@@ -415,7 +415,7 @@ static double seconds_to_garble(const struct round *r) {
     write_trial(file);
     memset(contributions, 1, contributions_length); // below both moduli, and no offset zero
     double begun = milliseconds_now();
-    must(lupiknam_garble(file, sizeof file, r->n, r->k, contributions, contributions_length, rows, rows_length, &input_mask, 1,
+    must(lupiknam_garble(file, sizeof file, r->n, r->k, r->number, contributions, contributions_length, rows, rows_length, &input_mask, 1,
                          &output_mask, 1, &meter),
          GARBLE);
     double spent = milliseconds_now() - begun;
@@ -427,8 +427,9 @@ static double seconds_to_garble(const struct round *r) {
 static void garble(struct round *r) {
     const struct circuit *c = r->circuit;
     double begun = start("garble, %u rows, about %.0f s ", (unsigned)c->rows, seconds_to_garble(r));
-    lupiknam_answer answer = lupiknam_garble(c->file, c->length, r->n, r->k, r->contributions, r->n * r->contribution_length, r->rows,
-                                             r->rows_length, r->input_masks, c->inputs, r->output_masks, c->outputs, &r->meter);
+    lupiknam_answer answer =
+        lupiknam_garble(c->file, c->length, r->n, r->k, r->number, r->contributions, r->n * r->contribution_length, r->rows, r->rows_length,
+                        r->input_masks, c->inputs, r->output_masks, c->outputs, &r->meter);
     r->milliseconds[GARBLE][0] = spent_since(begun);
     must(answer, GARBLE);
 }
@@ -481,8 +482,9 @@ static void open_rows(struct round *r, uint32_t party) {
     const struct circuit *c = r->circuit;
     double begun = start_at(OPEN, party, r->n);
     lupiknam_answer answer =
-        lupiknam_open(c->file, c->length, r->n, r->k, party, contribution_of(r, party), r->contribution_length, r->externals, c->inputs,
-                      r->keys, r->keys_length, r->rows, r->rows_length, r->wire_keys, r->wire_keys_length, r->wire_externals, c->wires);
+        lupiknam_open(c->file, c->length, r->n, r->k, party, r->number, contribution_of(r, party), r->contribution_length, r->externals,
+                      c->inputs, r->keys, r->keys_length, r->rows, r->rows_length, r->wire_keys, r->wire_keys_length, r->wire_externals,
+                      c->wires);
     r->milliseconds[OPEN][party] = spent_since(begun);
     must(answer, OPEN);
 }
@@ -597,7 +599,7 @@ static void print_times(const struct round *r) {
 // ---- the command
 
 __attribute__((noreturn)) static void usage(void) {
-    stop("usage: demo_round FILE [--parties N] [--key-length K] [--values A,B,...] [--seed N]");
+    stop("usage: demo_round FILE [--parties N] [--key-length K] [--values A,B,...] [--round N] [--seed N]");
 }
 
 // the number that a text begins with; *text is left after it
@@ -634,13 +636,15 @@ static const char **place_for(struct options *options, const char *name) {
         return &options->key_length;
     if (strcmp(name, "--values") == 0)
         return &options->values;
+    if (strcmp(name, "--round") == 0)
+        return &options->round;
     if (strcmp(name, "--seed") == 0)
         return &options->seed;
     usage();
 }
 
 static struct options options_from(int count, char **arguments) {
-    struct options options = {.key_length = "16"};
+    struct options options = {.key_length = "16", .round = "0"};
     if (count < 2 || count % 2 != 0)
         usage();
     options.path = arguments[1];
@@ -700,6 +704,7 @@ int main(int count, char **arguments) {
     round.milliseconds[READ][0] = read_circuit(&circuit, options.path);
     round.n = options.parties ? number_32_in(options.parties, "--parties") : parties_needed(&circuit);
     round.k = number_32_in(options.key_length, "--key-length");
+    round.number = number_32_in(options.round, "--round");
     check_session(&circuit, round.n, round.k);
     print_prices(&circuit);
     fflush(stdout); // before what may take long

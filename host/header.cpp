@@ -12,7 +12,7 @@ static_assert(offsetof(lupiknam_record, kind) == 0 && offsetof(lupiknam_record, 
         && offsetof(lupiknam_record, constant) == 12 && offsetof(lupiknam_record, bit) == 16 && offsetof(lupiknam_record, a) == 20
         && offsetof(lupiknam_record, b) == 24,
     "fields of a record");
-static_assert(LUPIKNAM_VERSION == 1, "version of the header");
+static_assert(LUPIKNAM_VERSION == 3, "version of the header");
 
 static int failed = 0;
 
@@ -73,10 +73,10 @@ int main()
     check("plain, no output", answers(lupiknam_plain(product, sizeof product, four, 2, NULL, 0), 14, 0));
     check("plain, value 5 of modulus 5", answers(lupiknam_plain(product, sizeof product, four, 2, result, 1), 15, 1) && result[0] == 77);
     check("garbling of nothing",
-        answers(lupiknam_garble(product, sizeof product, 3, 16, NULL, 0, NULL, 0, NULL, 0, NULL, 0, &meter), 14, 0) && meter == 77);
+        answers(lupiknam_garble(product, sizeof product, 3, 16, 0, NULL, 0, NULL, 0, NULL, 0, NULL, 0, &meter), 14, 0) && meter == 77);
     check("input keys of nothing", answers(lupiknam_input_keys(product, sizeof product, 3, 16, 0, NULL, 0, NULL, 0, NULL, 0), 14, 0));
     check("opening of nothing",
-        answers(lupiknam_open(product, sizeof product, 3, 16, 0, NULL, 0, NULL, 0, NULL, 0, NULL, 0, NULL, 0, NULL, 0), 14, 0));
+        answers(lupiknam_open(product, sizeof product, 3, 16, 0, 0, NULL, 0, NULL, 0, NULL, 0, NULL, 0, NULL, 0, NULL, 0), 14, 0));
     check("decoding of nothing", answers(lupiknam_decode(product, sizeof product, NULL, 0, NULL, 0, NULL, 0), 14, 0));
     check("refusal in words", std::strcmp(lupiknam_refusal(17), "an offset is zero") == 0);
     return failed;

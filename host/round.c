@@ -180,10 +180,12 @@ static void play(const uint8_t *file, size_t length, uint32_t n, uint32_t k, int
             exit(1);
         }
 
-    /* Garbling. Handed on: rows and output masks to every party, each input's mask to its owner alone. */
+    /* Garbling, in a round that the ring agreed on and has not used for this circuit. Handed on: rows and output masks to every party,
+       each input's mask to its owner alone. */
     const uint32_t before = *meter;
-    must(lupiknam_garble(file, length, n, k, contributions, n * size, row_bytes, rows * row, input_masks, inputs, output_masks, outputs,
-             meter), "garbling");
+    const uint32_t round = (uint32_t)number;
+    must(lupiknam_garble(file, length, n, k, round, contributions, n * size, row_bytes, rows * row, input_masks, inputs, output_masks,
+             outputs, meter), "garbling");
     if (*meter != before + ROWS) {
         fprintf(stderr, "garbling: the meter differs\n");
         exit(1);
@@ -215,8 +217,8 @@ static void play(const uint8_t *file, size_t length, uint32_t n, uint32_t k, int
 
     /* At each party, opening and decoding: nothing more is handed on. */
     for (uint32_t party = 0; party < n; party++) {
-        must(lupiknam_open(file, length, n, k, party, contributions + party * size, size, externals, inputs, keys, inputs * row, row_bytes,
-                 rows * row, wire_keys, wires * row, wire_externals, wires), "opening");
+        must(lupiknam_open(file, length, n, k, party, round, contributions + party * size, size, externals, inputs, keys, inputs * row,
+                 row_bytes, rows * row, wire_keys, wires * row, wire_externals, wires), "opening");
         must(lupiknam_decode(file, length, wire_externals, wires, output_masks, outputs, decoded, outputs), "decoding");
         same(decoded, figures[number], outputs, "decoding");
         printf("round %d: party %u decodes %d %d\n", number, (unsigned)party, decoded[0], decoded[1]);
@@ -251,7 +253,8 @@ int main(int count, char **given)
     for (size_t i = 0; i < sizeof file; i++)
         file[i] = (uint8_t)(circuit[i / 4] >> 8 * (i % 4));
 
-    /* The meter starts at 0 once, and goes from garbling to garbling. */
+    /* The meter starts at 0 once, and goes from garbling to garbling. A ring keeps it, and the number of the next round of each circuit,
+       from run to run. */
     uint32_t meter = 0;
     for (int number = 0; number < ROUNDS; number++)
         play(file, sizeof file, (uint32_t)n, (uint32_t)k, number, &meter);

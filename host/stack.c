@@ -79,17 +79,18 @@ WRAPPED(lupiknam_records, (in f, size_t fl, lupiknam_record *r, size_t n, out t,
 WRAPPED(lupiknam_inputs_of, (in f, size_t fl, uint32_t n, uint32_t party, uint32_t *count), (f, fl, n, party, count))
 WRAPPED(lupiknam_plain, (in f, size_t fl, in v, size_t vl, out o, size_t ol), (f, fl, v, vl, o, ol))
 WRAPPED(lupiknam_garble,
-        (in f, size_t fl, uint32_t n, uint32_t k, in c, size_t cl, out r, size_t rl, out i, size_t il, out o, size_t ol, uint32_t *m),
-        (f, fl, n, k, c, cl, r, rl, i, il, o, ol, m))
+        (in f, size_t fl, uint32_t n, uint32_t k, uint32_t d, in c, size_t cl, out r, size_t rl, out i, size_t il, out o, size_t ol,
+         uint32_t *m),
+        (f, fl, n, k, d, c, cl, r, rl, i, il, o, ol, m))
 WRAPPED(lupiknam_externals, (in f, size_t fl, uint32_t n, uint32_t p, in v, size_t vl, in m, size_t ml, out e, size_t el),
         (f, fl, n, p, v, vl, m, ml, e, el))
 WRAPPED(lupiknam_input_keys,
         (in f, size_t fl, uint32_t n, uint32_t k, uint32_t p, in c, size_t cl, in e, size_t el, out o, size_t ol),
         (f, fl, n, k, p, c, cl, e, el, o, ol))
 WRAPPED(lupiknam_open,
-        (in f, size_t fl, uint32_t n, uint32_t k, uint32_t p, in c, size_t cl, in e, size_t el, in q, size_t ql, in r, size_t rl, out w,
-         size_t wl, out x, size_t xl),
-        (f, fl, n, k, p, c, cl, e, el, q, ql, r, rl, w, wl, x, xl))
+        (in f, size_t fl, uint32_t n, uint32_t k, uint32_t p, uint32_t d, in c, size_t cl, in e, size_t el, in q, size_t ql, in r,
+         size_t rl, out w, size_t wl, out x, size_t xl),
+        (f, fl, n, k, p, d, c, cl, e, el, q, ql, r, rl, w, wl, x, xl))
 WRAPPED(lupiknam_decode, (in f, size_t fl, in e, size_t el, in m, size_t ml, out o, size_t ol), (f, fl, e, el, m, ml, o, ol))
 
 int round_main(int count, char **given);

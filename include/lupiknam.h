@@ -3,8 +3,8 @@
  * host/round.c is a whole round to copy, and host/write.c an editor that writes a file.
  *
  * A slice is lent as a pointer and a length in bytes, a slice of records (lupiknam_record) as a pointer and the number of records. What a
- * call only reads is `const`. Every number n, k, party, every field of a record and every byte may be anything: a call refuses what it
- * cannot take, and always returns.
+ * call only reads is `const`. Every number n, k, party, round, every field of a record and every byte may be anything: a call refuses what
+ * it cannot take, and always returns.
  *
  * A circuit file is words of 32 bits, lent as bytes, four a word, little-endian.
  *
@@ -14,6 +14,9 @@
  *
  * n is the number of parties, 2 to 8; party is one of them, from 0; k is the key length K, 1 to 128. A key on a wire of modulus p is k
  * bytes below p. All parties' keys of a wire lie one after another, parties ascending.
+ *
+ * round is the number of a garbling of the circuit, any of the 2^32: it goes into the input of every pad, so that a ring may garble a
+ * circuit again, for a second figure, and the two garblings share no pad input. Rows open with the round that they were garbled with.
  *
  * A contribution is a party's secret: first its offsets, k bytes each, one for each modulus that some wire has, moduli ascending; then a
  * record for each wire in the order of the wires, by the kind of the wire:
@@ -27,8 +30,9 @@
  * that lupiknam_read writes. No offset is zero, that is, each has a byte that is not 0.
  *
  * A round is lupiknam_garble once, from all contributions; then at each party lupiknam_externals for its own inputs, lupiknam_input_keys,
- * lupiknam_open and lupiknam_decode. The caller hands the same circuit, n, k and contributions to every call, draws each contribution
- * afresh for each garbling, and brings the parties' external values and keys together.
+ * lupiknam_open and lupiknam_decode. The caller hands the same circuit, n, k, round and contributions to every call that takes them,
+ * takes another round and draws each contribution afresh for each garbling of a circuit, and brings the parties' external values and keys
+ * together.
  *
  * The caller's duties, which no call can check:
  *
@@ -52,7 +56,7 @@
 #include <stdint.h>
 
 /* The number of the last change order that changed a declaration in this header. */
-#define LUPIKNAM_VERSION 1
+#define LUPIKNAM_VERSION 3
 
 #ifdef __cplusplus
 extern "C" {
@@ -249,7 +253,7 @@ lupiknam_answer lupiknam_plain(
  * Garbles a circuit.
  *
  *   file, file_length                     the circuit file
- *   n, k                                  number of parties, key length
+ *   n, k, round                           number of parties, key length, the round
  *   contributions, contributions_length   n * (k * moduli + (k + 1) * record_keys) bytes: all parties' contributions, one after another,
  *                                         parties ascending
  *   rows, rows_length                     written: rows * n * k bytes, by the count of rows that lupiknam_read writes; by gate, component
@@ -262,11 +266,11 @@ lupiknam_answer lupiknam_plain(
  * lowest modulus over all parties; 21. Where the call is refused the meter is as it was.
  *
  * The caller starts the meter at 0, hands it from each garbling to the next, and changes it nowhere else. Each contribution serves one
- * garbling. An input's mask is for its owner alone; whoever garbles sees all contributions.
+ * garbling, and so does a round's number for one circuit. An input's mask is for its owner alone; whoever garbles sees all contributions.
  */
 lupiknam_answer lupiknam_garble(
     const uint8_t *file, size_t file_length,
-    uint32_t n, uint32_t k,
+    uint32_t n, uint32_t k, uint32_t round,
     const uint8_t *contributions, size_t contributions_length,
     uint8_t *rows, size_t rows_length,
     uint8_t *input_masks, size_t input_masks_length,
@@ -319,7 +323,7 @@ lupiknam_answer lupiknam_input_keys(
  * Opens a garbled circuit at a party: every party's key, and the external value, of every wire.
  *
  *   file, file_length                       the circuit file
- *   n, k, party                             number of parties, key length, the party that opens
+ *   n, k, party, round                      number of parties, key length, the party that opens, the round that garbling was given
  *   contribution, contribution_length       k * moduli + (k + 1) * record_keys bytes: that party's contribution
  *   externals, externals_length             a byte for each input: the external values of all inputs, in the order of the wires
  *   keys, keys_length                       inputs * n * k bytes: the input keys by input, then by party, so that party j's key on wire w
@@ -332,11 +336,13 @@ lupiknam_answer lupiknam_input_keys(
  * start; 17; 18 over keys, then rows; 19 over the keys of the party that opens, on all inputs; 20. After 20 wire_keys and wire_externals
  * are all zero.
  *
- * 18, 19 or 20 says that keys, rows, external values or the contribution are not those of one round. Not every such change meets a refusal.
+ * 18, 19 or 20 says that keys, rows, external values or the contribution are not those of one round; 20 may also come of another round's
+ * number than garbling was given. Not every such change meets a refusal: only with garbling's number are acceptance, keys and external
+ * values sure.
  */
 lupiknam_answer lupiknam_open(
     const uint8_t *file, size_t file_length,
-    uint32_t n, uint32_t k, uint32_t party,
+    uint32_t n, uint32_t k, uint32_t party, uint32_t round,
     const uint8_t *contribution, size_t contribution_length,
     const uint8_t *externals, size_t externals_length,
     const uint8_t *keys, size_t keys_length,

@@ -15,10 +15,11 @@ pub struct Written<'b> {
     pub output_masks: &'b mut [u8],
 }
 
-/// Garbles for n parties with keys of k bytes. The meter counts the rows.
+/// Garbles for n parties with keys of k bytes. The round number may be any: it only enters the pads.
+/// The meter counts the rows.
 pub fn garble(
     file: &[u8],
-    (n, k): (u32, u32),
+    (n, k, round): (u32, u32, u32),
     contributions: &[u8],
     written: Written,
     meter: &mut u32,
@@ -44,7 +45,7 @@ pub fn garble(
         .collect();
     check_offsets(&parties)?;
     *meter = check_meter(*meter, rows)?;
-    let garbler = Garbler::new(&circuit, &parties);
+    let garbler = Garbler::new(&circuit, &parties, round);
     written.rows.copy_from_slice(&garbler.rows(&circuit));
     for (mask, wire) in written.input_masks.iter_mut().zip(0..) {
         *mask = garbler.mask(wire) as u8;
@@ -57,6 +58,7 @@ pub fn garble(
 
 struct Garbler<'g, 'c> {
     parties: &'g [Contribution<'c>],
+    round: u32,
     /// By party, then by wire.
     zero_keys: Vec<Vec<Vec<u8>>>,
     /// By wire.
@@ -71,7 +73,7 @@ struct Senders {
 }
 
 impl<'g, 'c> Garbler<'g, 'c> {
-    fn new(circuit: &Circuit, parties: &'g [Contribution<'c>]) -> Self {
+    fn new(circuit: &Circuit, parties: &'g [Contribution<'c>], round: u32) -> Self {
         let zero_keys = parties.iter().map(|party| party.zero_keys(circuit));
         let mut masks: Vec<u8> = vec![0; circuit.wires.len()];
         for party in parties {
@@ -82,6 +84,7 @@ impl<'g, 'c> Garbler<'g, 'c> {
         }
         Garbler {
             parties,
+            round,
             zero_keys: zero_keys.collect(),
             masks,
         }
@@ -162,6 +165,7 @@ impl<'g, 'c> Garbler<'g, 'c> {
             let image = i32::from(table.image(modulo(p, alpha - self.mask(a))));
             let factor = image + self.recorded_mask(number, 0, q);
             let row = Row {
+                round: self.round,
                 modulus: p,
                 wire: number,
                 component: 0,
@@ -188,6 +192,7 @@ impl<'g, 'c> Garbler<'g, 'c> {
         };
         let d = |i: usize, at: usize| i32::from(self.parties[i].offset(p)[at]);
         let row = |component: u8| Row {
+            round: self.round,
             modulus: p,
             wire: number,
             component,
@@ -232,6 +237,7 @@ impl<'g, 'c> Garbler<'g, 'c> {
         let mask = |index: usize| self.recorded_mask(number, index, p);
         let d = |i: usize, at: usize| i32::from(self.parties[i].offset(p)[at]);
         let row = |component: u8, modulus: u8| Row {
+            round: self.round,
             modulus,
             wire: number,
             component,

@@ -16,10 +16,11 @@ pub struct Given<'b> {
     pub rows: &'b [u8],
 }
 
-/// Opens at one party, writing every party's key of every wire, and its external value.
+/// Opens at one party, writing every party's key of every wire, and its external value. The round
+/// number may be any: under another than garbling's the pads are others, which only 20 can show.
 pub fn open(
     file: &[u8],
-    (n, k, party): (u32, u32, u32),
+    (n, k, party, round): (u32, u32, u32, u32),
     given: &Given,
     wire_keys: &mut [u8],
     wire_externals: &mut [u8],
@@ -51,6 +52,7 @@ pub fn open(
         n,
         k,
         party,
+        round,
         zero_keys: own.zero_keys(&circuit),
         own,
         keys: Vec::with_capacity(wires),
@@ -73,6 +75,7 @@ struct Opener<'o> {
     n: usize,
     k: usize,
     party: usize,
+    round: u32,
     own: Contribution<'o>,
     zero_keys: Vec<Vec<u8>>,
     /// Of each wire opened so far, all parties' keys one after another.
@@ -200,6 +203,7 @@ impl Opener<'_> {
     ) -> Vec<u8> {
         let q = self.circuit.wires[number].modulus;
         let row = Row {
+            round: self.round,
             modulus,
             wire: number,
             component,

@@ -26,6 +26,7 @@ fn setting() -> Setting {
         file: word::file(&words),
         n: 2,
         k: 2,
+        round: 0x0403_0201,
         contributions: own.repeat(2),
         values: vec![1, 3],
     }
@@ -46,7 +47,7 @@ fn garbled(setting: &Setting, before: u32) -> Result<(Vec<u8>, u32), (u32, usize
         output_masks,
     };
     let mut meter = before;
-    let numbers = (setting.n, setting.k);
+    let numbers = (setting.n, setting.k, setting.round);
     let contributions = &setting.contributions;
     match garble(&setting.file, numbers, contributions, written, &mut meter) {
         Ok(()) => Ok((rows, meter)),
@@ -93,9 +94,23 @@ fn garbling_names_the_lowest_byte_of_all_contributions() {
     }
 }
 
+#[test]
+fn garbling_takes_every_round_number_and_each_has_its_rows() {
+    let mut setting = setting();
+    let mut seen = Vec::new();
+    for round in [0, 1, 1 << 24, 0x0403_0201, 0x0102_0304, u32::MAX] {
+        setting.round = round;
+        let (rows, meter) = garbled(&setting, 0).unwrap();
+        assert_eq!(meter, 10);
+        assert!(!seen.contains(&rows), "{round:#010x}");
+        seen.push(rows);
+    }
+}
+
 /// What party 0 opens with, in a round with no fault.
 struct Opening {
     setting: Setting,
+    round: u32,
     externals: Vec<u8>,
     keys: Vec<u8>,
     rows: Vec<u8>,
@@ -117,6 +132,7 @@ fn opening() -> Opening {
     // The other party's keys are the same, as its contribution is.
     let keys = [&own[..2], &own[..2], &own[2..], &own[2..]].concat();
     Opening {
+        round: setting.round,
         setting,
         externals: all,
         keys,
@@ -133,8 +149,8 @@ fn opened(opening: &Opening) -> (Result<(), (u32, usize)>, [u8; 2]) {
         rows: &opening.rows,
     };
     let (mut keys, mut externals) = (vec![9; 3 * 4], vec![9; 3]);
-    let file = &opening.setting.file;
-    let result = open(file, (2, 2, 0), &given, &mut keys, &mut externals);
+    let (file, numbers) = (&opening.setting.file, (2, 2, 0, opening.round));
+    let result = open(file, numbers, &given, &mut keys, &mut externals);
     let result = result.map_err(|refusal| (refusal.number, refusal.place));
     (result, [keys[0], externals[0]])
 }
@@ -164,6 +180,39 @@ fn opening_judges_bytes_then_own_keys_then_gates() {
     assert_eq!(opened(&opening), (Err((16, EACH - 1)), [9, 9]));
     opening.externals[1] = 5;
     assert_eq!(opened(&opening), (Err((15, 1)), [9, 9]));
+    opening.keys.pop();
+    assert_eq!(opened(&opening), (Err((14, 0)), [9, 9]));
+}
+
+/// Opened with a number that is another in one bit, whichever: mostly no multiplier fits. There are 5
+/// multipliers and 25 keys, so that now and then one does, and wrong keys are opened.
+#[test]
+fn opening_with_another_round_number() {
+    let mut opening = opening();
+    let garbled = opening.round;
+    let mut refused = 0;
+    for bit in 0..32 {
+        opening.round = garbled ^ 1 << bit;
+        let (result, written) = opened(&opening);
+        if result.is_err() {
+            assert_eq!((result, written), (Err((20, 2)), [0, 0]));
+            refused += 1;
+        }
+    }
+    assert!((16..32).contains(&refused), "{refused}");
+    opening.round = garbled;
+    assert_eq!(opened(&opening).0, Ok(()));
+}
+
+/// The round number is judged by nothing: another one comes to light after all other faults.
+#[test]
+fn another_round_number_shows_after_all_checks() {
+    let mut opening = opening();
+    opening.round ^= 1 << 31;
+    opening.keys[4] = (opening.keys[4] + 1) % 5;
+    assert_eq!(opened(&opening), (Err((19, 1)), [9, 9]));
+    opening.rows[3] = 5;
+    assert_eq!(opened(&opening), (Err((18, 3)), [9, 9]));
     opening.keys.pop();
     assert_eq!(opened(&opening), (Err((14, 0)), [9, 9]));
 }

@@ -38,7 +38,8 @@ fn play(setting: &Setting) -> Played {
         output_masks: &mut output_masks,
     };
     let mut meter = 7;
-    garble(file, (*n, *k), &setting.contributions, written, &mut meter).unwrap();
+    let numbers = (*n, *k, setting.round);
+    garble(file, numbers, &setting.contributions, written, &mut meter).unwrap();
     assert_eq!(meter, 7 + counts.rows);
     let externals = all_externals(setting, &circuit, &input_masks);
     let input_keys = all_keys(setting, &circuit, &externals);
@@ -50,14 +51,8 @@ fn play(setting: &Setting) -> Played {
         keys: &input_keys,
         rows: &rows,
     };
-    open(
-        file,
-        (*n, *k, 0),
-        &given,
-        &mut wire_keys,
-        &mut wire_externals,
-    )
-    .unwrap();
+    let numbers = (*n, *k, 0, setting.round);
+    open(file, numbers, &given, &mut wire_keys, &mut wire_externals).unwrap();
     let mut decoded = vec![0; circuit.outputs.len()];
     decode(file, &wire_externals, &output_masks, &mut decoded).unwrap();
     Played {
@@ -119,10 +114,14 @@ fn rounds_decode_the_plain_outputs() {
     }
 }
 
+/// The round number of the examples below: that of compare/row.py, as the specification's have none.
+const EXAMPLES: u32 = 0x0403_0201;
+
 /// The message to party 0 that a row hides, at key length 1 and two parties.
 fn message(played: &Played, row: usize, sender: usize, wire: usize, component: u8) -> u8 {
     let keys: Vec<&[u8]> = played.wire_keys[2 * sender..][..2].chunks(1).collect();
     let row_of = Row {
+        round: EXAMPLES,
         modulus: 5,
         wire,
         component,
@@ -150,6 +149,7 @@ fn product(v_b: u8) -> Played {
         file: word::file(&words),
         n: 2,
         k: 1,
+        round: EXAMPLES,
         contributions: vec![
             2, 1, 1, 0, 4, 4, 3, 2, 4, // offset; wire 0; wire 1; product
             3, 2, 3, 4, 2, 1, 1, 3, 3,
@@ -199,6 +199,7 @@ fn the_selects_of_the_examples() {
             file: word::file(&words),
             n: 2,
             k: 1,
+            round: EXAMPLES,
             contributions: contributions.clone(),
             values: vec![bit, 2, 4],
         });
@@ -225,9 +226,10 @@ fn rows_of_another_implementation() {
         file: word::file(&words),
         n: 2,
         k: 1,
+        round: EXAMPLES,
         contributions: vec![1, 100, 1, 0, 33, 17, 1, 9, 0, 1, 250, 90],
         values: vec![1],
     });
-    assert_eq!(played.rows, [243, 0, 19, 20]);
+    assert_eq!(played.rows, [68, 49, 95, 69]);
     assert_eq!(played.decoded, [200]);
 }

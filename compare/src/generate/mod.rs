@@ -5,6 +5,7 @@ pub mod damage;
 mod drawing;
 pub mod record_sweep;
 pub mod records;
+pub mod round_numbers;
 mod round_sweep;
 pub mod settings;
 pub mod sweep;

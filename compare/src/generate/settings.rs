@@ -1,6 +1,8 @@
-//! Settings of whole rounds: a circuit, the parties, their contributions and the inputs' values.
+//! Settings of whole rounds: a circuit, the parties, the round number, the contributions and the
+//! inputs' values.
 
 use super::circuits::{accepted, at_limit};
+use super::round_numbers::round_number;
 use super::round_sweep;
 use crate::circuit::{Circuit, read};
 use crate::contribution::byte_moduli;
@@ -13,6 +15,8 @@ pub struct Setting {
     pub file: Vec<u8>,
     pub n: u32,
     pub k: u32,
+    /// The round number.
+    pub round: u32,
     /// All parties' contributions, one after another.
     pub contributions: Vec<u8>,
     pub values: Vec<u8>,
@@ -20,7 +24,7 @@ pub struct Setting {
 
 impl Setting {
     /// Draws contributions and values for an accepted circuit.
-    pub fn new(file: Vec<u8>, n: u32, k: u32, rng: &mut Rng) -> Self {
+    pub fn new(file: Vec<u8>, (n, k, round): (u32, u32, u32), rng: &mut Rng) -> Self {
         let circuit = read(&file).expect("an accepted circuit");
         let contributions = contributions(&circuit, n as usize, k as usize, rng);
         let moduli: Vec<u8> = circuit.input_moduli().collect();
@@ -30,38 +34,44 @@ impl Setting {
             values,
             n,
             k,
+            round,
             file,
         }
     }
 
+    pub fn rows(&self) -> u32 {
+        let circuit = read(&self.file).expect("an accepted circuit");
+        circuit.counts().rows
+    }
+
     /// About how many permutations its garbling takes.
     pub fn cost(&self) -> u64 {
-        let circuit = read(&self.file).expect("an accepted circuit");
-        cost(circuit.counts().rows, self.n, self.k)
+        cost(self.rows(), self.n, self.k)
     }
 }
 
 /// A sender's pad takes a permutation for each 136 bytes squeezed, and one more where its input
 /// fills a block.
 pub fn cost(rows: u32, n: u32, k: u32) -> u64 {
-    let pad = k.div_ceil(17) + (13 + k) / 136;
+    let pad = k.div_ceil(17) + (17 + k) / 136;
     u64::from(rows) * u64::from(n * n * pad)
 }
 
 /// The setting of one case of a run: first the sweep, then random ones.
 pub fn setting(case: u64, rng: &mut Rng) -> Setting {
+    let round = round_number(case, rng);
     match round_sweep::circuit(case, rng) {
         Some((words, n, k)) => {
             let file = word::file(&with_owners(words, n, rng));
-            Setting::new(file, n, k, rng)
+            Setting::new(file, (n, k, round), rng)
         }
-        None => random(rng),
+        None => random(round, rng),
     }
 }
 
 /// A setting of any sort, whose garbling takes no more permutations than a limit that is mostly
 /// small.
-fn random(rng: &mut Rng) -> Setting {
+fn random(round: u32, rng: &mut Rng) -> Setting {
     let limit = match rng.below(400) {
         0 => 600_000,
         1..=9 => 60_000,
@@ -81,7 +91,7 @@ fn random(rng: &mut Rng) -> Setting {
         n = 2;
     }
     let file = word::file(&with_owners(words, n, rng));
-    Setting::new(file, n, k, rng)
+    Setting::new(file, (n, k, round), rng)
 }
 
 fn parties(rng: &mut Rng) -> u32 {
@@ -94,7 +104,7 @@ fn parties(rng: &mut Rng) -> u32 {
 /// Mostly short; where a pad's input or output fills a block is likelier than elsewhere.
 fn key_length(rng: &mut Rng) -> u32 {
     match rng.below(8) {
-        0 => rng.pick(&[16, 17, 18, 34, 35, 122, 123, 124, 127, 128]),
+        0 => rng.pick(&[16, 17, 18, 34, 35, 118, 119, 120, 127, 128]),
         1 => rng.between(1, 128) as u32,
         _ => rng.between(1, 5) as u32,
     }

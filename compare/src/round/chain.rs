@@ -72,7 +72,7 @@ impl Player<'_> {
 
     /// Makes a call of both programs, and gives what the engine wrote.
     fn written(&mut self, name: Name, party: u32, given: Vec<Vec<u8>>) -> Vec<Vec<u8>> {
-        let Setting { n, k, .. } = *self.setting;
+        let Setting { n, k, round, .. } = *self.setting;
         let lengths = name.lengths(self.circuit, n as usize, k as usize, party);
         let mut buffers = given;
         // What is to be written holds anything before.
@@ -86,6 +86,7 @@ impl Player<'_> {
             n,
             k,
             party,
+            round,
             meter: self.rng.pick(&[0, 1, 1 << 31, u32::MAX - rows]),
             buffers,
             nulls: self.rng.once_in(2),

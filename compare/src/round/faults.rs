@@ -6,6 +6,7 @@
 use super::step::{Name, Step};
 use compare::circuit::{Circuit, read};
 use compare::contribution::{combined, length};
+use compare::generate::round_numbers::others;
 use compare::rng::Rng;
 
 /// A good call with some faults.
@@ -38,7 +39,7 @@ struct Spoiler<'s> {
 impl Spoiler<'_> {
     /// Puts in one fault, or what might be one.
     fn spoil(&mut self, step: &mut Step) {
-        match self.rng.below(21) {
+        match self.rng.below(22) {
             0 => step.n = self.number(step.n, 8),
             1 => step.k = self.number(step.k, 128),
             2 => step.party = self.party(step),
@@ -52,6 +53,7 @@ impl Spoiler<'_> {
             16 => self.tamper(step),
             17 | 18 => self.meter(step),
             19 => self.raise_both(step),
+            20 => self.round(step),
             _ => self.file(step),
         }
     }
@@ -250,6 +252,15 @@ impl Spoiler<'_> {
             0 => self.rng.pick(&[last, last - 1, 0]),
             _ => self.rng.pick(&past),
         };
+    }
+
+    /// Another round number, where one is taken.
+    fn round(&mut self, step: &mut Step) {
+        if !step.name.has_round() {
+            return self.change(step);
+        }
+        let others = others(step.round, self.rng);
+        step.round = self.rng.pick(&others).1;
     }
 
     /// The file with a bit flipped, cut off or made longer.

@@ -19,6 +19,7 @@ pub fn loose(file: &[u8], rng: &mut Rng) -> Step {
         n,
         k,
         party,
+        round: rng.next_u32(),
         meter: rng.next_u32(),
         buffers: Vec::new(),
         nulls: rng.once_in(2),
@@ -53,6 +54,7 @@ pub fn on_any_file(rng: &mut Rng) -> Step {
         n: rng.below(10) as u32,
         k: rng.below(4) as u32,
         party: rng.below(4) as u32,
+        round: rng.next_u32(),
         meter: rng.next_u32(),
         nulls: rng.once_in(2),
     }

@@ -5,6 +5,7 @@ mod difference;
 mod engine;
 mod faults;
 mod loose;
+mod reopened;
 mod run;
 mod second;
 mod several;

@@ -3,6 +3,7 @@
 use super::chain::{Made, play};
 use super::faults::spoiled;
 use super::loose::{loose, on_any_file};
+use super::reopened::reopen;
 use super::step::{Name, Step};
 use super::tally::Tally;
 use super::{engine, second};
@@ -28,7 +29,7 @@ pub fn one(seed: u64, case: u64) -> ExitCode {
     tally.report()
 }
 
-/// A case: a whole round, and calls with faults.
+/// A case: a whole round, openings of it with other round numbers, and calls with faults.
 fn play_case(seed: u64, case: u64, tally: &mut Tally, print: bool) {
     let mut rng = Rng::of_case(seed, case);
     let setting = setting(case, &mut rng);
@@ -45,6 +46,7 @@ fn play_case(seed: u64, case: u64, tally: &mut Tally, print: bool) {
         made
     };
     let round = play(&setting, &mut rng, &mut count);
+    let reopened = reopen(&round, &mut rng, &mut count);
     for _ in 0..faulty_calls(setting.cost()) {
         let good = one_of(&round.steps, &mut rng);
         count(&spoiled(good, &mut rng));
@@ -53,8 +55,7 @@ fn play_case(seed: u64, case: u64, tally: &mut Tally, print: bool) {
         count(&loose(&setting.file, &mut rng));
         count(&on_any_file(&mut rng));
     }
-    tally.rounds += 1;
-    tally.wrong_rounds += u64::from(!round.right);
+    tally.count_round(&setting, round.right, &reopened);
     tally.close_case(before);
 }
 

@@ -19,7 +19,9 @@ pub fn run(step: &Step) -> After {
 }
 
 fn made(step: &Step, loan: &mut Loan) -> Result<(), Refusal> {
-    let Step { n, k, party, .. } = *step;
+    let Step {
+        n, k, party, round, ..
+    } = *step;
     let file = loan.file.content();
     match (step.name, &mut loan.buffers[..]) {
         (Name::Garble, [contributions, rows, input_masks, output_masks]) => {
@@ -29,7 +31,7 @@ fn made(step: &Step, loan: &mut Loan) -> Result<(), Refusal> {
                 output_masks: output_masks.content_mut(),
             };
             let meter = &mut loan.numbers[0];
-            garble(file, (n, k), contributions.content(), written, meter)
+            garble(file, (n, k, round), contributions.content(), written, meter)
         }
         (Name::Externals, [values, masks, written]) => externals(
             file,
@@ -47,7 +49,7 @@ fn made(step: &Step, loan: &mut Loan) -> Result<(), Refusal> {
         ),
         (Name::Open, [given @ .., wire_keys, wire_externals]) => open(
             file,
-            (n, k, party),
+            (n, k, party, round),
             &given_to_open(given),
             wire_keys.content_mut(),
             wire_externals.content_mut(),

@@ -69,6 +69,11 @@ impl Name {
         }
     }
 
+    /// Whether it takes the round number.
+    pub fn has_round(self) -> bool {
+        matches!(self, Garble | Open)
+    }
+
     /// Whether its first buffer holds one or several contributions.
     pub fn has_contribution(self) -> bool {
         matches!(self, Garble | InputKeys | Open)
@@ -130,6 +135,7 @@ pub struct Step {
     pub n: u32,
     pub k: u32,
     pub party: u32,
+    pub round: u32,
     pub meter: u32,
     pub buffers: Vec<Vec<u8>>,
     /// Whether an empty buffer is lent as a null pointer.
@@ -158,11 +164,15 @@ impl Step {
 
 impl fmt::Display for Step {
     fn fmt(&self, to: &mut fmt::Formatter) -> fmt::Result {
+        let Step { n, k, party, .. } = self;
+        // In hexadecimal, as the pads take its bytes.
+        let round = format!("{:#010x}", self.round);
         write!(to, "{}", self.name.text())?;
         match self.name {
-            Garble => write!(to, " n={} k={} meter={}", self.n, self.k, self.meter),
-            Externals => write!(to, " n={} party={}", self.n, self.party),
-            InputKeys | Open => write!(to, " n={} k={} party={}", self.n, self.k, self.party),
+            Garble => write!(to, " n={n} k={k} round={round} meter={}", self.meter),
+            Externals => write!(to, " n={n} party={party}"),
+            InputKeys => write!(to, " n={n} k={k} party={party}"),
+            Open => write!(to, " n={n} k={k} party={party} round={round}"),
             Decode => Ok(()),
         }
     }

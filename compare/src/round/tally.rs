@@ -2,30 +2,49 @@
 
 use super::chain::Made;
 use super::difference::Difference;
+use super::reopened::Reopened;
 use super::several::sorts;
 use super::step::{NAMES, Name, Step};
+use compare::generate::round_numbers::{WAYS, has_different_bytes};
+use compare::generate::settings::Setting;
 use std::collections::BTreeMap;
 use std::process::ExitCode;
 
 /// How many differences are printed; the others are counted.
 const SHOWN: usize = 5;
 
-/// A run of this many cases must meet every refusal that each call can give, and 16 and 18 with
-/// several bytes too large.
+/// A run of this many cases must meet every refusal that each call can give, 16 and 18 with several
+/// bytes too large, and the round numbers below.
 const THOROUGH: u64 = 1000;
+
+/// A sort of round numbers, by its name.
+type Numbers = (&'static str, fn(u32) -> bool);
+
+/// The sorts of round numbers with which whole rounds must be played.
+const NUMBERS: [Numbers; 4] = [
+    ("0", |round| round == 0),
+    ("1", |round| round == 1),
+    ("2^32 - 1", |round| round == u32::MAX),
+    ("four different bytes", has_different_bytes),
+];
 
 #[derive(Default)]
 pub struct Tally {
     pub calls: u64,
     pub differences: u64,
-    pub rounds: u64,
-    pub wrong_rounds: u64,
+    rounds: u64,
+    wrong_rounds: u64,
     passed: u64,
     failed: u64,
     /// How often each call gave each number, 0 where it was accepted.
     met: BTreeMap<(Name, u32), u64>,
     /// How often a call was refused by 16 or 18 with several bytes too large, and where these were.
     several: BTreeMap<(Name, &'static str), u64>,
+    /// How many rounds were right with a number of each sort.
+    numbers: BTreeMap<&'static str, u64>,
+    /// How often opening gave each number where the round number was not garbling's, by the way in
+    /// which it differed.
+    reopened: BTreeMap<(&'static str, u32), u64>,
     /// Of each sort of difference, the smallest one.
     smallest: BTreeMap<(&'static str, u32, u32), Difference>,
 }
@@ -55,6 +74,23 @@ impl Tally {
         }
     }
 
+    /// Counts a whole round, and the openings of it with other round numbers. Where there are no
+    /// rows no pad is made, so that the numbers show nothing and are not counted.
+    pub fn count_round(&mut self, setting: &Setting, right: bool, reopened: &[Reopened]) {
+        self.rounds += 1;
+        self.wrong_rounds += u64::from(!right);
+        if setting.rows() == 0 {
+            return;
+        }
+        for (sort, is) in NUMBERS {
+            let so = right && is(setting.round);
+            *self.numbers.entry(sort).or_default() += u64::from(so);
+        }
+        for (way, answer) in reopened {
+            *self.reopened.entry((way, answer.number)).or_default() += 1;
+        }
+    }
+
     /// Counts a case: it passed if nothing went wrong since the tally stood so.
     pub fn close_case(&mut self, before: u64) {
         if self.wrong() == before {
@@ -75,8 +111,8 @@ impl Tally {
         }
     }
 
-    /// Prints the counts; the run failed if anything differs, or if a long run missed a refusal or a
-    /// sort of several bytes too large.
+    /// Prints the counts; the run failed if anything differs, or if a long run missed a refusal, a
+    /// sort of several bytes too large or a sort of round numbers.
     pub fn report(mut self) -> ExitCode {
         let count = self.passed + self.failed;
         let mut missed = Vec::new();
@@ -84,6 +120,8 @@ impl Tally {
             missed.extend(self.line(name));
         }
         missed.extend(self.line_of_several());
+        missed.extend(self.line_of_numbers());
+        missed.extend(self.line_of_reopened());
         println!(
             "{} rounds, {} of them wrong; {} calls, {} differences",
             self.rounds, self.wrong_rounds, self.calls, self.differences
@@ -129,5 +167,32 @@ impl Tally {
         never
             .map(|((name, sort), _)| format!("{}, several bytes {sort}", name.text()))
             .collect()
+    }
+
+    /// Prints how many rounds were right with each sort of number, and gives the sorts never met.
+    fn line_of_numbers(&self) -> Vec<String> {
+        let times = |sort: &str| self.numbers.get(sort).copied().unwrap_or_default();
+        let sorts = NUMBERS.map(|(sort, _)| sort);
+        let counts = sorts.map(|sort| format!("{sort}: {}", times(sort)));
+        println!("right rounds by number: {}", counts.join(", "));
+        let never = sorts.into_iter().filter(|sort| times(sort) == 0);
+        never.map(|sort| format!("round number {sort}")).collect()
+    }
+
+    /// Prints how opening came out where its round number was not garbling's, and gives the ways by
+    /// which it was never refused or never accepted.
+    fn line_of_reopened(&self) -> Vec<String> {
+        let times = |way, number| self.reopened.get(&(way, number)).copied();
+        let mut counts = Vec::new();
+        let mut missed = Vec::new();
+        for way in WAYS {
+            let [refused, accepted] = [20, 0].map(|number| times(way, number).unwrap_or_default());
+            counts.push(format!("{way}: 20 {refused}, accepted {accepted}"));
+            if refused == 0 || accepted == 0 {
+                missed.push(format!("open with another round number, {way}"));
+            }
+        }
+        println!("open with another round number {}", counts.join("; "));
+        missed
     }
 }

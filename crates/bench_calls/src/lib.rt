@@ -21,9 +21,10 @@ pub extern "C" fn bench_permutation(state: &mut [u64; 25])
 // The numbers of a pad before they are reduced, for a sender's key; the other fields of its input are 0.
 #[no_mangle]
 pub extern "C" fn bench_numbers(key: &[u8], out: &mut [u64])
-    ensures { λ _. ⌜ now (out .exit) ≡ numbers (shake256 (padInput (bound (placed 0 0 0) 0 (now (key .entry)))) (8 * length (now (out .entry)))) ⌝ }
+    ensures { λ _. ⌜ now (out .exit) ≡ numbers (shake256 (padInput 0 (bound (placed 0 0 0) 0 (now (key .entry)))) (8 * length (now (out .entry)))) ⌝ }
 {
     let none = Bound {
+        round: 0,
         modulus: 0,
         wire: 0,
         component: 0,

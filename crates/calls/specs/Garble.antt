@@ -1,4 +1,4 @@
--- The call for garbling: from all n contributions, rows, one mask byte per input and one per output; the row meter in and back.
+-- The call for garbling in a round: from all n contributions, rows, one mask byte per input and one per output; the row meter in and back.
 -- Assumes nothing.
 use mathlib.Core.Path.{_≡_}
 use mathlib.Core.List.{List, [], _∷_}
@@ -73,12 +73,12 @@ module _ (pad : Pad) (file : List ℕ) (n K : ℕ) (contributions rows masks out
       afterwards (garbleChecked file n K contributions rows masks outs meter)
       (garbledRows pad n K file (readFile file .wires) (drawn n K (readFile file .wires) contributions)) rows
 
--- the call's promise: the number and place that it answers, and what the bytes lent for the rows, the input masks and the output masks, and the
--- row meter hold afterwards
-pub record GarbleCall (file : List ℕ) (n K : ℕ) (contributions rows₀ masks₀ outs₀ : List ℕ) (meter₀ : ℕ)
+-- the call's promise, in the round given, which may be any number and enters by the pads alone: the number and place that it answers, and what
+-- the bytes lent for the rows, the input masks and the output masks, and the row meter hold afterwards
+pub record GarbleCall (file : List ℕ) (n K round : ℕ) (contributions rows₀ masks₀ outs₀ : List ℕ) (meter₀ : ℕ)
     (number place : ℕ) (rows masks outs : List ℕ) (meter : ℕ) : Type 0 where
   pub answer : Reports (garbleChecked file n K contributions rows₀ masks₀ outs₀ meter₀) number place
-  pub rowsIs : rows ≡ garbleRows shakePad file n K contributions rows₀ masks₀ outs₀ meter₀
+  pub rowsIs : rows ≡ garbleRows (shakePad round) file n K contributions rows₀ masks₀ outs₀ meter₀
   pub inputMasksIs : masks ≡ garbleInputMasks file n K contributions rows₀ masks₀ outs₀ meter₀
   pub outputMasksIs : outs ≡ garbleOutputMasks file n K contributions rows₀ masks₀ outs₀ meter₀
   pub meterIs : meter ≡ garbleMeter file n K contributions rows₀ masks₀ outs₀ meter₀

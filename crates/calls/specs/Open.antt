@@ -1,4 +1,4 @@
--- The call for opening at party s, from its contribution, the external inputs, all input keys and the rows: n·K key
+-- The call for opening in a round at party s, from its contribution, the external inputs, all input keys and the rows: n·K key
 -- bytes and one external byte per wire. After 20 both written buffers are all zero.
 -- Assumes nothing.
 use mathlib.Core.Path.{_≡_}
@@ -99,9 +99,10 @@ module _ (pad : Pad) (file : List ℕ) (n K party : ℕ) (contribution externals
   openExternals =
       afterwards before (afterwards gates (wireExternals pad n K party wires own externals keys rows) (replicate (length wexternals) 0)) wexternals
 
--- the call's promise: the number and place that it answers, and what the bytes lent for the wires' keys and external values hold afterwards
-pub record OpenCall (file : List ℕ) (n K party : ℕ) (contribution externals keys rows wkeys₀ wexternals₀ : List ℕ)
+-- the call's promise, in the round given, which may be any number and enters by the pads alone: the number and place that it answers, and what
+-- the bytes lent for the wires' keys and external values hold afterwards
+pub record OpenCall (file : List ℕ) (n K party round : ℕ) (contribution externals keys rows wkeys₀ wexternals₀ : List ℕ)
     (number place : ℕ) (wkeys wexternals : List ℕ) : Type 0 where
-  pub answer : Reports (openChecked shakePad file n K party contribution externals keys rows wkeys₀ wexternals₀) number place
-  pub wireKeysIs : wkeys ≡ openKeys shakePad file n K party contribution externals keys rows wkeys₀ wexternals₀
-  pub wireExternalsIs : wexternals ≡ openExternals shakePad file n K party contribution externals keys rows wkeys₀ wexternals₀
+  pub answer : Reports (openChecked (shakePad round) file n K party contribution externals keys rows wkeys₀ wexternals₀) number place
+  pub wireKeysIs : wkeys ≡ openKeys (shakePad round) file n K party contribution externals keys rows wkeys₀ wexternals₀
+  pub wireExternalsIs : wexternals ≡ openExternals (shakePad round) file n K party contribution externals keys rows wkeys₀ wexternals₀

@@ -1,4 +1,4 @@
--- One garbled row with its real pads: a bit that is projected to modulus 251, two parties, key length 1.
+-- One garbled row with its real pads: a bit that is projected to modulus 251, two parties, key length 1, a round whose four bytes differ.
 -- Assumes nothing.
 use mathlib.Core.List.{List, [], _∷_}
 use Prim.Native.Nat.{ℕ}
@@ -24,8 +24,8 @@ unfoldable pub rowZero : List ℕ
 rowZero =
     let wires : List Wire = readFile circuit .wires in
     let from : Source = sourceOf wires (drawn 2 1 wires contributions) 1 in
-    tableRow shakePad 2 1 1 (imageOf circuit (record { table = 3 }) 251) 2 (from .wire 0) (from .offset 2) 251 (from .drawn 0) (from .offset 251) 0
+    tableRow (shakePad 0x0403_0201) 2 1 1 (imageOf circuit (record { table = 3 }) 251) 2 (from .wire 0) (from .offset 2) 251 (from .drawn 0) (from .offset 251) 0
 
 -- the two bytes that an independent program gives: compare/row.py, with SHAKE256 of python's hashlib
 unfoldable pub computed : List ℕ
-computed = 243 ∷ 0 ∷ []
+computed = 68 ∷ 49 ∷ []

@@ -59,17 +59,17 @@ module _ (turn : Turn) {made : Made} (e : made ≡ madeOf turn) where
       → keyedOf m a ≡ A → D ≡ D′ → keyedOf m z ≡ Z → E ≡ E′ → ys ≡ tableMade (madeOf turn) file images q A D′ Z E′
   table-is file images q a z {ys} {D} {D′} {E} {E′} h f d g i =
       subst (λ (k : Made). ys ≡ tableMade k file images q (heldIn k a) D (heldIn k z) E) e h
-      ∙ table-same shakePad (turn .n) (turn .k) (turn .wire) p (imageOf file images p) refl f d g i
+      ∙ table-same (shakePad (turn .round)) (turn .n) (turn .k) (turn .wire) p (imageOf file images p) refl f d g i
 
   pub product-is : (a b z x : Held) {ys D D′ : List ℕ} {A B Z X : Keyed} → ys ≡ productMade made D (heldIn made a) (heldIn made b) (heldIn made z) (heldIn made x)
       → D ≡ D′ → keyedOf m a ≡ A → keyedOf m b ≡ B → keyedOf m z ≡ Z → keyedOf m x ≡ X → ys ≡ productMade (madeOf turn) D′ A B Z X
   product-is a b z x {ys} {D} {D′} h d f g i j =
       subst (λ (k : Made). ys ≡ productMade k D (heldIn k a) (heldIn k b) (heldIn k z) (heldIn k x)) e h
-      ∙ product-same shakePad (turn .n) (turn .k) (turn .wire) p d f g i j
+      ∙ product-same (shakePad (turn .round)) (turn .n) (turn .k) (turn .wire) p d f g i j
 
   pub choice-is : (v c z x y : Held) {ys D D′ E E′ : List ℕ} {B C Z X Y : Keyed}
       → ys ≡ choiceMade made D E (heldIn made v) (heldIn made c) (heldIn made z) (heldIn made x) (heldIn made y)
       → D ≡ D′ → E ≡ E′ → keyedOf m v ≡ B → keyedOf m c ≡ C → keyedOf m z ≡ Z → keyedOf m x ≡ X → keyedOf m y ≡ Y → ys ≡ choiceMade (madeOf turn) D′ E′ B C Z X Y
   choice-is v c z x y {ys} {D} {D′} {E} {E′} h d f g i j k l =
       subst (λ (t : Made). ys ≡ choiceMade t D E (heldIn t v) (heldIn t c) (heldIn t z) (heldIn t x) (heldIn t y)) e h
-      ∙ choice-same shakePad (turn .n) (turn .k) (turn .wire) p d f g i j k l
+      ∙ choice-same (shakePad (turn .round)) (turn .n) (turn .k) (turn .wire) p d f g i j k l

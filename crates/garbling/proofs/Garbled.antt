@@ -49,8 +49,8 @@ module _ {file : List ℕ} {circuit : Circuit} {n K size : ℕ} {contributions :
 
   -- ---- the pass: rows of so many wires stand, and the cursor is at the next record
 
-  abbrev pub rowsAt : ℕ → List ℕ
-  rowsAt = gateRows shakePad n K file wires drew
+  abbrev pub rowsAt : ℕ → ℕ → List ℕ
+  rowsAt round = gateRows (shakePad round) n K file wires drew
 
   abbrev pub sizeAt : ℕ → ℕ
   sizeAt w = rowsOf wires w * (n * K)
@@ -58,13 +58,13 @@ module _ {file : List ℕ} {circuit : Circuit} {n K size : ℕ} {contributions :
   total : sumTo (circuit .made) sizeAt ≡ rowsIn wires * (n * K)
   total = sumTo-times-right (circuit .made) (n * K) (rowsOf wires) ∙ ap (λ (m : ℕ). sumTo m (rowsOf wires) * (n * K)) (sym (made-is (r .held)))
 
-  pub pass-start : {rows : List ℕ} → length rows ≡ rowsIn wires * (n * K) → Steps rows 0 0 (circuit .made) sizeAt rowsAt 0 rows
-  pass-start e = steps-start (omega (arith, total))
+  pub pass-start : (round : ℕ) {rows : List ℕ} → length rows ≡ rowsIn wires * (n * K) → Steps rows 0 0 (circuit .made) sizeAt (rowsAt round) 0 rows
+  pass-start round e = steps-start (omega (arith, total))
 
-  pub pass-done : {rows₀ rows : List ℕ} {from w : ℕ} → Steps rows₀ 0 w (circuit .made) sizeAt rowsAt from rows → circuit .made ≤ w → length rows₀ ≡ rowsIn wires * (n * K)
-      → rows ≡ garbledRows shakePad n K file wires drew
+  pub pass-done : (round : ℕ) {rows₀ rows : List ℕ} {from w : ℕ} → Steps rows₀ 0 w (circuit .made) sizeAt (rowsAt round) from rows → circuit .made ≤ w → length rows₀ ≡ rowsIn wires * (n * K)
+      → rows ≡ garbledRows (shakePad round) n K file wires drew
   unfolding garbledRows
-  pass-done s h e = steps-whole s h (e ∙ sym total) ∙ ap (λ (m : ℕ). blocks m rowsAt) (sym (made-is (r .held)))
+  pass-done round s h e = steps-whole s h (e ∙ sym total) ∙ ap (λ (m : ℕ). blocks m (rowsAt round)) (sym (made-is (r .held)))
 
   module _ {keys masks : List ℕ} (z : ZeroKeys circuit n K contributions keys) (m : Masks circuit n K contributions masks) where
     module _ {ranks moduli : List ℕ} (er : ranks ≡ tab 256 (usedBelow wires)) (em : moduli ≡ moduliOf wires ++ replicate (1024 - circuit .made) 0)
@@ -74,19 +74,19 @@ module _ {file : List ℕ} {circuit : Circuit} {n K size : ℕ} {contributions :
       pub turn-size : y ≡ sizeAt w
       turn-size = e ∙ ap₂ _*_ (rows-counted r z m er em h here) f
 
-      module _ (number count : ℕ) (en : number ≡ w) (ec : Counts 3 (recordKeysBy (recipe (wireAt (circuit .wires) w))) count) where
+      module _ (round number count : ℕ) (en : number ≡ w) (ec : Counts 3 (recordKeysBy (recipe (wireAt (circuit .wires) w))) count) where
         abbrev turn : Turn
-        turn = record { n = n; k = K; wire = number; modulus = wireAt (circuit .wires) w .modulus; size = size; at = at; count = count }
+        turn = record { n = n; k = K; round = round; wire = number; modulus = wireAt (circuit .wires) w .modulus; size = size; at = at; count = count }
 
         pub turn-ready : {how : Recipe} {out : List ℕ} → how ≡ recipe (wireAt (circuit .wires) w) → length out ≡ sizeAt w
             → Sourced turn contributions ranks moduli keys masks file how out
         turn-ready {out = out} g l =
             subst (λ (q : Recipe). Sourced turn contributions ranks moduli keys masks file q out) (sym g)
-            (sourced r z m er em h here number count en (ec .is) (ec .most) (l ∙ ap (λ (i : ℕ). i * (n * K)) (sym (rows-counted r z m er em h here))))
+            (sourced r z m er em h here round number count en (ec .is) (ec .most) (l ∙ ap (λ (i : ℕ). i * (n * K)) (sym (rows-counted r z m er em h here))))
 
         pub turn-rows : {how : Recipe} {xs : List ℕ} → how ≡ recipe (wireAt (circuit .wires) w)
-            → xs ≡ rowsHere turn contributions ranks moduli keys masks file how → xs ≡ rowsAt w
-        turn-rows g k = k ∙ ap (rowsHere turn contributions ranks moduli keys masks file) g ∙ rows-are r z m er em h here number count en (ec .is)
+            → xs ≡ rowsHere turn contributions ranks moduli keys masks file how → xs ≡ rowsAt round w
+        turn-rows g k = k ∙ ap (rowsHere turn contributions ranks moduli keys masks file) g ∙ rows-are r z m er em h here round number count en (ec .is)
 
   module _ {masks : List ℕ} (m : Masks circuit n K contributions masks) where
     -- ---- the masks that are handed out

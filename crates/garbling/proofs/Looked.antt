@@ -178,9 +178,9 @@ module _ {file : List ℕ} {circuit : Circuit} {n K size : ℕ} {contributions :
         pub rows-counted : rowsBy (recipe wire) (λ a. getD moduli a 0) (wire .modulus) ≡ rowsOf wires w
         rows-counted = rows-same (recipe wire) _ (modulusAt wires) (wire .modulus) modulus-is ∙ ap (λ (v : Wire). rowsBy (recipe v) (modulusAt wires) (v .modulus)) (sym same)
 
-        module _ (number count : ℕ) (en : number ≡ w) (ec : count ≡ recordKeysBy (recipe wire)) where
+        module _ (round number count : ℕ) (en : number ≡ w) (ec : count ≡ recordKeysBy (recipe wire)) where
           abbrev turn : Turn
-          turn = record { n = n; k = K; wire = number; modulus = wire .modulus; size = size; at = at; count = count }
+          turn = record { n = n; k = K; round = round; wire = number; modulus = wire .modulus; size = size; at = at; count = count }
 
           p-is : modulusAt wires w ≡ wire .modulus
           p-is = ap (λ (v : Wire). v .modulus) same
@@ -245,9 +245,9 @@ module _ {file : List ℕ} {circuit : Circuit} {n K size : ℕ} {contributions :
                 drawn = λ j l. pair-is (key-is w here j) (ap (λ (q : ℕ). maskAt n size contributions q (at + K * count + j)) (sym p-is) ∙ share-is w here count j pairs);
               }
 
-          pub rows-are : rowsHere turn contributions ranks moduli keys masks file (recipe wire) ≡ gateRows shakePad n K file wires drew w
+          pub rows-are : rowsHere turn contributions ranks moduli keys masks file (recipe wire) ≡ gateRows (shakePad round) n K file wires drew w
           unfolding gateRows
           rows-are =
-              ap (λ (i : ℕ). rowsFrom shakePad n K i (wire .modulus) file (sourceHere turn contributions ranks moduli keys masks) (recipe wire)) en
-              ∙ ap (λ (v : Wire). rowsFrom shakePad n K w (v .modulus) file (sourceHere turn contributions ranks moduli keys masks) (recipe v)) (sym same)
-              ∙ from-same shakePad n K (recipe-fits (r .accepted) w inside) (λ a l. r .accepted .fits a (omega (arith, inside)) .byte) agree
+              ap (λ (i : ℕ). rowsFrom (shakePad round) n K i (wire .modulus) file (sourceHere turn contributions ranks moduli keys masks) (recipe wire)) en
+              ∙ ap (λ (v : Wire). rowsFrom (shakePad round) n K w (v .modulus) file (sourceHere turn contributions ranks moduli keys masks) (recipe v)) (sym same)
+              ∙ from-same (shakePad round) n K (recipe-fits (r .accepted) w inside) (λ a l. r .accepted .fits a (omega (arith, inside)) .byte) agree

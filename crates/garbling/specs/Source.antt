@@ -27,7 +27,7 @@ use Rattle.zero.specs.Turn.{keysAt, maskAt}
 use Rattle.garbling.specs.declared.turn.Turn.{Turn}
 
 abbrev pub madeOf : Turn → Made
-madeOf turn = record { n = turn .n; k = turn .k; wire = turn .wire; modulus = turn .modulus }
+madeOf turn = record { n = turn .n; k = turn .k; round = turn .round; wire = turn .wire; modulus = turn .modulus }
 
 -- ---- what the code looks up
 
@@ -60,7 +60,7 @@ sourceHere turn contributions ranks moduli keys masks =
 
 abbrev pub rowsHere : Turn → List ℕ → List ℕ → List ℕ → List ℕ → List ℕ → List ℕ → Recipe → List ℕ
 rowsHere turn contributions ranks moduli keys masks file how =
-    rowsFrom shakePad (turn .n) (turn .k) (turn .wire) (turn .modulus) file (sourceHere turn contributions ranks moduli keys masks) how
+    rowsFrom (shakePad (turn .round)) (turn .n) (turn .k) (turn .wire) (turn .modulus) file (sourceHere turn contributions ranks moduli keys masks) how
 
 module _ (turn : Turn) (contributions ranks keys masks : List ℕ) where
   abbrev pub tableHere : List ℕ → Lookup → ℕ → List ℕ

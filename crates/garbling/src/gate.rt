@@ -24,6 +24,7 @@ fn made_of(turn: Turn) -> Made
     Made {
         n: turn.n,
         k: turn.k,
+        round: turn.round,
         wire: turn.wire,
         modulus: turn.modulus,
     }

@@ -21,7 +21,7 @@ use counts::record_count;
 use counts::row_count;
 use lists::index_number;
 use lists::number_index;
-use session::Size;
+use session::Session;
 use words::Wire;
 use zero::wire_masks;
 use zero::zero_keys;
@@ -38,32 +38,32 @@ fn row_bytes(wire: Wire, moduli: &[u8], bytes: usize) -> usize
 pub fn put_rows(
     circuit: Circuit,
     file: &[u8],
-    n: usize,
-    k: usize,
+    session: Session,
     size: usize,
     contributions: &[u8],
     keys: &[u8],
     masks: &[u8],
     rows: &mut [u8],
 )
-    requires { ⌜ Contributed (now file) circuit n k size (now contributions) ⌝ }
-    requires { ⌜ ZeroKeys circuit n k (now contributions) (now keys) × Masks circuit n k (now contributions) (now masks) ⌝ }
-    requires { ⌜ length (now rows) ≡ rowsIn (wiresIn circuit) * (n * k) ⌝ }
-    ensures { λ _. ⌜ now (rows .exit) ≡ garbledRows shakePad n k (now (file .entry)) (wiresIn circuit) (drawnIn circuit n k (now (contributions .entry))) ⌝ }
+    requires { ⌜ Contributed (now file) circuit (session .n) (session .k) size (now contributions) ⌝ }
+    requires { ⌜ ZeroKeys circuit (session .n) (session .k) (now contributions) (now keys) × Masks circuit (session .n) (session .k) (now contributions) (now masks) ⌝ }
+    requires { ⌜ length (now rows) ≡ rowsIn (wiresIn circuit) * (session .n * session .k) ⌝ }
+    ensures { λ _. ⌜ now (rows .exit) ≡ garbledRows (shakePad (session .round)) (session .n) (session .k) (now (file .entry)) (wiresIn circuit) (drawnIn circuit (session .n) (session .k) (now (contributions .entry))) ⌝ }
 {
     let moduli = counts::moduli(circuit);
     let ranks = contribution::ranks(circuit);
-    let bytes = n * k;
+    let bytes = session.n * session.k;
     let made = circuit.made;
-    let mut at = first_record(circuit, k);
+    let mut at = first_record(circuit, session.k);
     let mut from = 0;
     let mut w = 0;
     while w < made {
         let wire = circuit.wires[w];
         let to = from + row_bytes(wire, &moduli, bytes);
         let turn = Turn {
-            n,
-            k,
+            n: session.n,
+            k: session.k,
+            round: session.round,
             wire: index_number(w),
             modulus: wire.modulus,
             size,
@@ -81,7 +81,7 @@ pub fn put_rows(
             masks,
             &mut rows[from..to],
         );
-        at += record_size(wire, k);
+        at += record_size(wire, session.k);
         from = to;
         w += 1;
     }
@@ -91,7 +91,7 @@ pub fn put_rows(
 fn garble_from(
     circuit: Circuit,
     file: &[u8],
-    sizes: Size,
+    session: Session,
     size: usize,
     contributions: &[u8],
     keys: &[u8],
@@ -99,20 +99,19 @@ fn garble_from(
     inputs: &mut [u8],
     outputs: &mut [u8],
 )
-    requires { ⌜ Contributed (now file) circuit (sizes .n) (sizes .k) size (now contributions) ⌝ }
-    requires { ⌜ ZeroKeys circuit (sizes .n) (sizes .k) (now contributions) (now keys) ⌝ }
-    requires { ⌜ (length (now rows) ≡ rowsIn (wiresIn circuit) * (sizes .n * sizes .k))
+    requires { ⌜ Contributed (now file) circuit (session .n) (session .k) size (now contributions) ⌝ }
+    requires { ⌜ ZeroKeys circuit (session .n) (session .k) (now contributions) (now keys) ⌝ }
+    requires { ⌜ (length (now rows) ≡ rowsIn (wiresIn circuit) * (session .n * session .k))
         × ((length (now inputs) ≡ inputsIn (wiresIn circuit)) × (length (now outputs) ≡ length (outputsIn circuit))) ⌝ }
-    ensures { λ _. ⌜ (now (rows .exit) ≡ garbledRows shakePad (sizes .n) (sizes .k) (now (file .entry)) (wiresIn circuit) (drawnIn circuit (sizes .n) (sizes .k) (now (contributions .entry))))
-        × ((now (inputs .exit) ≡ inputMasks (wiresIn circuit) (drawnIn circuit (sizes .n) (sizes .k) (now (contributions .entry))))
-        × (now (outputs .exit) ≡ outputMasks (wiresIn circuit) (outputsIn circuit) (drawnIn circuit (sizes .n) (sizes .k) (now (contributions .entry))))) ⌝ }
+    ensures { λ _. ⌜ (now (rows .exit) ≡ garbledRows (shakePad (session .round)) (session .n) (session .k) (now (file .entry)) (wiresIn circuit) (drawnIn circuit (session .n) (session .k) (now (contributions .entry))))
+        × ((now (inputs .exit) ≡ inputMasks (wiresIn circuit) (drawnIn circuit (session .n) (session .k) (now (contributions .entry))))
+        × (now (outputs .exit) ≡ outputMasks (wiresIn circuit) (outputsIn circuit) (drawnIn circuit (session .n) (session .k) (now (contributions .entry))))) ⌝ }
 {
-    let masks = wire_masks(circuit, file, sizes.n, sizes.k, size, contributions);
+    let masks = wire_masks(circuit, file, session.n, session.k, size, contributions);
     put_rows(
         circuit,
         file,
-        sizes.n,
-        sizes.k,
+        session,
         size,
         contributions,
         keys,
@@ -127,7 +126,7 @@ fn garble_from(
 fn garble_in(
     circuit: Circuit,
     file: &[u8],
-    sizes: Size,
+    session: Session,
     size: usize,
     contributions: &[u8],
     work: &mut [u8],
@@ -135,20 +134,20 @@ fn garble_in(
     inputs: &mut [u8],
     outputs: &mut [u8],
 )
-    requires { ⌜ Contributed (now file) circuit (sizes .n) (sizes .k) size (now contributions) ⌝ }
+    requires { ⌜ Contributed (now file) circuit (session .n) (session .k) size (now contributions) ⌝ }
     requires { ⌜ 1048576 ≤ length (now work) ⌝ }
-    requires { ⌜ (length (now rows) ≡ rowsIn (wiresIn circuit) * (sizes .n * sizes .k))
+    requires { ⌜ (length (now rows) ≡ rowsIn (wiresIn circuit) * (session .n * session .k))
         × ((length (now inputs) ≡ inputsIn (wiresIn circuit)) × (length (now outputs) ≡ length (outputsIn circuit))) ⌝ }
-    ensures { λ _. ⌜ (now (rows .exit) ≡ garbledRows shakePad (sizes .n) (sizes .k) (now (file .entry)) (wiresIn circuit) (drawnIn circuit (sizes .n) (sizes .k) (now (contributions .entry))))
-        × ((now (inputs .exit) ≡ inputMasks (wiresIn circuit) (drawnIn circuit (sizes .n) (sizes .k) (now (contributions .entry))))
-        × (now (outputs .exit) ≡ outputMasks (wiresIn circuit) (outputsIn circuit) (drawnIn circuit (sizes .n) (sizes .k) (now (contributions .entry))))) ⌝ }
+    ensures { λ _. ⌜ (now (rows .exit) ≡ garbledRows (shakePad (session .round)) (session .n) (session .k) (now (file .entry)) (wiresIn circuit) (drawnIn circuit (session .n) (session .k) (now (contributions .entry))))
+        × ((now (inputs .exit) ≡ inputMasks (wiresIn circuit) (drawnIn circuit (session .n) (session .k) (now (contributions .entry))))
+        × (now (outputs .exit) ≡ outputMasks (wiresIn circuit) (outputsIn circuit) (drawnIn circuit (session .n) (session .k) (now (contributions .entry))))) ⌝ }
 {
-    let bytes = circuit.made * (sizes.n * sizes.k);
+    let bytes = circuit.made * (session.n * session.k);
     zero_keys(
         circuit,
         file,
-        sizes.n,
-        sizes.k,
+        session.n,
+        session.k,
         size,
         contributions,
         &mut work[..bytes],
@@ -156,7 +155,7 @@ fn garble_in(
     garble_from(
         circuit,
         file,
-        sizes,
+        session,
         size,
         contributions,
         &work[..bytes],
@@ -175,25 +174,25 @@ fn zeros() -> [u8; 1048576] {
 pub fn garble(
     circuit: Circuit,
     file: &[u8],
-    sizes: Size,
+    session: Session,
     size: usize,
     contributions: &[u8],
     rows: &mut [u8],
     inputs: &mut [u8],
     outputs: &mut [u8],
 )
-    requires { ⌜ Contributed (now file) circuit (sizes .n) (sizes .k) size (now contributions) ⌝ }
-    requires { ⌜ (length (now rows) ≡ rowsIn (wiresIn circuit) * (sizes .n * sizes .k))
+    requires { ⌜ Contributed (now file) circuit (session .n) (session .k) size (now contributions) ⌝ }
+    requires { ⌜ (length (now rows) ≡ rowsIn (wiresIn circuit) * (session .n * session .k))
         × ((length (now inputs) ≡ inputsIn (wiresIn circuit)) × (length (now outputs) ≡ length (outputsIn circuit))) ⌝ }
-    ensures { λ _. ⌜ (now (rows .exit) ≡ garbledRows shakePad (sizes .n) (sizes .k) (now (file .entry)) (wiresIn circuit) (drawnIn circuit (sizes .n) (sizes .k) (now (contributions .entry))))
-        × ((now (inputs .exit) ≡ inputMasks (wiresIn circuit) (drawnIn circuit (sizes .n) (sizes .k) (now (contributions .entry))))
-        × (now (outputs .exit) ≡ outputMasks (wiresIn circuit) (outputsIn circuit) (drawnIn circuit (sizes .n) (sizes .k) (now (contributions .entry))))) ⌝ }
+    ensures { λ _. ⌜ (now (rows .exit) ≡ garbledRows (shakePad (session .round)) (session .n) (session .k) (now (file .entry)) (wiresIn circuit) (drawnIn circuit (session .n) (session .k) (now (contributions .entry))))
+        × ((now (inputs .exit) ≡ inputMasks (wiresIn circuit) (drawnIn circuit (session .n) (session .k) (now (contributions .entry))))
+        × (now (outputs .exit) ≡ outputMasks (wiresIn circuit) (outputsIn circuit) (drawnIn circuit (session .n) (session .k) (now (contributions .entry))))) ⌝ }
 {
     let mut work = zeros();
     garble_in(
         circuit,
         file,
-        sizes,
+        session,
         size,
         contributions,
         &mut work,

@@ -34,12 +34,12 @@ pub below-part : {p : ℕ} {xs : List ℕ} → AllBelow p xs → (at n : ℕ) �
 unfolding part
 below-part {p} {xs} b at n = below-take p n (below-drop p at b)
 
-module _ (n K p : ℕ) (under : Under) (senders : List ℕ) where
+module _ (n K p round : ℕ) (under : Under) (senders : List ℕ) where
   abbrev pads : List ℕ
-  pads = padRow shakePad K p under senders n
+  pads = padRow (shakePad round) K p under senders n
 
   pads-length : length pads ≡ n * K
-  pads-length = padRow-length shakePad K p (shakePad-length p K) under senders n
+  pads-length = padRow-length (shakePad round) K p (shakePad-length round p K) under senders n
 
   -- pads taken off a copy
   pub bare-row : {row out out′ : List ℕ} → out ≡ row → out′ ≡ subV p out pads → out′ ≡ subV p row pads
@@ -67,13 +67,13 @@ module _ {n K p count : ℕ} {rows : List ℕ} (r : Rows n K p rows count) where
 
 -- ---- the keys that they give
 
-module _ (n K w p : ℕ) (rows : List ℕ) where
+module _ (n K round w p : ℕ) (rows : List ℕ) where
   abbrev bareRow : ℕ → ℕ → List ℕ → List ℕ → List ℕ
-  bareRow q component senders row = subV p row (padRow shakePad K p (placed q w component) senders n)
+  bareRow q component senders row = subV p row (padRow (shakePad round) K p (placed q w component) senders n)
 
   -- the row of a place, under another name
   bared-is : (q component : ℕ) (senders : List ℕ) {row : List ℕ} (r : ℕ) → row ≡ nthPiece rows (n * K) r
-      → bareRow q component senders row ≡ bared shakePad n K w p rows q component senders r
+      → bareRow q component senders row ≡ bared (shakePad round) n K w p rows q component senders r
   unfolding bared
   bared-is q component senders r e = ap (bareRow q component senders) e
 
@@ -81,7 +81,7 @@ module _ (n K w p : ℕ) (rows : List ℕ) where
   row-at e f = e ∙ ap (nthPiece rows (n * K)) f
 
   pub table-is : (q : ℕ) (a : List ℕ) (α : ℕ) {i : ℕ} {row out : List ℕ} → row ≡ nthPiece rows (n * K) i → i ≡ α → out ≡ bareRow q 0 a row
-      → out ≡ tableKeys shakePad n K w p rows q (held a α)
+      → out ≡ tableKeys (shakePad round) n K w p rows q (held a α)
   unfolding tableKeys
   table-is q a α e f g = g ∙ bared-is q 0 a α (row-at e f)
 
@@ -91,7 +91,7 @@ module _ (n K w p : ℕ) (rows : List ℕ) where
       → out₀ ≡ bareRow p 0 a row₀
       → out₁ ≡ addV p out₀ (bareRow p 1 b row₁)
       → out ≡ addV p out₁ (mulV p β a)
-      → out ≡ productKeys shakePad n K w p rows (held a α) (held b β)
+      → out ≡ productKeys (shakePad round) n K w p rows (held a α) (held b β)
   unfolding productKeys
   product-is a b α β e f g h x y z =
       z ∙ ap (λ (xs : List ℕ). addV p xs (mulV p β a))
@@ -99,21 +99,21 @@ module _ (n K w p : ℕ) (rows : List ℕ) where
 
   -- the chooser
   pub chooser-zero : (v : List ℕ) (bit : ℕ) (d : List ℕ) {i : ℕ} {row out : List ℕ} → row ≡ nthPiece rows (n * K) i → i ≡ bit → bit ≡ 0
-      → out ≡ bareRow 2 0 v row → out ≡ chosen bit p (bared shakePad n K w p rows 2 0 v bit) d
+      → out ≡ bareRow 2 0 v row → out ≡ chosen bit p (bared (shakePad round) n K w p rows 2 0 v bit) d
   unfolding chosen
   chooser-zero v zero d e f h x = x ∙ bared-is 2 0 v 0 (row-at e f)
   chooser-zero v (suc bit) d e f h x = absurd (omega arith)
 
   pub chooser-one : (v : List ℕ) (bit : ℕ) (d : List ℕ) {i : ℕ} {row out out′ : List ℕ} → row ≡ nthPiece rows (n * K) i → i ≡ bit → (bit ≡ 0 → ⊥)
-      → out ≡ bareRow 2 0 v row → out′ ≡ addV p out (mulV p 1 d) → out′ ≡ chosen bit p (bared shakePad n K w p rows 2 0 v bit) d
+      → out ≡ bareRow 2 0 v row → out′ ≡ addV p out (mulV p 1 d) → out′ ≡ chosen bit p (bared (shakePad round) n K w p rows 2 0 v bit) d
   unfolding chosen
   chooser-one v zero d e f h x y = absurd (h refl)
   chooser-one v (suc bit) d {out = out} e f h x y =
       y ∙ add-once p out d ∙ ap (λ (xs : List ℕ). addV p xs d) (x ∙ bared-is 2 0 v (suc bit) (row-at e f))
 
   pub choice-is : (v : List ℕ) (bit : ℕ) (d : List ℕ) (α : ℕ) {row out₀ out : List ℕ} → row ≡ nthPiece rows (n * K) (corrector p bit α)
-      → out₀ ≡ chosen bit p (bared shakePad n K w p rows 2 0 v bit) d
+      → out₀ ≡ chosen bit p (bared (shakePad round) n K w p rows 2 0 v bit) d
       → out ≡ addV p out₀ (bareRow p (1 + bit) d row)
-      → out ≡ choiceKeys shakePad n K w p rows (held v bit) (held d α)
+      → out ≡ choiceKeys (shakePad round) n K w p rows (held v bit) (held d α)
   unfolding choiceKeys
   choice-is v bit d α e x y = y ∙ ap₂ (addV p) x (bared-is p (1 + bit) d (corrector p bit α) e)

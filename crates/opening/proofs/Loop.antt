@@ -41,15 +41,15 @@ module _ {circuit : Circuit} {n K party : ℕ} {contribution externals keys rows
   abbrev m : ℕ
   m = n * K
 
-  abbrev Stands : ℕ → ℕ → ℕ → List ℕ → List ℕ → Type 0
-  Stands w z from wkeys wexternals = Reached n K party wires contribution externals keys rows w z from wkeys wexternals
+  abbrev Stands : ℕ → ℕ → ℕ → ℕ → List ℕ → List ℕ → Type 0
+  Stands round w z from wkeys wexternals = Reached n K party round wires contribution externals keys rows w z from wkeys wexternals
 
   size-is : {long : ℕ} → long ≡ circuit .made * m → long ≡ length wires * m
   size-is e = e ∙ ap (λ (x : ℕ). x * m) (sym (made-is (given .held)))
 
-  pub loop-start : {zero : ℕ} {wkeys wexternals : List ℕ} → zero ≡ recordAt K wires 0 → length wkeys ≡ circuit .made * m → length wexternals ≡ circuit .made
-      → Stands 0 zero 0 wkeys wexternals
-  loop-start e f g = reached-start n K party wires contribution externals keys rows e (size-is f) (g ∙ sym (made-is (given .held)))
+  pub loop-start : {round zero : ℕ} {wkeys wexternals : List ℕ} → zero ≡ recordAt K wires 0 → length wkeys ≡ circuit .made * m → length wexternals ≡ circuit .made
+      → Stands round 0 zero 0 wkeys wexternals
+  loop-start {round} e f g = reached-start n K party round wires contribution externals keys rows e (size-is f) (g ∙ sym (made-is (given .held)))
 
   pub table-long : {table : List ℕ} → table ≡ moduliOf wires ++ replicate (1024 - circuit .made) 0 → length table ≡ 1024
   table-long e =
@@ -67,7 +67,7 @@ module _ {circuit : Circuit} {n K party : ℕ} {contribution externals keys rows
   places-size e = ap length e ∙ length-tab 256 (usedBelow wires)
 
   -- a wire that the loop has come to
-  module _ {w zero from : ℕ} {wkeys wexternals : List ℕ} (h : w < circuit .made) (r : Stands w zero from wkeys wexternals) where
+  module _ {round w zero from : ℕ} {wkeys wexternals : List ℕ} (h : w < circuit .made) (r : Stands round w zero from wkeys wexternals) where
     abbrev wire : Wire
     wire = wireAt (circuit .wires) w
 
@@ -100,7 +100,7 @@ module _ {circuit : Circuit} {n K party : ℕ} {contribution externals keys rows
         module _ {places : List ℕ} (places-are : places ≡ tab 256 (usedBelow wires)) {how : Recipe} (how-is : how ≡ recipe wire) {own : List ℕ} (own-is : own ≡ part rows from size)
             {number over offset : ℕ} (number-is : number ≡ w) (over-is : over ≡ overBy how (λ a. getD table a 0)) (offset-is : offset ≡ K * getD places (wire .modulus) 0) where
           abbrev turn : Turn
-          turn = record { n = n; k = K; party = party; wire = number; modulus = wire .modulus; over = over; zero = zero; offset = offset }
+          turn = record { n = n; k = K; party = party; round = round; wire = number; modulus = wire .modulus; over = over; zero = zero; offset = offset }
 
           how-same : how ≡ recipe (wireAt wires w)
           how-same = how-is ∙ ap recipe (sym wire-same)
@@ -123,18 +123,18 @@ module _ {circuit : Circuit} {n K party : ℕ} {contribution externals keys rows
               (ap₂ (λ (l : List ℕ) (q : ℕ). getD l q 0) places-are modulus-same
               ∙ getD-tab 256 (usedBelow wires) (modulusAt wires w) 0 (given .accepted .fits w within .byte))
 
-          turn-same : turn ≡ turnAt n K party wires w
+          turn-same : turn ≡ turnAt n K party round wires w
           turn-same = rw (number-is, modulus-same, over-there, r .zeroIs, offset-same)
 
           pub turn-seated : Seated turn
-          turn-seated = subst (λ (t : Turn). Seated t) (sym turn-same) (seated given w within)
+          turn-seated = subst (λ (t : Turn). Seated t) (sym turn-same) (seated given round w within)
 
           pub turn-ready : Ready turn contribution externals keys own wkeys wexternals how
           turn-ready =
               subst (λ (t : Turn). Ready t contribution externals keys own wkeys wexternals how) (sym turn-same)
-              (subst (λ (l : List ℕ). Ready (turnAt n K party wires w) contribution externals keys l wkeys wexternals how) (sym own-same)
-              (subst (λ (h : Recipe). Ready (turnAt n K party wires w) contribution externals keys (ownRows n K wires rows w) wkeys wexternals h) (sym how-same)
-              (ready given w within r)))
+              (subst (λ (l : List ℕ). Ready (turnAt n K party round wires w) contribution externals keys l wkeys wexternals how) (sym own-same)
+              (subst (λ (h : Recipe). Ready (turnAt n K party round wires w) contribution externals keys (ownRows n K wires rows w) wkeys wexternals h) (sym how-same)
+              (ready given round w within r)))
 
           pub turn-room : Room turn wkeys wexternals
           turn-room =
@@ -144,46 +144,46 @@ module _ {circuit : Circuit} {n K party : ℕ} {contribution externals keys rows
               }
 
           abbrev final : ℕ → Opened
-          final = openedAt n K party wires contribution externals keys rows
+          final = openedAt n K party round wires contribution externals keys rows
 
           -- what the code opens here is what document 01 opens
           opens : openAt turn contribution externals keys own wkeys wexternals how ≡ final w
           opens =
               ap (λ (t : Turn). openAt t contribution externals keys own wkeys wexternals how) turn-same
-              ∙ ap₂ (λ (l : List ℕ) (h : Recipe). openAt (turnAt n K party wires w) contribution externals keys l wkeys wexternals h) own-same how-same
-              ∙ wire-is n K party wires contribution externals keys rows (given .ownSize) w (given .accepted) within wkeys wexternals (r .wire)
+              ∙ ap₂ (λ (l : List ℕ) (h : Recipe). openAt (turnAt n K party round wires w) contribution externals keys l wkeys wexternals h) own-same how-same
+              ∙ wire-is n K party round wires contribution externals keys rows (given .ownSize) w (given .accepted) within wkeys wexternals (r .wire)
 
           module _ {e : ℕ} {wkeys′ wexternals′ : List ℕ}
               (put : Stored turn (openAt turn contribution externals keys own wkeys wexternals how) wkeys wexternals e wkeys′ wexternals′) where
-            put-same : Stored (turnAt n K party wires w) (final w) wkeys wexternals e wkeys′ wexternals′
+            put-same : Stored (turnAt n K party round wires w) (final w) wkeys wexternals e wkeys′ wexternals′
             put-same =
                 subst (λ (t : Turn). Stored t (final w) wkeys wexternals e wkeys′ wexternals′) turn-same
                 (subst (λ (o : Opened). Stored turn o wkeys wexternals e wkeys′ wexternals′) opens put)
 
-            pub loop-next : {step : ℕ} → e < wire .modulus → step ≡ (K + 1) * recordKeysBy (recipe wire) → Stands (w + 1) (zero + step) (from + size) wkeys′ wexternals′
+            pub loop-next : {step : ℕ} → e < wire .modulus → step ≡ (K + 1) * recordKeysBy (recipe wire) → Stands round (w + 1) (zero + step) (from + size) wkeys′ wexternals′
             loop-next {step} l s =
-                reached-step n K party wires contribution externals keys rows r within put-same (subst (λ (q : ℕ). e < q) modulus-same l)
+                reached-step n K party round wires contribution externals keys rows r within put-same (subst (λ (q : ℕ). e < q) modulus-same l)
                 (ap (λ (x : ℕ). zero + x) (s ∙ ap (λ (x : ℕ). (K + 1) * x) (records-here (given .held) h))) (ap (λ (x : ℕ). from + x) size-here)
 
             -- the buffers keep their sizes, whether a multiplier fits or not
             pub loop-keys : length wkeys′ ≡ length wires * m
-            loop-keys = kept-keys n K party wires contribution externals keys rows r within put-same
+            loop-keys = kept-keys n K party round wires contribution externals keys rows r within put-same
 
             pub loop-externals : length wexternals′ ≡ length wires
-            loop-externals = kept-externals n K party wires contribution externals keys rows r within put-same
+            loop-externals = kept-externals n K party round wires contribution externals keys rows r within put-same
 
-            pub loop-short : wire .modulus ≤ e → Swept n K party wires contribution externals keys rows w wkeys′ wexternals′
+            pub loop-short : wire .modulus ≤ e → Swept n K party round wires contribution externals keys rows w wkeys′ wexternals′
             loop-short l =
-                swept-short n K party wires contribution externals keys rows r within put-same (subst (λ (q : ℕ). q ≤ e) modulus-same l)
+                swept-short n K party round wires contribution externals keys rows r within put-same (subst (λ (q : ℕ). q ≤ e) modulus-same l)
 
-  pub loop-all : {w zero from : ℕ} {wkeys wexternals : List ℕ} → Stands w zero from wkeys wexternals → circuit .made ≤ w
-      → Swept n K party wires contribution externals keys rows w wkeys wexternals
-  loop-all r h = swept-all n K party wires contribution externals keys rows r (omega (arith, made-is (given .held)))
+  pub loop-all : {round w zero from : ℕ} {wkeys wexternals : List ℕ} → Stands round w zero from wkeys wexternals → circuit .made ≤ w
+      → Swept n K party round wires contribution externals keys rows w wkeys wexternals
+  loop-all {round} r h = swept-all n K party round wires contribution externals keys rows r (omega (arith, made-is (given .held)))
 
   -- ---- what the call leaves
 
-  module _ {r : ℕ} {wkeys wexternals : List ℕ} (s : Swept n K party wires contribution externals keys rows r wkeys wexternals) {wkeys₀ wexternals₀ : List ℕ} where
-    pub opens-all : circuit .made ≤ r → OpensAll circuit n K party contribution externals keys rows wkeys₀ wexternals₀ r wkeys wexternals
+  module _ {round r : ℕ} {wkeys wexternals : List ℕ} (s : Swept n K party round wires contribution externals keys rows r wkeys wexternals) {wkeys₀ wexternals₀ : List ℕ} where
+    pub opens-all : circuit .made ≤ r → OpensAll circuit n K party round contribution externals keys rows wkeys₀ wexternals₀ r wkeys wexternals
     opens-all h =
         record {
           found = s .found;
@@ -195,7 +195,7 @@ module _ {circuit : Circuit} {n K party : ℕ} {contribution externals keys rows
 
     pub opens-short : {wkeys′ wexternals′ : List ℕ} → r < circuit .made → length wkeys₀ ≡ circuit .made * m → length wexternals₀ ≡ circuit .made
         → wkeys′ ≡ replicate (length wkeys) 0 → wexternals′ ≡ replicate (length wexternals) 0
-        → OpensAll circuit n K party contribution externals keys rows wkeys₀ wexternals₀ r wkeys′ wexternals′
+        → OpensAll circuit n K party round contribution externals keys rows wkeys₀ wexternals₀ r wkeys′ wexternals′
     opens-short h ek ee fk fe =
         record {
           found = s .found;

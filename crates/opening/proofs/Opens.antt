@@ -40,9 +40,9 @@ pub over-at : {how : Recipe} {g : Lookup} (f : ℕ → ℕ) → how ≡ Table g 
 over-at f e = ap (λ (h : Recipe). overBy h f) e
 
 -- no other modulus of a lower wire is looked up
-module _ (n K w p : ℕ) (modulusOf : ℕ → ℕ) (found : List ℕ → ℕ) (rows : List ℕ) (given : Opened) (look : ℕ → Opened) where
+module _ (round n K w p : ℕ) (modulusOf : ℕ → ℕ) (found : List ℕ → ℕ) (rows : List ℕ) (given : Opened) (look : ℕ → Opened) where
   one-modulus : (how : Recipe)
-      → openFrom shakePad n K w p (λ _. overBy how modulusOf) found rows given look how ≡ openFrom shakePad n K w p modulusOf found rows given look how
+      → openFrom (shakePad round) n K w p (λ _. overBy how modulusOf) found rows given look how ≡ openFrom (shakePad round) n K w p modulusOf found rows given look how
   unfolding openFrom
   one-modulus Entered = refl
   one-modulus (Sum o) = refl
@@ -66,12 +66,13 @@ module _ (K : ℕ) (wires : List Wire) (c : List ℕ) (e : length c ≡ contribu
 
 -- ---- the turn at wire w
 
-abbrev pub turnAt : ℕ → ℕ → ℕ → List Wire → ℕ → Turn
-turnAt n K party wires w =
+abbrev pub turnAt : ℕ → ℕ → ℕ → ℕ → List Wire → ℕ → Turn
+turnAt n K party round wires w =
     record {
       n = n;
       k = K;
       party = party;
+      round = round;
       wire = w;
       modulus = modulusAt wires w;
       over = overBy (recipe (wireAt wires w)) (modulusAt wires);
@@ -79,9 +80,9 @@ turnAt n K party wires w =
       offset = offsetAt K wires (modulusAt wires w);
     }
 
-module _ (n K party : ℕ) (wires : List Wire) (contribution externals keys rows : List ℕ) (e : length contribution ≡ contributionSize K wires) (w : ℕ) where
+module _ (n K party round : ℕ) (wires : List Wire) (contribution externals keys rows : List ℕ) (e : length contribution ≡ contributionSize K wires) (w : ℕ) where
   abbrev turn : Turn
-  turn = turnAt n K party wires w
+  turn = turnAt n K party round wires w
 
   found-is : multiplierAt turn contribution ≡ multiplierOf K party wires (drawn 1 K wires contribution) w
   unfolding multiplierAt multiplierOf
@@ -90,14 +91,14 @@ module _ (n K party : ℕ) (wires : List Wire) (contribution externals keys rows
       (sym (own-offset-is K wires contribution e (modulusAt wires w)))
 
   module _ {file : List ℕ} {outputs : List ℕ} (accepted : AcceptedCircuit file wires outputs) (made : w < length wires) (wkeys wexternals : List ℕ)
-      (below : (a : ℕ) → a < w → lower (n * K) wkeys wexternals a ≡ openedAt n K party wires contribution externals keys rows a) where
+      (below : (a : ℕ) → a < w → lower (n * K) wkeys wexternals a ≡ openedAt n K party round wires contribution externals keys rows a) where
     pub wire-is : openAt turn contribution externals keys (ownRows n K wires rows w) wkeys wexternals (recipe (wireAt wires w))
-        ≡ openedAt n K party wires contribution externals keys rows w
+        ≡ openedAt n K party round wires contribution externals keys rows w
     unfolding openAt openBy openWire
     wire-is =
-        one-modulus n K w (modulusAt wires w) (modulusAt wires) _ _ _ _ (recipe (wireAt wires w))
+        one-modulus round n K w (modulusAt wires w) (modulusAt wires) _ _ _ _ (recipe (wireAt wires w))
         ∙ ap
-        (λ (found : List ℕ → ℕ). openFrom shakePad n K w (modulusAt wires w) (modulusAt wires) found (ownRows n K wires rows w)
+        (λ (found : List ℕ → ℕ). openFrom (shakePad round) n K w (modulusAt wires w) (modulusAt wires) found (ownRows n K wires rows w)
         (openInput n K externals keys w) (lower (n * K) wkeys wexternals) (recipe (wireAt wires w))) found-is
-        ∙ open-same shakePad n K (modulusAt wires w) (modulusAt wires) _ _ _ _ _ (recipe-fits accepted w made) below
-        ∙ sym (open-step accepted w made shakePad n K party (drawn 1 K wires contribution) externals keys rows)
+        ∙ open-same (shakePad round) n K (modulusAt wires w) (modulusAt wires) _ _ _ _ _ (recipe-fits accepted w made) below
+        ∙ sym (open-step accepted w made (shakePad round) n K party (drawn 1 K wires contribution) externals keys rows)

@@ -81,12 +81,12 @@ module _ {circuit : Circuit} {n K party : ℕ} {contribution externals keys rows
       leb-false (modulusAt wires w) (getD externals w 0)
       (noneBad-none (length externals) (tooLarge externals (modulusAt wires)) ValueTooLarge (given .externalsBelow) w (omega (arith, given .externalsSize)))
 
-  module _ (w : ℕ) (made : w < length wires) where
+  module _ (round w : ℕ) (made : w < length wires) where
     abbrev p : ℕ
     p = modulusAt wires w
 
     abbrev turn : Turn
-    turn = turnAt n K party wires w
+    turn = turnAt n K party round wires w
 
     pub seated : Seated turn
     seated = record { sizes = given .sizes; party = given .seated; modulus = prime (given .accepted) w made .two }
@@ -111,7 +111,7 @@ module _ {circuit : Circuit} {n K party : ℕ} {contribution externals keys rows
           }
 
     module _ {zero from : ℕ} {wkeys wexternals : List ℕ}
-        (r : Reached n K party wires contribution externals keys rows w zero from wkeys wexternals) where
+        (r : Reached n K party round wires contribution externals keys rows w zero from wkeys wexternals) where
       lower-there : (a : ℕ) → a < w → Lower turn (modulusAt wires a) wkeys wexternals a
       lower-there a l =
           record {

@@ -12,10 +12,10 @@ use Rattle.scheme.specs.Draw.{drawn}
 use Rattle.scheme.specs.Opening.{Opened, opened, nothing, rowAt}
 use Rattle.opening.specs.Step.{lower}
 
-module _ (n K party : ℕ) (wires : List Wire) (contribution externals keys rows : List ℕ) where
+module _ (n K party round : ℕ) (wires : List Wire) (contribution externals keys rows : List ℕ) where
   -- wire v, as document 01 opens it
   abbrev pub openedAt : ℕ → Opened
-  openedAt v = getD (opened shakePad n K party wires (drawn 1 K wires contribution) externals keys rows) v nothing
+  openedAt v = getD (opened (shakePad round) n K party wires (drawn 1 K wires contribution) externals keys rows) v nothing
 
   -- before wire w: each lower wire fits, and stands in the buffers; the cursors stand at w's record and at its rows
   pub record Reached (w zero from : ℕ) (wkeys wexternals : List ℕ) : Type 0 where

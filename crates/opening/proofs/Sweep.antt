@@ -34,15 +34,15 @@ whole : (o : Opened) {keys : List ℕ} {external : ℕ} → keys ≡ o .keys →
     → record { keys = keys; external = external; fits = true } ≡ o
 whole o e f g = rw (e, f, ← g)
 
-module _ (n K party : ℕ) (wires : List Wire) (contribution externals keys rows : List ℕ) where
+module _ (n K party round : ℕ) (wires : List Wire) (contribution externals keys rows : List ℕ) where
   abbrev m : ℕ
   m = n * K
 
   abbrev final : ℕ → Opened
-  final = openedAt n K party wires contribution externals keys rows
+  final = openedAt n K party round wires contribution externals keys rows
 
   abbrev Stands : ℕ → ℕ → ℕ → List ℕ → List ℕ → Type 0
-  Stands w z from wkeys wexternals = Reached n K party wires contribution externals keys rows w z from wkeys wexternals
+  Stands w z from wkeys wexternals = Reached n K party round wires contribution externals keys rows w z from wkeys wexternals
 
   pub reached-start : {zero : ℕ} {wkeys wexternals : List ℕ} → zero ≡ recordAt K wires 0 → length wkeys ≡ length wires * m → length wexternals ≡ length wires
       → Stands 0 zero 0 wkeys wexternals
@@ -61,7 +61,7 @@ module _ (n K party : ℕ) (wires : List Wire) (contribution externals keys rows
   -- ---- a turn that found its multiplier
 
   module _ {w zero from : ℕ} {wkeys wexternals : List ℕ} (r : Stands w zero from wkeys wexternals) (made : w < length wires) {e : ℕ} {wkeys′ wexternals′ : List ℕ}
-      (put : Stored (turnAt n K party wires w) (final w) wkeys wexternals e wkeys′ wexternals′) where
+      (put : Stored (turnAt n K party round wires w) (final w) wkeys wexternals e wkeys′ wexternals′) where
     inside : w * m + length (put .out) ≤ length wkeys
     inside = omega (arith, times-fits w (length wires) m made, r .keysSize, put .size)
 
@@ -122,7 +122,7 @@ module _ (n K party : ℕ) (wires : List Wire) (contribution externals keys rows
     unfolding lower
     fits-before v l = ap (λ (o : Opened). not (o .fits)) (sym (r .wire v l))
 
-    pub swept-short : modulusAt wires w ≤ e → Swept n K party wires contribution externals keys rows w wkeys′ wexternals′
+    pub swept-short : modulusAt wires w ≤ e → Swept n K party round wires contribution externals keys rows w wkeys′ wexternals′
     swept-short h =
         record {
           found = sym (first-at (length wires) w unfit made fits-before (ap not (put .made .fits ∙ le-ltb e (modulusAt wires w) h)));
@@ -134,12 +134,12 @@ module _ (n K party : ℕ) (wires : List Wire) (contribution externals keys rows
 
   -- ---- all wires
 
-  opened-size : length (opened shakePad n K party wires (drawn 1 K wires contribution) externals keys rows) ≡ length wires
+  opened-size : length (opened (shakePad round) n K party wires (drawn 1 K wires contribution) externals keys rows) ≡ length wires
   unfolding opened openedTo
   opened-size = length-grown _ (length wires)
 
   pub swept-all : {w zero from : ℕ} {wkeys wexternals : List ℕ} → Stands w zero from wkeys wexternals → length wires ≤ w
-      → Swept n K party wires contribution externals keys rows w wkeys wexternals
+      → Swept n K party round wires contribution externals keys rows w wkeys wexternals
   unfolding wireKeys wireExternals lower
   swept-all {w} {wkeys = wkeys} {wexternals = wexternals} r h =
       record {
@@ -156,7 +156,7 @@ module _ (n K party : ℕ) (wires : List Wire) (contribution externals keys rows
       }
     where
       all : List Opened
-      all = opened shakePad n K party wires (drawn 1 K wires contribution) externals keys rows
+      all = opened (shakePad round) n K party wires (drawn 1 K wires contribution) externals keys rows
 
       end : w ≡ length wires
       end = omega (arith, r .turns)

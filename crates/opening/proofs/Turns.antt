@@ -83,29 +83,29 @@ module _ (turn : Turn) where
       value a = getD wexternals a 0
 
       pub made-table : (g : Lookup) {ka out : List ℕ} {r : ℕ} → ka ≡ nthPiece wkeys m (g .a)
-          → out ≡ tableKeys shakePad (turn .n) (turn .k) (turn .wire) p rows (turn .over) (held ka (value (g .a)))
+          → out ≡ tableKeys (shakePad (turn .round)) (turn .n) (turn .k) (turn .wire) p rows (turn .over) (held ka (value (g .a)))
           → r ≡ multiplierAt turn contribution out → Made turn (openBy turn nothing contribution rows wkeys wexternals (Table g)) out r
       unfolding openBy openFrom lower
       made-table g e f h =
           made-searched
-          (f ∙ ap (λ (ks : List ℕ). tableKeys shakePad (turn .n) (turn .k) (turn .wire) p rows (turn .over) (held ks (value (g .a)))) e) h
+          (f ∙ ap (λ (ks : List ℕ). tableKeys (shakePad (turn .round)) (turn .n) (turn .k) (turn .wire) p rows (turn .over) (held ks (value (g .a)))) e) h
 
       pub made-product : (g : Pair) {ka kb out : List ℕ} {r : ℕ} → ka ≡ nthPiece wkeys m (g .a) → kb ≡ nthPiece wkeys m (g .b)
-          → out ≡ productKeys shakePad (turn .n) (turn .k) (turn .wire) p rows (held ka (value (g .a))) (held kb (value (g .b)))
+          → out ≡ productKeys (shakePad (turn .round)) (turn .n) (turn .k) (turn .wire) p rows (held ka (value (g .a))) (held kb (value (g .b)))
           → r ≡ multiplierAt turn contribution out → Made turn (openBy turn nothing contribution rows wkeys wexternals (Product g)) out r
       unfolding openBy openFrom lower
       made-product g e e′ f h =
           made-searched
-          (f ∙ ap₂ (λ (ks ls : List ℕ). productKeys shakePad (turn .n) (turn .k) (turn .wire) p rows (held ks (value (g .a))) (held ls (value (g .b)))) e e′) h
+          (f ∙ ap₂ (λ (ks ls : List ℕ). productKeys (shakePad (turn .round)) (turn .n) (turn .k) (turn .wire) p rows (held ks (value (g .a))) (held ls (value (g .b)))) e e′) h
 
       pub made-held : (g : Chosen) {kv d out : List ℕ} {α r : ℕ} → kv ≡ nthPiece wkeys m (g .bit)
           → α ≡ sub p (value (g .b)) (value (g .a)) → d ≡ subV p (nthPiece wkeys m (g .b)) (nthPiece wkeys m (g .a))
-          → out ≡ choiceKeys shakePad (turn .n) (turn .k) (turn .wire) p rows (held kv (value (g .bit))) (held d α)
+          → out ≡ choiceKeys (shakePad (turn .round)) (turn .n) (turn .k) (turn .wire) p rows (held kv (value (g .bit))) (held d α)
           → r ≡ multiplierAt turn contribution out → Made turn (heldBack turn contribution rows wkeys wexternals g) out r
       unfolding heldBack lower
       made-held g ev ea ed f h =
           made-searched
-          (f ∙ ap₂ (choiceKeys shakePad (turn .n) (turn .k) (turn .wire) p rows) (ap (λ (ks : List ℕ). held ks (value (g .bit))) ev) (ap₂ held ed ea)) h
+          (f ∙ ap₂ (choiceKeys (shakePad (turn .round)) (turn .n) (turn .k) (turn .wire) p rows) (ap (λ (ks : List ℕ). held ks (value (g .bit))) ev) (ap₂ held ed ea)) h
 
       module _ (g : Chosen) {mid : List ℕ} {found : ℕ} (h : Made turn (heldBack turn contribution rows wkeys wexternals g) mid found) where
         pub made-choice : {out : List ℕ} {r : ℕ} → found < p → Made turn (added p (held mid found) (lower m wkeys wexternals (g .a))) out r

@@ -44,12 +44,12 @@ pub record Given (circuit : Circuit) (n K party : ℕ) (contribution externals k
   pub rowsBelow : rowsChecked n K (wiresIn circuit) rows ≡ Accepted
 
 -- the first wire on which no multiplier fits, the number of wires where there is none; and the two buffers written, all zero where there is one
-pub record OpensAll (circuit : Circuit) (n K party : ℕ) (contribution externals keys rows wkeys₀ wexternals₀ : List ℕ) (r : ℕ) (wkeys wexternals : List ℕ) : Type 0 where
+pub record OpensAll (circuit : Circuit) (n K party round : ℕ) (contribution externals keys rows wkeys₀ wexternals₀ : List ℕ) (r : ℕ) (wkeys wexternals : List ℕ) : Type 0 where
   pub found : r ≡ first (length (wiresIn circuit))
-      (λ w. not (getD (opened shakePad n K party (wiresIn circuit) (drawn 1 K (wiresIn circuit) contribution) externals keys rows) w nothing .fits))
+      (λ w. not (getD (opened (shakePad round) n K party (wiresIn circuit) (drawn 1 K (wiresIn circuit) contribution) externals keys rows) w nothing .fits))
   pub allKeys : length (wiresIn circuit) ≤ r
-      → wkeys ≡ wireKeys shakePad n K party (wiresIn circuit) (drawn 1 K (wiresIn circuit) contribution) externals keys rows
+      → wkeys ≡ wireKeys (shakePad round) n K party (wiresIn circuit) (drawn 1 K (wiresIn circuit) contribution) externals keys rows
   pub allExternals : length (wiresIn circuit) ≤ r
-      → wexternals ≡ wireExternals shakePad n K party (wiresIn circuit) (drawn 1 K (wiresIn circuit) contribution) externals keys rows
+      → wexternals ≡ wireExternals (shakePad round) n K party (wiresIn circuit) (drawn 1 K (wiresIn circuit) contribution) externals keys rows
   pub noKeys : r < length (wiresIn circuit) → wkeys ≡ replicate (length wkeys₀) 0
   pub noExternals : r < length (wiresIn circuit) → wexternals ≡ replicate (length wexternals₀) 0

@@ -48,12 +48,12 @@ multiplierAt turn contribution all =
 -- row r of the wire's own rows without its pads
 abbrev pub baredAt : Turn → List ℕ → ℕ → ℕ → List ℕ → ℕ → List ℕ
 baredAt turn rows q component senders r =
-    bared shakePad (turn .n) (turn .k) (turn .wire) (turn .modulus) rows q component senders r
+    bared (shakePad (turn .round)) (turn .n) (turn .k) (turn .wire) (turn .modulus) rows q component senders r
 
 -- the wire by its recipe; `given` where it is an input
 unfoldable pub openBy : Turn → Opened → List ℕ → List ℕ → List ℕ → List ℕ → Recipe → Opened
 openBy turn given contribution rows wkeys wexternals how =
-    openFrom shakePad (turn .n) (turn .k) (turn .wire) (turn .modulus) (λ _. turn .over) (multiplierAt turn contribution) rows given
+    openFrom (shakePad (turn .round)) (turn .n) (turn .k) (turn .wire) (turn .modulus) (λ _. turn .over) (multiplierAt turn contribution) rows given
     (lower (turn .n * turn .k) wkeys wexternals) how
 
 -- .. with what is given on the inputs
@@ -65,5 +65,5 @@ openAt turn contribution externals keys rows wkeys wexternals how =
 unfoldable pub heldBack : Turn → List ℕ → List ℕ → List ℕ → List ℕ → Chosen → Opened
 heldBack turn contribution rows wkeys wexternals g =
     searched (turn .modulus) (multiplierAt turn contribution)
-    (choiceKeys shakePad (turn .n) (turn .k) (turn .wire) (turn .modulus) rows (lower (turn .n * turn .k) wkeys wexternals (g .bit))
+    (choiceKeys (shakePad (turn .round)) (turn .n) (turn .k) (turn .wire) (turn .modulus) rows (lower (turn .n * turn .k) wkeys wexternals (g .bit))
     (differing (turn .modulus) (lower (turn .n * turn .k) wkeys wexternals (g .b)) (lower (turn .n * turn .k) wkeys wexternals (g .a))))

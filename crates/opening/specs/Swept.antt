@@ -28,9 +28,9 @@ pub record Stored (turn : Turn) (wire : Opened) (wkeys₀ wexternals₀ : List �
   pub externals : wexternals ≡ set wexternals₀ (turn .wire) r
 
 -- the end: the first wire on which no multiplier fits; where there is none, all wires stand in the buffers
-pub record Swept (n K party : ℕ) (wires : List Wire) (contribution externals keys rows : List ℕ) (r : ℕ) (wkeys wexternals : List ℕ) : Type 0 where
-  pub found : r ≡ first (length wires) (λ w. not (getD (opened shakePad n K party wires (drawn 1 K wires contribution) externals keys rows) w nothing .fits))
+pub record Swept (n K party round : ℕ) (wires : List Wire) (contribution externals keys rows : List ℕ) (r : ℕ) (wkeys wexternals : List ℕ) : Type 0 where
+  pub found : r ≡ first (length wires) (λ w. not (getD (opened (shakePad round) n K party wires (drawn 1 K wires contribution) externals keys rows) w nothing .fits))
   pub keysSize : length wkeys ≡ length wires * (n * K)
   pub externalsSize : length wexternals ≡ length wires
-  pub allKeys : length wires ≤ r → wkeys ≡ wireKeys shakePad n K party wires (drawn 1 K wires contribution) externals keys rows
-  pub allExternals : length wires ≤ r → wexternals ≡ wireExternals shakePad n K party wires (drawn 1 K wires contribution) externals keys rows
+  pub allKeys : length wires ≤ r → wkeys ≡ wireKeys (shakePad round) n K party wires (drawn 1 K wires contribution) externals keys rows
+  pub allExternals : length wires ≤ r → wexternals ≡ wireExternals (shakePad round) n K party wires (drawn 1 K wires contribution) externals keys rows

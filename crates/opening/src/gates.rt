@@ -23,12 +23,13 @@ use search::chosen_corrector;
 pub fn open_table(turn: Turn, a: &[u8], ea: u8, rows: &[u8], out: &mut [u8])
     requires { ⌜ Seated turn × (Rows (turn .n) (turn .k) (turn .modulus) (now rows) (turn .over) × (ea < turn .over)) ⌝ }
     requires { ⌜ Vector (turn .n) (turn .k) (now a) × Vector (turn .n) (turn .k) (now out) ⌝ }
-    ensures { λ _. ⌜ now (out .exit) ≡ tableKeys shakePad (turn .n) (turn .k) (turn .wire) (turn .modulus) (now (rows .entry)) (turn .over) (held (now (a .entry)) ea) ⌝ }
+    ensures { λ _. ⌜ now (out .exit) ≡ tableKeys (shakePad (turn .round)) (turn .n) (turn .k) (turn .wire) (turn .modulus) (now (rows .entry)) (turn .over) (held (now (a .entry)) ea) ⌝ }
 {
     let n = turn.n;
     let k = turn.k;
     let row = nth_piece(rows, n * k, byte_index(ea));
     let bound = Bound {
+        round: turn.round,
         modulus: turn.over,
         wire: turn.wire,
         component: 0,
@@ -40,13 +41,14 @@ pub fn open_table(turn: Turn, a: &[u8], ea: u8, rows: &[u8], out: &mut [u8])
 pub fn open_product(turn: Turn, a: &[u8], ea: u8, b: &[u8], eb: u8, rows: &[u8], out: &mut [u8])
     requires { ⌜ Seated turn × (Rows (turn .n) (turn .k) (turn .modulus) (now rows) (2 * turn .modulus) × ((ea < turn .modulus) × (eb < turn .modulus))) ⌝ }
     requires { ⌜ Vector (turn .n) (turn .k) (now a) × (Vector (turn .n) (turn .k) (now b) × Vector (turn .n) (turn .k) (now out)) ⌝ }
-    ensures { λ _. ⌜ now (out .exit) ≡ productKeys shakePad (turn .n) (turn .k) (turn .wire) (turn .modulus) (now (rows .entry)) (held (now (a .entry)) ea) (held (now (b .entry)) eb) ⌝ }
+    ensures { λ _. ⌜ now (out .exit) ≡ productKeys (shakePad (turn .round)) (turn .n) (turn .k) (turn .wire) (turn .modulus) (now (rows .entry)) (held (now (a .entry)) ea) (held (now (b .entry)) eb) ⌝ }
 {
     let n = turn.n;
     let k = turn.k;
     let p = turn.modulus;
     let m = n * k;
     let first = Bound {
+        round: turn.round,
         modulus: p,
         wire: turn.wire,
         component: 0,
@@ -54,6 +56,7 @@ pub fn open_product(turn: Turn, a: &[u8], ea: u8, b: &[u8], eb: u8, rows: &[u8],
     let row = nth_piece(rows, m, byte_index(ea));
     bare(n, k, p, first, a, row, &mut *out);
     let next = Bound {
+        round: turn.round,
         modulus: p,
         wire: turn.wire,
         component: 1,
@@ -73,6 +76,7 @@ fn open_chooser(turn: Turn, v: &[u8], bit: u8, d: &[u8], rows: &[u8], out: &mut 
     let k = turn.k;
     let row = nth_piece(rows, n * k, byte_index(bit));
     let bound = Bound {
+        round: turn.round,
         modulus: 2,
         wire: turn.wire,
         component: 0,
@@ -101,7 +105,7 @@ fn corrector_row(rows: &[u8], m: usize, p: u8, bit: u8, alpha: u8) -> &[u8]
 pub fn open_choice(turn: Turn, v: &[u8], bit: u8, d: &[u8], alpha: u8, rows: &[u8], out: &mut [u8])
     requires { ⌜ Seated turn × (Rows (turn .n) (turn .k) (turn .modulus) (now rows) (2 * turn .modulus + 2) × ((bit < 2) × (alpha < turn .modulus))) ⌝ }
     requires { ⌜ Vector (turn .n) (turn .k) (now v) × (Vector (turn .n) (turn .k) (now d) × Vector (turn .n) (turn .k) (now out)) ⌝ }
-    ensures { λ _. ⌜ now (out .exit) ≡ choiceKeys shakePad (turn .n) (turn .k) (turn .wire) (turn .modulus) (now (rows .entry)) (held (now (v .entry)) bit) (held (now (d .entry)) alpha) ⌝ }
+    ensures { λ _. ⌜ now (out .exit) ≡ choiceKeys (shakePad (turn .round)) (turn .n) (turn .k) (turn .wire) (turn .modulus) (now (rows .entry)) (held (now (v .entry)) bit) (held (now (d .entry)) alpha) ⌝ }
 {
     let n = turn.n;
     let k = turn.k;
@@ -109,6 +113,7 @@ pub fn open_choice(turn: Turn, v: &[u8], bit: u8, d: &[u8], alpha: u8, rows: &[u
     open_chooser(turn, v, bit, d, rows, &mut *out);
     let row = corrector_row(rows, n * k, p, bit, alpha);
     let bound = Bound {
+        round: turn.round,
         modulus: p,
         wire: turn.wire,
         component: 1 + bit,

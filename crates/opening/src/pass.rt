@@ -139,7 +139,7 @@ fn pass(
 ) -> usize
     requires { ⌜ Given circuit (seat .n) (seat .k) (seat .party) (now contribution) (now externals) (now keys) (now rows) ⌝ }
     requires { ⌜ (length (now wkeys) ≡ circuit .made * (seat .n * seat .k)) × (length (now wexternals) ≡ circuit .made) ⌝ }
-    ensures { λ r. ⌜ Swept (seat .n) (seat .k) (seat .party) (wiresIn circuit) (now (contribution .entry)) (now (externals .entry)) (now (keys .entry)) (now (rows .entry))
+    ensures { λ r. ⌜ Swept (seat .n) (seat .k) (seat .party) (seat .round) (wiresIn circuit) (now (contribution .entry)) (now (externals .entry)) (now (keys .entry)) (now (rows .entry))
         r (now (wkeys .exit)) (now (wexternals .exit)) ⌝ }
 {
     let n = seat.n;
@@ -160,6 +160,7 @@ fn pass(
             n,
             k,
             party: seat.party,
+            round: seat.round,
             wire: index_number(w),
             modulus: p,
             over: over(how, &table),
@@ -199,7 +200,7 @@ pub fn open_wires(
 ) -> usize
     requires { ⌜ Given circuit (seat .n) (seat .k) (seat .party) (now contribution) (now externals) (now keys) (now rows) ⌝ }
     requires { ⌜ (length (now wkeys) ≡ circuit .made * (seat .n * seat .k)) × (length (now wexternals) ≡ circuit .made) ⌝ }
-    ensures { λ r. ⌜ OpensAll circuit (seat .n) (seat .k) (seat .party) (now (contribution .entry)) (now (externals .entry)) (now (keys .entry)) (now (rows .entry))
+    ensures { λ r. ⌜ OpensAll circuit (seat .n) (seat .k) (seat .party) (seat .round) (now (contribution .entry)) (now (externals .entry)) (now (keys .entry)) (now (rows .entry))
         (now (wkeys .entry)) (now (wexternals .entry)) r (now (wkeys .exit)) (now (wexternals .exit)) ⌝ }
 {
     let made = circuit.made;

@@ -14,7 +14,7 @@ use residue::add_multiple;
 pub fn bare(n: usize, k: usize, p: u8, bound: Bound, senders: &[u8], row: &[u8], out: &mut [u8])
     requires { ⌜ Sizes n k × ((1 < p) × AllBelow p (now row)) ⌝ }
     requires { ⌜ Vector n k (now senders) × (Vector n k (now row) × Vector n k (now out)) ⌝ }
-    ensures { λ _. ⌜ now (out .exit) ≡ subV p (now (row .entry)) (padRow shakePad k p (underOf bound) (now (senders .entry)) n) ⌝ }
+    ensures { λ _. ⌜ now (out .exit) ≡ subV p (now (row .entry)) (padRow (shakePad (bound .round)) k p (underOf bound) (now (senders .entry)) n) ⌝ }
 {
     copy(&mut *out, row);
     sub_pad_row(p, bound, n, k, senders, out);
@@ -24,7 +24,7 @@ pub fn bare(n: usize, k: usize, p: u8, bound: Bound, senders: &[u8], row: &[u8],
 pub fn add_bare(n: usize, k: usize, p: u8, bound: Bound, senders: &[u8], row: &[u8], out: &mut [u8])
     requires { ⌜ Sizes n k × (1 < p) ⌝ }
     requires { ⌜ Vector n k (now senders) × (Vector n k (now row) × Vector n k (now out)) ⌝ }
-    ensures { λ _. ⌜ now (out .exit) ≡ addV p (now (out .entry)) (subV p (now (row .entry)) (padRow shakePad k p (underOf bound) (now (senders .entry)) n)) ⌝ }
+    ensures { λ _. ⌜ now (out .exit) ≡ addV p (now (out .entry)) (subV p (now (row .entry)) (padRow (shakePad (bound .round)) k p (underOf bound) (now (senders .entry)) n)) ⌝ }
 {
     add_multiple(p, 1, row, &mut *out);
     sub_pad_row(p, bound, n, k, senders, out);

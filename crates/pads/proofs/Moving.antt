@@ -76,18 +76,18 @@ moved-blocks minus q K f g (suc n) s t =
 
 -- ---- one sender after another
 
-module _ (minus : Bool) (q : ℕ) (under : Under) (keys : List ℕ) (receiver : ℕ) (out₀ : List ℕ) where
+module _ (round : ℕ) (minus : Bool) (q : ℕ) (under : Under) (keys : List ℕ) (receiver : ℕ) (out₀ : List ℕ) where
   abbrev pads : ℕ → List ℕ
-  pads j = padSum shakePad (length out₀) q under keys receiver j
+  pads j = padSum (shakePad round) (length out₀) q under keys receiver j
 
   sized : (j : ℕ) → length out₀ ≡ length (pads j)
-  sized j = sym (padSum-length shakePad (length out₀) q (shakePad-length q (length out₀)) under keys receiver j)
+  sized j = sym (padSum-length (shakePad round) (length out₀) q (shakePad-length round q (length out₀)) under keys receiver j)
 
   pub senders-none : Asked q (length out₀) out₀ → out₀ ≡ moved minus q out₀ (pads 0)
   unfolding padSum
   senders-none a = sym (moved-zeros minus (omega arith) out₀ (a .below))
 
-  pads-next : (j : ℕ) → pads (j + 1) ≡ addV q (pads j) (shakePad q (length out₀) (bound under receiver (nthPiece keys (length out₀) j)))
+  pads-next : (j : ℕ) → pads (j + 1) ≡ addV q (pads j) (shakePad round q (length out₀) (bound under receiver (nthPiece keys (length out₀) j)))
   unfolding padSum
   pads-next j = rw add-one refl
 
@@ -98,22 +98,22 @@ module _ (minus : Bool) (q : ℕ) (under : Under) (keys : List ℕ) (receiver : 
     pub senders-asked : Asked q (length out₀) out₀ → Asked q (length out) out
     senders-asked a = record { modulus = a .modulus; short = omega (arith, senders-length); below = rw e (moved-below minus (omega arith) out₀ (pads j)) }
 
-    pub senders-more : {key out′ : List ℕ} → 1 < q → key ≡ nthPiece keys (length out₀) j → out′ ≡ moved minus q out (shakePad q (length out) (bound under receiver key))
+    pub senders-more : {key out′ : List ℕ} → 1 < q → key ≡ nthPiece keys (length out₀) j → out′ ≡ moved minus q out (shakePad round q (length out) (bound under receiver key))
         → out′ ≡ moved minus q out₀ (pads (j + 1))
     senders-more {key} {out′} h k t =
-        let pad : List ℕ = shakePad q (length out₀) (bound under receiver (nthPiece keys (length out₀) j)) in
+        let pad : List ℕ = shakePad round q (length out₀) (bound under receiver (nthPiece keys (length out₀) j)) in
         t
-        ∙ ap (λ (m : ℕ). moved minus q out (shakePad q m (bound under receiver key))) senders-length
-        ∙ ap (λ (l : List ℕ). moved minus q out (shakePad q (length out₀) (bound under receiver l))) k
+        ∙ ap (λ (m : ℕ). moved minus q out (shakePad round q m (bound under receiver key))) senders-length
+        ∙ ap (λ (l : List ℕ). moved minus q out (shakePad round q (length out₀) (bound under receiver l))) k
         ∙ ap (λ (l : List ℕ). moved minus q l pad) e
-        ∙ moved-twice minus (omega arith) out₀ (pads j) pad (sized j) (sym (shakePad-length q (length out₀) _))
+        ∙ moved-twice minus (omega arith) out₀ (pads j) pad (sized j) (sym (shakePad-length round q (length out₀) _))
         ∙ ap (λ (l : List ℕ). moved minus q out₀ l) (sym (pads-next j))
 
 -- ---- one receiver after another
 
-module _ (minus : Bool) (q : ℕ) (under : Under) (keys : List ℕ) (n K : ℕ) (out₀ : List ℕ) where
+module _ (round : ℕ) (minus : Bool) (q : ℕ) (under : Under) (keys : List ℕ) (n K : ℕ) (out₀ : List ℕ) where
   abbrev entry : ℕ → List ℕ
-  entry i = moved minus q (nthPiece out₀ K i) (padSum shakePad K q under keys i n)
+  entry i = moved minus q (nthPiece out₀ K i) (padSum (shakePad round) K q under keys i n)
 
   -- the loop's invariant: the entries of the first i receivers are done
   abbrev pub Done : ℕ → ℕ → List ℕ → Type 0
@@ -135,19 +135,19 @@ module _ (minus : Bool) (q : ℕ) (under : Under) (keys : List ℕ) (n K : ℕ) 
         }
 
     pub receivers-more : {to : ℕ} {ys : List ℕ} → to ≡ at + K → length ys ≡ length (take (to - at) (drop at out))
-        → ys ≡ moved minus q (take (to - at) (drop at out)) (padSum shakePad (length (take (to - at) (drop at out))) q under keys i n)
+        → ys ≡ moved minus q (take (to - at) (drop at out)) (padSum (shakePad round) (length (take (to - at) (drop at out))) q under keys i n)
         → Done (i + 1) to (lent at to out ys)
     receivers-more {to} {ys} e k t =
         steps-call r h e k
         (t
-        ∙ ap (λ (m : ℕ). moved minus q (take (to - at) (drop at out)) (padSum shakePad m q under keys i n)) (steps-long r h e)
-        ∙ ap (λ (l : List ℕ). moved minus q l (padSum shakePad K q under keys i n)) (receiver-part e))
+        ∙ ap (λ (m : ℕ). moved minus q (take (to - at) (drop at out)) (padSum (shakePad round) m q under keys i n)) (steps-long r h e)
+        ∙ ap (λ (l : List ℕ). moved minus q l (padSum (shakePad round) K q under keys i n)) (receiver-part e))
 
-  pub receivers-all : {i at : ℕ} {out : List ℕ} → Done i at out → n ≤ i → length out₀ ≡ n * K → out ≡ moved minus q out₀ (padRow shakePad K q under keys n)
+  pub receivers-all : {i at : ℕ} {out : List ℕ} → Done i at out → n ≤ i → length out₀ ≡ n * K → out ≡ moved minus q out₀ (padRow (shakePad round) K q under keys n)
   unfolding padRow
   receivers-all {i} {at} {out} r h l =
       level-whole r h l
-      ∙ moved-blocks minus q K (λ i. nthPiece out₀ K i) (λ i. padSum shakePad K q under keys i n) n
+      ∙ moved-blocks minus q K (λ i. nthPiece out₀ K i) (λ i. padSum (shakePad round) K q under keys i n) n
       (λ i k. length-part out₀ (i * K) K (omega (arith, times-fits i n K k)))
-      (λ i k. padSum-length shakePad K q (shakePad-length q K) under keys i n)
-      ∙ ap (λ (x : List ℕ). moved minus q x (blocks n (λ i. padSum shakePad K q under keys i n))) (blocks-nth n K out₀ l)
+      (λ i k. padSum-length (shakePad round) K q (shakePad-length round q K) under keys i n)
+      ∙ ap (λ (x : List ℕ). moved minus q x (blocks n (λ i. padSum (shakePad round) K q under keys i n))) (blocks-nth n K out₀ l)

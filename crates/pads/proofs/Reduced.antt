@@ -33,11 +33,11 @@ pub front-back : (k : ℕ) (xs ys : List ℕ) → k ≤ length xs → length ys 
 front-back k xs ys h l = take-at ys (drop k xs) k (l ∙ length-take-le k xs h)
 
 -- the numbers of a pad, reduced, are the pad
-pub pad-moved : (minus : Bool) (q : ℕ) (input xs ns last : List ℕ) {out : List ℕ} → length xs ≤ length ns → length last ≡ length (take (length xs) ns)
-    → last ≡ numbers (shake256 (padInput input) (8 * length (take (length xs) ns))) → out ≡ moved minus q xs (reduced q (take (length xs) (last ++ drop (length xs) ns)))
-    → out ≡ moved minus q xs (shakePad q (length xs) input)
+pub pad-moved : (minus : Bool) (q round : ℕ) (input xs ns last : List ℕ) {out : List ℕ} → length xs ≤ length ns → length last ≡ length (take (length xs) ns)
+    → last ≡ numbers (shake256 (padInput round input) (8 * length (take (length xs) ns))) → out ≡ moved minus q xs (reduced q (take (length xs) (last ++ drop (length xs) ns)))
+    → out ≡ moved minus q xs (shakePad round q (length xs) input)
 unfolding reduced shakePad
-pad-moved minus q input xs ns last h l d e =
+pad-moved minus q round input xs ns last h l d e =
     e
     ∙ ap (λ (z : List ℕ). moved minus q xs (map (λ x. x % q) z))
-    (front-back (length xs) ns last h l ∙ d ∙ ap (λ (m : ℕ). numbers (shake256 (padInput input) (8 * m))) (length-take-le (length xs) ns h))
+    (front-back (length xs) ns last h l ∙ d ∙ ap (λ (m : ℕ). numbers (shake256 (padInput round input) (8 * m))) (length-take-le (length xs) ns h))

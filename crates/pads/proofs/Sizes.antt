@@ -25,10 +25,10 @@ output-length : (m : List ℕ) (d : ℕ) → length (shake256 m d) ≡ d
 unfolding shake256 absorbed zeroState
 output-length m d = squeezed-length d _ (blocks25 _ _ _ (length-replicate {A = ℕ} 25 0))
 
-pub shakePad-length : (q K : ℕ) (input : List ℕ) → length (shakePad q K input) ≡ K
+pub shakePad-length : (round q K : ℕ) (input : List ℕ) → length (shakePad round q K input) ≡ K
 unfolding shakePad
-shakePad-length q K input =
-    length-map (numbers (shake256 (padInput input) (8 * K))) _ ∙ numbers-length (shake256 (padInput input) (8 * K)) K (output-length (padInput input) (8 * K))
+shakePad-length round q K input =
+    length-map (numbers (shake256 (padInput round input) (8 * K))) _ ∙ numbers-length (shake256 (padInput round input) (8 * K)) K (output-length (padInput round input) (8 * K))
 
 -- ---- sums and rows, of any pad that has the key's length
 

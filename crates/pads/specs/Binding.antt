@@ -15,7 +15,7 @@ underOf b = placed (b .modulus) (b .wire) (b .component)
 abbrev pub boundBy : Bound → ℕ → List ℕ → List ℕ
 boundBy b receiver key = bound (underOf b) receiver key
 
--- six fields, one after another
-abbrev pub sixFields : List ℕ → List ℕ → List ℕ → List ℕ → List ℕ → List ℕ → Sponge
-sixFields tag modulus wire component receiver key =
-    withField (withField (withField (withField (withField (withField empty tag) modulus) wire) component) receiver) key
+-- seven fields, one after another
+abbrev pub sevenFields : List ℕ → List ℕ → List ℕ → List ℕ → List ℕ → List ℕ → List ℕ → Sponge
+sevenFields tag round modulus wire component receiver key =
+    withField (withField (withField (withField (withField (withField (withField empty tag) round) modulus) wire) component) receiver) key

@@ -1,4 +1,4 @@
--- Document 01, "Pad": what the sponge takes for one sender and one receiver, the pad that comes of it, and the pads of a row.
+-- Document 01, "Pad", with the round of order 3: what the sponge takes for one sender and one receiver, the pad that comes of it, and the pads of a row.
 -- Assumes nothing.
 use mathlib.Core.List.{List, [], _∷_, _++_, map}
 use Prim.Native.Nat.{ℕ, zero, suc, _*_, _%_}
@@ -22,22 +22,22 @@ pub record Under : Type 0 where
 abbrev pub placed : ℕ → ℕ → ℕ → Under
 placed modulus wire component = record { modulus = modulus; wire = wire; component = component }
 
--- what a pad is bound to: the sender key's modulus (1 byte), the output wire's number (4 bytes, little-endian), component (1),
+-- what a pad is bound to in its round: the sender key's modulus (1 byte), the output wire's number (4 bytes, little-endian), component (1),
 -- receiver (1), the K bytes of the sender's key
 unfoldable pub bound : Under → ℕ → List ℕ → List ℕ
 bound under receiver key = under .modulus ∷ (bytesOf 4 (under .wire) ++ (under .component ∷ receiver ∷ key))
 
--- what the sponge takes: the pad's own front, and what it is bound to
-unfoldable pub padInput : List ℕ → List ℕ
-padInput input = rowpad ++ input
+-- what the sponge takes: ROWPAD, the round (4 bytes, little-endian), and what the pad is bound to in it
+unfoldable pub padInput : ℕ → List ℕ → List ℕ
+padInput round input = rowpad ++ (bytesOf 4 round ++ input)
 
--- of 8K squeezed bytes, each 8 make a little-endian number, reduced modulo the receiving modulus q
-unfoldable pub shakePad : ℕ → ℕ → List ℕ → List ℕ
-shakePad q K input = map (λ x. x % q) (numbers (shake256 (padInput input) (8 * K)))
-
--- any function of the receiving modulus, the key length and what the pad is bound to that could stand for it
+-- any function of the receiving modulus, the key length and what a pad is bound to that could stand for the pad of a round
 abbrev pub Pad : Type 0
 Pad = ℕ → ℕ → List ℕ → List ℕ
+
+-- the pad of a round: of 8K squeezed bytes, each 8 make a little-endian number, reduced modulo the receiving modulus q
+unfoldable pub shakePad : ℕ → Pad
+shakePad round q K input = map (λ x. x % q) (numbers (shake256 (padInput round input) (8 * K)))
 
 module _ (pad : Pad) (K q : ℕ) (under : Under) (keys : List ℕ) where
   -- the pads of the first senders for a receiver, summed; sender j's key is part j of the keys

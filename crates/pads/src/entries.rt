@@ -41,7 +41,7 @@ fn move_pad(
     requires { ⌜ FactorsOf q f ⌝ }
     requires { ⌜ Asked q (length (now out)) (now out) ⌝ }
     requires { ⌜ length (now numbers) ≡ 128 ⌝ }
-    ensures { λ _. ⌜ now (out .exit) ≡ moved minus q (now (out .entry)) (shakePad q (length (now (out .entry))) (boundBy bound receiver (now (key .entry)))) ⌝ }
+    ensures { λ _. ⌜ now (out .exit) ≡ moved minus q (now (out .entry)) (shakePad (bound .round) q (length (now (out .entry))) (boundBy bound receiver (now (key .entry)))) ⌝ }
 {
     let k = out.len();
     pad_numbers(bound, receiver, key, &mut numbers[..k]);
@@ -64,7 +64,7 @@ fn move_pads(
     requires { ⌜ Asked q (length (now out)) (now out) ⌝ }
     requires { ⌜ length (now numbers) ≡ 128 ⌝ }
     requires { ⌜ length (now keys) ≡ n * length (now out) ⌝ }
-    ensures { λ _. ⌜ now (out .exit) ≡ moved minus q (now (out .entry)) (padSum shakePad (length (now (out .entry))) q (underOf bound) (now (keys .entry)) receiver n) ⌝ }
+    ensures { λ _. ⌜ now (out .exit) ≡ moved minus q (now (out .entry)) (padSum (shakePad (bound .round)) (length (now (out .entry))) q (underOf bound) (now (keys .entry)) receiver n) ⌝ }
 {
     let k = out.len();
     let mut j = 0;
@@ -91,7 +91,7 @@ fn move_pad_row(
     requires { ⌜ Asked q k (now out) ⌝ }
     requires { ⌜ length (now numbers) ≡ 128 ⌝ }
     requires { ⌜ Row n k (now keys) (now out) ⌝ }
-    ensures { λ _. ⌜ now (out .exit) ≡ moved minus q (now (out .entry)) (padRow shakePad k q (underOf bound) (now (keys .entry)) n) ⌝ }
+    ensures { λ _. ⌜ now (out .exit) ≡ moved minus q (now (out .entry)) (padRow (shakePad (bound .round)) k q (underOf bound) (now (keys .entry)) n) ⌝ }
 {
     let mut at = 0;
     let mut i = 0;
@@ -125,7 +125,7 @@ fn work() -> [u64; 128]
 pub fn add_pad_row(q: u8, bound: Bound, n: usize, k: usize, keys: &[u8], out: &mut [u8])
     requires { ⌜ Asked q k (now out) ⌝ }
     requires { ⌜ Row n k (now keys) (now out) ⌝ }
-    ensures { λ _. ⌜ now (out .exit) ≡ addV q (now (out .entry)) (padRow shakePad k q (underOf bound) (now (keys .entry)) n) ⌝ }
+    ensures { λ _. ⌜ now (out .exit) ≡ addV q (now (out .entry)) (padRow (shakePad (bound .round)) k q (underOf bound) (now (keys .entry)) n) ⌝ }
 {
     let mut numbers = work();
     move_pad_row(
@@ -145,7 +145,7 @@ pub fn add_pad_row(q: u8, bound: Bound, n: usize, k: usize, keys: &[u8], out: &m
 pub fn sub_pad_row(q: u8, bound: Bound, n: usize, k: usize, keys: &[u8], out: &mut [u8])
     requires { ⌜ Asked q k (now out) ⌝ }
     requires { ⌜ Row n k (now keys) (now out) ⌝ }
-    ensures { λ _. ⌜ now (out .exit) ≡ subV q (now (out .entry)) (padRow shakePad k q (underOf bound) (now (keys .entry)) n) ⌝ }
+    ensures { λ _. ⌜ now (out .exit) ≡ subV q (now (out .entry)) (padRow (shakePad (bound .round)) k q (underOf bound) (now (keys .entry)) n) ⌝ }
 {
     let mut numbers = work();
     move_pad_row(true, q, factors_of(q), bound, n, k, keys, &mut numbers, out);

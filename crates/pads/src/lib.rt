@@ -1,4 +1,4 @@
-// Pads: what hides the entries of a row. The pad of one sender for one receiver is SHAKE256 of the six fields of a pad input, read as
+// Pads: what hides the entries of a row. The pad of one sender for one receiver is SHAKE256 of the seven fields of a pad input, read as
 // 8-byte numbers, each reduced modulo the receiving modulus. The functions here put the pads of all senders for all receivers on a
 // row that is lent, or take them off. Rests on the sponge of the crate shake, on residue and on lists.
 mod entries;

@@ -24,16 +24,16 @@ use Rattle.rehearsal.specs.Turns.{KeysOfAll, OpenedByAll, DecodedByAll}
 use Rattle.rehearsal.specs.Rehearsed.{lentOf, resultsOf, Whole, Rehearsed}
 use Rattle.rehearsal.proofs.Gathered.{gathered-all}
 
-module _ {file : List ℕ} {n K : ℕ} {contributions values : List ℕ} {meter : ℕ}
+module _ {file : List ℕ} {n K round : ℕ} {contributions values : List ℕ} {meter : ℕ}
     {rows₀ inputs₀ outputs₀ externals₀ mine₀ keys₀ wkeys₀ wexternals₀ results₀ evaluated₀ : List ℕ}
     {number place number′ place′ total : ℕ} {rows inputs outputs externals mine keys wkeys wexternals results evaluated : List ℕ}
     (conditions : Conditions file n K contributions values meter (lentOf file n K rows₀ inputs₀ outputs₀ mine₀ wkeys₀ wexternals₀ results₀ evaluated₀))
     (whole : Whole file n K externals₀ mine₀ keys₀ wkeys₀ wexternals₀ results₀)
-    (garbled : GarbleCall file n K contributions rows₀ inputs₀ outputs₀ meter number place rows inputs outputs total)
+    (garbled : GarbleCall file n K round contributions rows₀ inputs₀ outputs₀ meter number place rows inputs outputs total)
     (masked : Masked file n (readFile file .wires) values inputs externals₀ externals)
     (keyed : KeysOfAll file n K contributions (contributionSize K (readFile file .wires)) externals (inputsIn (readFile file .wires) * K) mine₀ mine)
     (put : keys ≡ keysByInput n K (inputsIn (readFile file .wires)) (inputsIn (readFile file .wires) * K) mine)
-    (opened : OpenedByAll file n K contributions (contributionSize K (readFile file .wires)) externals keys rows (length (readFile file .wires) * (n * K)) wkeys₀
+    (opened : OpenedByAll file n K round contributions (contributionSize K (readFile file .wires)) externals keys rows (length (readFile file .wires) * (n * K)) wkeys₀
     (length (readFile file .wires)) wexternals₀ wkeys wexternals)
     (decoded : DecodedByAll file n wexternals (length (readFile file .wires)) outputs (length (readFile file .outputs)) results₀ results)
     (plainly : PlainCall file values evaluated₀ number′ place′ evaluated) where
@@ -46,16 +46,16 @@ module _ {file : List ℕ} {n K : ℕ} {contributions values : List ℕ} {meter 
   abbrev left : Results
   left = resultsOf file n K values rows inputs outputs total mine wkeys wexternals results evaluated
 
-  externals-is : externals ≡ allExternals file n K contributions values meter lent left
+  externals-is : externals ≡ allExternals file n K round contributions values meter lent left
   externals-is =
       masked .afterIs
       ∙ gathered-all file n wires values inputs externals₀ (whole .externalsLong) (λ w h. input-owned (accepted file (conditions .accepted)) w h)
       (conditions .owners)
 
-  keys-is : keys ≡ allKeys file n K contributions values meter lent left
+  keys-is : keys ≡ allKeys file n K round contributions values meter lent left
   keys-is = put
 
-  played : Played file n K contributions values meter lent left
+  played : Played file n K round contributions values meter lent left
   played =
       record {
         garble = record { number = number; place = place; holds = garbled };
@@ -66,21 +66,21 @@ module _ {file : List ℕ} {n K : ℕ} {contributions values : List ℕ} {meter 
             (nthPiece mine₀ (inputsIn wires * K) party) a b (nthPiece mine (inputsIn wires * K) party))) externals-is (keyed .calls party h);
         opening =
             λ party h.
-            subst (λ (xs : List ℕ). Answered (λ a b. OpenCall file n K party (nthPiece contributions (contributionSize K wires) party) xs
-            (allKeys file n K contributions values meter lent left) rows (nthPiece wkeys₀ (length wires * (n * K)) party) (nthPiece wexternals₀ (length wires) party)
+            subst (λ (xs : List ℕ). Answered (λ a b. OpenCall file n K party round (nthPiece contributions (contributionSize K wires) party) xs
+            (allKeys file n K round contributions values meter lent left) rows (nthPiece wkeys₀ (length wires * (n * K)) party) (nthPiece wexternals₀ (length wires) party)
             a b (nthPiece wkeys (length wires * (n * K)) party) (nthPiece wexternals (length wires) party))) externals-is
-            (subst (λ (xs : List ℕ). Answered (λ a b. OpenCall file n K party (nthPiece contributions (contributionSize K wires) party) externals
+            (subst (λ (xs : List ℕ). Answered (λ a b. OpenCall file n K party round (nthPiece contributions (contributionSize K wires) party) externals
             xs rows (nthPiece wkeys₀ (length wires * (n * K)) party) (nthPiece wexternals₀ (length wires) party)
             a b (nthPiece wkeys (length wires * (n * K)) party) (nthPiece wexternals (length wires) party))) keys-is (opened .calls party h));
         decode = decoded .calls;
         plainly = record { number = number′; place = place′; holds = plainly };
       }
 
-  pub rehearses : Rehearsed file n K contributions values meter lent left externals keys
+  pub rehearses : Rehearsed file n K round contributions values meter lent left externals keys
   rehearses =
       record {
         played = played;
         externalsAre = externals-is;
         keysAre = keys-is;
-        kept = demand file n K contributions values meter lent left conditions played;
+        kept = demand file n K round contributions values meter lent left conditions played;
       }

@@ -75,13 +75,13 @@ module _ {file : List ℕ} {n K own made given size each wide : ℕ} (s : Sized 
   put-as mine l e =
       e ∙ ap₂ (λ (x y : ℕ). keysByInput n x y each mine) l (s .ownIs) ∙ ap (λ (x : ℕ). keysByInput n K (inputsIn (readFile file .wires)) x mine) (s .eachIs)
 
-  pub opened-as : {contributions externals keys rows wkeys₀ wexternals₀ wkeys wexternals : List ℕ}
-      → OpenedByAll file n K contributions size externals keys rows wide wkeys₀ made wexternals₀ wkeys wexternals
-      → OpenedByAll file n K contributions (contributionSize K (readFile file .wires)) externals keys rows (length (readFile file .wires) * (n * K)) wkeys₀ (length (readFile file .wires)) wexternals₀ wkeys wexternals
-  opened-as {contributions} {externals} {keys} {rows} {wkeys₀} {wexternals₀} {wkeys} {wexternals} k =
-      subst (λ (x : ℕ). OpenedByAll file n K contributions x externals keys rows (length (readFile file .wires) * (n * K)) wkeys₀ (length (readFile file .wires)) wexternals₀ wkeys wexternals) (s .sizeIs)
-      (subst (λ (x : ℕ). OpenedByAll file n K contributions size externals keys rows x wkeys₀ (length (readFile file .wires)) wexternals₀ wkeys wexternals) (s .wideIs)
-      (subst (λ (x : ℕ). OpenedByAll file n K contributions size externals keys rows wide wkeys₀ x wexternals₀ wkeys wexternals) (s .madeIs) k))
+  pub opened-as : {round : ℕ} {contributions externals keys rows wkeys₀ wexternals₀ wkeys wexternals : List ℕ}
+      → OpenedByAll file n K round contributions size externals keys rows wide wkeys₀ made wexternals₀ wkeys wexternals
+      → OpenedByAll file n K round contributions (contributionSize K (readFile file .wires)) externals keys rows (length (readFile file .wires) * (n * K)) wkeys₀ (length (readFile file .wires)) wexternals₀ wkeys wexternals
+  opened-as {round} {contributions} {externals} {keys} {rows} {wkeys₀} {wexternals₀} {wkeys} {wexternals} k =
+      subst (λ (x : ℕ). OpenedByAll file n K round contributions x externals keys rows (length (readFile file .wires) * (n * K)) wkeys₀ (length (readFile file .wires)) wexternals₀ wkeys wexternals) (s .sizeIs)
+      (subst (λ (x : ℕ). OpenedByAll file n K round contributions size externals keys rows x wkeys₀ (length (readFile file .wires)) wexternals₀ wkeys wexternals) (s .wideIs)
+      (subst (λ (x : ℕ). OpenedByAll file n K round contributions size externals keys rows wide wkeys₀ x wexternals₀ wkeys wexternals) (s .madeIs) k))
 
   pub decoded-as : {wexternals masks results₀ results : List ℕ} → DecodedByAll file n wexternals made masks given results₀ results
       → DecodedByAll file n wexternals (length (readFile file .wires)) masks (length (readFile file .outputs)) results₀ results

@@ -92,16 +92,16 @@ module _ {file : List ℕ} {n K : ℕ} {contributions : List ℕ} {size : ℕ} {
 
 -- ---- opening
 
-module _ (file : List ℕ) (n K : ℕ) (contributions : List ℕ) (size : ℕ) (externals keys rows : List ℕ) (wide : ℕ) (wkeys₀ : List ℕ) (long : ℕ) (wexts₀ : List ℕ) where
+module _ (file : List ℕ) (n K round : ℕ) (contributions : List ℕ) (size : ℕ) (externals keys rows : List ℕ) (wide : ℕ) (wkeys₀ : List ℕ) (long : ℕ) (wexts₀ : List ℕ) where
   abbrev pub openChecks : ℕ → Answer
-  openChecks party = openChecked shakePad file n K party (nthPiece contributions size party) externals keys rows (nthPiece wkeys₀ wide party) (nthPiece wexts₀ long party)
+  openChecks party = openChecked (shakePad round) file n K party (nthPiece contributions size party) externals keys rows (nthPiece wkeys₀ wide party) (nthPiece wexts₀ long party)
 
   abbrev pub openedKeys : ℕ → List ℕ
-  openedKeys party = openKeys shakePad file n K party (nthPiece contributions size party) externals keys rows (nthPiece wkeys₀ wide party) (nthPiece wexts₀ long party)
+  openedKeys party = openKeys (shakePad round) file n K party (nthPiece contributions size party) externals keys rows (nthPiece wkeys₀ wide party) (nthPiece wexts₀ long party)
 
   abbrev pub openedExternals : ℕ → List ℕ
   openedExternals party =
-      openExternals shakePad file n K party (nthPiece contributions size party) externals keys rows (nthPiece wkeys₀ wide party) (nthPiece wexts₀ long party)
+      openExternals (shakePad round) file n K party (nthPiece contributions size party) externals keys rows (nthPiece wkeys₀ wide party) (nthPiece wexts₀ long party)
 
   pub record OpenTo (party from at place : ℕ) (wkeys wexts : List ℕ) : Type 0 where
     pub start : from ≡ party * size
@@ -111,9 +111,9 @@ module _ (file : List ℕ) (n K : ℕ) (contributions : List ℕ) (size : ℕ) (
     pub extsSized : (j : ℕ) → j < party → length (openedExternals j) ≡ long
     pub met : (j : ℕ) → j < party → Told openChecks j
 
-module _ {file : List ℕ} {n K : ℕ} {contributions : List ℕ} {size : ℕ} {externals keys rows : List ℕ} {wide : ℕ} {wkeys₀ : List ℕ} {long : ℕ} {wexts₀ : List ℕ} where
+module _ {file : List ℕ} {n K round : ℕ} {contributions : List ℕ} {size : ℕ} {externals keys rows : List ℕ} {wide : ℕ} {wkeys₀ : List ℕ} {long : ℕ} {wexts₀ : List ℕ} where
   pub open-start : length wkeys₀ ≡ n * wide → length wexts₀ ≡ n * long
-      → OpenTo file n K contributions size externals keys rows wide wkeys₀ long wexts₀ 0 0 0 0 wkeys₀ wexts₀
+      → OpenTo file n K round contributions size externals keys rows wide wkeys₀ long wexts₀ 0 0 0 0 wkeys₀ wexts₀
   open-start l k =
       record {
         start = omega arith;
@@ -121,11 +121,11 @@ module _ {file : List ℕ} {n K : ℕ} {contributions : List ℕ} {size : ℕ} {
         extsLevel = level-start (omega arith);
         keysSized = λ j h. absurd (omega arith);
         extsSized = λ j h. absurd (omega arith);
-        met = turn-start (Told (openChecks file n K contributions size externals keys rows wide wkeys₀ long wexts₀));
+        met = turn-start (Told (openChecks file n K round contributions size externals keys rows wide wkeys₀ long wexts₀));
       }
 
   module _ {party from at place : ℕ} {wkeys wexts : List ℕ}
-      (r : OpenTo file n K contributions size externals keys rows wide wkeys₀ long wexts₀ party from at place wkeys wexts) (h : party < n) where
+      (r : OpenTo file n K round contributions size externals keys rows wide wkeys₀ long wexts₀ party from at place wkeys wexts) (h : party < n) where
     abbrev keysPart : List ℕ
     keysPart = take (at + wide - at) (drop at wkeys)
 
@@ -137,40 +137,40 @@ module _ {file : List ℕ} {n K : ℕ} {contributions : List ℕ} {size : ℕ} {
 
     pub open-next : {own ys zs : List ℕ} {number where′ : ℕ} → own ≡ part contributions from size
         → length ys ≡ length keysPart → length zs ≡ length extsPart
-        → OpenCall file n K party own externals keys rows keysPart extsPart number where′ ys zs
-        → OpenTo file n K contributions size externals keys rows wide wkeys₀ long wexts₀ (party + 1) (from + size) (at + wide) (place + long)
+        → OpenCall file n K party round own externals keys rows keysPart extsPart number where′ ys zs
+        → OpenTo file n K round contributions size externals keys rows wide wkeys₀ long wexts₀ (party + 1) (from + size) (at + wide) (place + long)
         (lent at (at + wide) wkeys ys) (lent place (place + long) wexts zs)
     open-next {own} {ys} {zs} o ly lz d =
         let o′ : own ≡ nthPiece contributions size party = own-part contributions size party o (r .start) in
         let p : keysPart ≡ nthPiece wkeys₀ wide party = part-next (r .keysLevel) refl in
         let q : extsPart ≡ nthPiece wexts₀ long party = part-next (r .extsLevel) refl in
-        let y : ys ≡ openedKeys file n K contributions size externals keys rows wide wkeys₀ long wexts₀ party =
-        d .wireKeysIs ∙ ap (λ (a : List ℕ). openKeys shakePad file n K party a externals keys rows keysPart extsPart) o′
-        ∙ ap₂ (λ (a b : List ℕ). openKeys shakePad file n K party (nthPiece contributions size party) externals keys rows a b) p q in
-        let z : zs ≡ openedExternals file n K contributions size externals keys rows wide wkeys₀ long wexts₀ party =
-        d .wireExternalsIs ∙ ap (λ (a : List ℕ). openExternals shakePad file n K party a externals keys rows keysPart extsPart) o′
-        ∙ ap₂ (λ (a b : List ℕ). openExternals shakePad file n K party (nthPiece contributions size party) externals keys rows a b) p q in
+        let y : ys ≡ openedKeys file n K round contributions size externals keys rows wide wkeys₀ long wexts₀ party =
+        d .wireKeysIs ∙ ap (λ (a : List ℕ). openKeys (shakePad round) file n K party a externals keys rows keysPart extsPart) o′
+        ∙ ap₂ (λ (a b : List ℕ). openKeys (shakePad round) file n K party (nthPiece contributions size party) externals keys rows a b) p q in
+        let z : zs ≡ openedExternals file n K round contributions size externals keys rows wide wkeys₀ long wexts₀ party =
+        d .wireExternalsIs ∙ ap (λ (a : List ℕ). openExternals (shakePad round) file n K party a externals keys rows keysPart extsPart) o′
+        ∙ ap₂ (λ (a b : List ℕ). openExternals (shakePad round) file n K party (nthPiece contributions size party) externals keys rows a b) p q in
         record {
           start = omega (arith, r .start, times-next party size);
           keysLevel = steps-call (r .keysLevel) h refl ly y;
           extsLevel = steps-call (r .extsLevel) h refl lz z;
           keysSized =
-              turn-next (λ j. length (openedKeys file n K contributions size externals keys rows wide wkeys₀ long wexts₀ j) ≡ wide) party (r .keysSized)
+              turn-next (λ j. length (openedKeys file n K round contributions size externals keys rows wide wkeys₀ long wexts₀ j) ≡ wide) party (r .keysSized)
               (sym (ap length y) ∙ ly ∙ steps-long (r .keysLevel) h refl);
           extsSized =
-              turn-next (λ j. length (openedExternals file n K contributions size externals keys rows wide wkeys₀ long wexts₀ j) ≡ long) party (r .extsSized)
+              turn-next (λ j. length (openedExternals file n K round contributions size externals keys rows wide wkeys₀ long wexts₀ j) ≡ long) party (r .extsSized)
               (sym (ap length z) ∙ lz ∙ steps-long (r .extsLevel) h refl);
           met =
-              turn-next (Told (openChecks file n K contributions size externals keys rows wide wkeys₀ long wexts₀)) party (r .met)
-              (told-as (openChecks file n K contributions size externals keys rows wide wkeys₀ long wexts₀) party
-              (ap (λ (a : List ℕ). openChecked shakePad file n K party a externals keys rows keysPart extsPart) o′
-              ∙ ap₂ (λ (a b : List ℕ). openChecked shakePad file n K party (nthPiece contributions size party) externals keys rows a b) p q)
+              turn-next (Told (openChecks file n K round contributions size externals keys rows wide wkeys₀ long wexts₀)) party (r .met)
+              (told-as (openChecks file n K round contributions size externals keys rows wide wkeys₀ long wexts₀) party
+              (ap (λ (a : List ℕ). openChecked (shakePad round) file n K party a externals keys rows keysPart extsPart) o′
+              ∙ ap₂ (λ (a b : List ℕ). openChecked (shakePad round) file n K party (nthPiece contributions size party) externals keys rows a b) p q)
               (d .answer));
         }
 
   pub open-all : {party from at place : ℕ} {wkeys wexts : List ℕ}
-      → OpenTo file n K contributions size externals keys rows wide wkeys₀ long wexts₀ party from at place wkeys wexts → n ≤ party
-      → OpenedByAll file n K contributions size externals keys rows wide wkeys₀ long wexts₀ wkeys wexts
+      → OpenTo file n K round contributions size externals keys rows wide wkeys₀ long wexts₀ party from at place wkeys wexts → n ≤ party
+      → OpenedByAll file n K round contributions size externals keys rows wide wkeys₀ long wexts₀ wkeys wexts
   open-all r h =
       record {
         calls =

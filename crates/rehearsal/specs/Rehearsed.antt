@@ -71,11 +71,11 @@ module _ (file : List ℕ) (n K : ℕ) where
     pub resultsLong : length results ≡ n * length outputs
 
   -- what the round comes to
-  pub record Rehearsed (contributions values : List ℕ) (meter : ℕ) (lent : Lent) (results : Results) (externals keys : List ℕ) : Type 0 where
+  pub record Rehearsed (round : ℕ) (contributions values : List ℕ) (meter : ℕ) (lent : Lent) (results : Results) (externals keys : List ℕ) : Type 0 where
     -- each call was made, on what the calls before it left, and its promise holds
-    pub played : Played file n K contributions values meter lent results
+    pub played : Played file n K round contributions values meter lent results
     -- what the host put together: the external values of all inputs in wire order, all parties' keys by input, then party
-    pub externalsAre : externals ≡ allExternals file n K contributions values meter lent results
-    pub keysAre : keys ≡ allKeys file n K contributions values meter lent results
+    pub externalsAre : externals ≡ allExternals file n K round contributions values meter lent results
+    pub keysAre : keys ≡ allKeys file n K round contributions values meter lent results
     -- demand 3: each call accepted, and what they left is as it says
-    pub kept : Kept file n K contributions values meter lent results played
+    pub kept : Kept file n K round contributions values meter lent results played

@@ -14,9 +14,9 @@ pub record KeysOfAll (file : List ℕ) (n K : ℕ) (contributions : List ℕ) (s
       (nthPiece mine₀ each party) number place (nthPiece mine each party))
 
 -- opening, likewise
-pub record OpenedByAll (file : List ℕ) (n K : ℕ) (contributions : List ℕ) (size : ℕ) (externals keys rows : List ℕ) (wide : ℕ) (wkeys₀ : List ℕ) (long : ℕ)
+pub record OpenedByAll (file : List ℕ) (n K round : ℕ) (contributions : List ℕ) (size : ℕ) (externals keys rows : List ℕ) (wide : ℕ) (wkeys₀ : List ℕ) (long : ℕ)
     (wexternals₀ wkeys wexternals : List ℕ) : Type 0 where
-  pub calls : (party : ℕ) → party < n → Answered (λ number place. OpenCall file n K party (nthPiece contributions size party) externals keys rows
+  pub calls : (party : ℕ) → party < n → Answered (λ number place. OpenCall file n K party round (nthPiece contributions size party) externals keys rows
       (nthPiece wkeys₀ wide party) (nthPiece wexternals₀ long party) number place (nthPiece wkeys wide party) (nthPiece wexternals long party))
 
 -- decoding, from a party's own external values

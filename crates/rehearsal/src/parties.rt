@@ -43,10 +43,11 @@ pub fn keys_of_all(
     }
 }
 
-// How many parties there are, and how long their keys; how many bytes a party has of contributions, of wires' keys and of wires' external values.
+// How many parties there are, how long their keys, and the round; how many bytes a party has of contributions, of wires' keys and of wires' external values.
 pub struct Shares {
     pub n: u32,
     pub k: u32,
+    pub round: u32,
     pub size: usize,
     pub wide: usize,
     pub long: usize,
@@ -65,11 +66,12 @@ pub fn open_all(
 )
     requires { ⌜ (length (now contributions) ≡ shares .n * shares .size) × ((length (now wkeys) ≡ shares .n * shares .wide)
         × ((length (now wexternals) ≡ shares .n * shares .long) × (shares .n ≤ 8))) ⌝ }
-    ensures { λ _. ⌜ OpenedByAll (now (file .entry)) (shares .n) (shares .k) (now (contributions .entry)) (shares .size) (now (externals .entry)) (now (keys .entry)) (now (rows .entry))
+    ensures { λ _. ⌜ OpenedByAll (now (file .entry)) (shares .n) (shares .k) (shares .round) (now (contributions .entry)) (shares .size) (now (externals .entry)) (now (keys .entry)) (now (rows .entry))
         (shares .wide) (now (wkeys .entry)) (shares .long) (now (wexternals .entry)) (now (wkeys .exit)) (now (wexternals .exit)) ⌝ }
 {
     let n = shares.n;
     let k = shares.k;
+    let round = shares.round;
     let size = shares.size;
     let wide = shares.wide;
     let long = shares.long;
@@ -87,6 +89,7 @@ pub fn open_all(
             n,
             k,
             party,
+            round,
             contribution,
             externals,
             keys,

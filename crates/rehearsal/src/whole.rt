@@ -18,6 +18,7 @@ pub fn rehearse(
     file: &[u8],
     n: u32,
     k: u32,
+    round: u32,
     contributions: &[u8],
     values: &[u8],
     rows: &mut [u8],
@@ -35,7 +36,7 @@ pub fn rehearse(
     requires { ⌜ Conditions (now file) n k (now contributions) (now values) meter
         (lentOf (now file) n k (now rows) (now inputs) (now outputs) (now mine) (now wkeys) (now wexternals) (now results) (now evaluated))
         × Whole (now file) n k (now externals) (now mine) (now keys) (now wkeys) (now wexternals) (now results) ⌝ }
-    ensures { λ r. ⌜ Rehearsed (now (file .entry)) n k (now (contributions .entry)) (now (values .entry)) meter
+    ensures { λ r. ⌜ Rehearsed (now (file .entry)) n k round (now (contributions .entry)) (now (values .entry)) meter
         (lentOf (now (file .entry)) n k (now (rows .entry)) (now (inputs .entry)) (now (outputs .entry)) (now (mine .entry))
         (now (wkeys .entry)) (now (wexternals .entry)) (now (results .entry)) (now (evaluated .entry)))
         (resultsOf (now (file .entry)) n k (now (values .entry)) (now (rows .exit)) (now (inputs .exit)) (now (outputs .exit)) r (now (mine .exit))
@@ -55,6 +56,7 @@ pub fn rehearse(
         file,
         n,
         k,
+        round,
         contributions,
         &mut *rows,
         &mut *inputs,
@@ -76,6 +78,7 @@ pub fn rehearse(
     let shares = Shares {
         n,
         k,
+        round,
         size,
         wide,
         long: made,

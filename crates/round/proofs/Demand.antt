@@ -1,4 +1,5 @@
--- Demand 3 of the calls' promises: whoever makes the calls of a round under its conditions gets what it promises, whatever else the calls may do.
+-- Demand 3 of the calls' promises: whoever makes the calls of a round, of any number, under its conditions gets what it promises, whatever else the
+-- calls may do.
 -- Assumes nothing.
 use mathlib.Core.Path.{_≡_, refl, ap, _∙_}
 use mathlib.Core.List.{List}
@@ -24,64 +25,64 @@ use Rattle.round.proofs.Claim.{delivered-as}
 use Rattle.round.proofs.RealPad.{shake-claim}
 use Rattle.round.specs.Played.{Results, Played, Kept, allExternals, allKeys}
 
-module _ (file : List ℕ) (n K : ℕ) (contributions values : List ℕ) (meter : ℕ) (lent : Lent) (r : Results)
-    (conditions : Conditions file n K contributions values meter lent) (played : Played file n K contributions values meter lent r) where
+module _ (file : List ℕ) (n K round-number : ℕ) (contributions values : List ℕ) (meter : ℕ) (lent : Lent) (r : Results)
+    (conditions : Conditions file n K contributions values meter lent) (played : Played file n K round-number contributions values meter lent r) where
   abbrev wires : List Wire
   wires = readFile file .wires
 
-  promise : Promise shakePad file n K contributions values meter lent
-  promise = shake-claim file n K contributions values meter lent conditions
+  promise : Promise (shakePad round-number) file n K contributions values meter lent
+  promise = shake-claim round-number file n K contributions values meter lent conditions
 
-  rows-is : r .rows ≡ round.rows shakePad file n K contributions values meter lent
+  rows-is : r .rows ≡ round.rows (shakePad round-number) file n K contributions values meter lent
   unfolding round.rows
   rows-is = played .garble .holds .rowsIs
 
-  masks-is : r .inputMasks ≡ round.inputMasks shakePad file n K contributions values meter lent
+  masks-is : r .inputMasks ≡ round.inputMasks (shakePad round-number) file n K contributions values meter lent
   unfolding round.inputMasks
   masks-is = played .garble .holds .inputMasksIs
 
-  outs-is : r .outputMasks ≡ round.outputMasks shakePad file n K contributions values meter lent
+  outs-is : r .outputMasks ≡ round.outputMasks (shakePad round-number) file n K contributions values meter lent
   unfolding round.outputMasks
   outs-is = played .garble .holds .outputMasksIs
 
   -- what a party's call was handed, and so what it left, is the round's
-  externals-is : (party : ℕ) → party < n → r .externals party ≡ round.ownExternals shakePad file n K contributions values meter lent party
+  externals-is : (party : ℕ) → party < n → r .externals party ≡ round.ownExternals (shakePad round-number) file n K contributions values meter lent party
   unfolding round.ownExternals
   externals-is party h =
       played .externals party h .holds .externalsIs
       ∙ ap (λ (masks : List ℕ). externalsAfter file n party (ownOf wires values party) (ownOf wires masks party) (lent .externals party)) masks-is
 
-  all-externals-is : allExternals file n K contributions values meter lent r ≡ round.externals shakePad file n K contributions values meter lent
+  all-externals-is : allExternals file n K round-number contributions values meter lent r ≡ round.externals (shakePad round-number) file n K contributions values meter lent
   unfolding round.externals
   all-externals-is =
       tab-ext (inputsIn wires) (λ w. getD (r .externals (ownerAt wires w)) (placeAt wires w) 0)
-      (λ w. getD (round.ownExternals shakePad file n K contributions values meter lent (ownerAt wires w)) (placeAt wires w) 0)
+      (λ w. getD (round.ownExternals (shakePad round-number) file n K contributions values meter lent (ownerAt wires w)) (placeAt wires w) 0)
       (λ w h. ap (λ (xs : List ℕ). getD xs (placeAt wires w) 0) (externals-is (ownerAt wires w) (conditions .owners w h)))
 
-  keys-is : (party : ℕ) → party < n → r .keys party ≡ round.ownKeys shakePad file n K contributions values meter lent party
+  keys-is : (party : ℕ) → party < n → r .keys party ≡ round.ownKeys (shakePad round-number) file n K contributions values meter lent party
   unfolding round.ownKeys
   keys-is party h =
       played .inputKeys party h .holds .keysIs
       ∙ ap (λ (xs : List ℕ). inputKeysAfter file n K party (contributionOf K wires contributions party) xs (lent .inputKeys party)) all-externals-is
 
-  all-keys-is : allKeys file n K contributions values meter lent r ≡ round.keys shakePad file n K contributions values meter lent
+  all-keys-is : allKeys file n K round-number contributions values meter lent r ≡ round.keys (shakePad round-number) file n K contributions values meter lent
   unfolding round.keys
   all-keys-is =
       blocks-ext (inputsIn wires) (λ w. blocks n (λ party. nthPiece (r .keys party) K w))
-      (λ w. blocks n (λ party. nthPiece (round.ownKeys shakePad file n K contributions values meter lent party) K w))
+      (λ w. blocks n (λ party. nthPiece (round.ownKeys (shakePad round-number) file n K contributions values meter lent party) K w))
       (λ w h. blocks-ext n (λ party. nthPiece (r .keys party) K w)
-      (λ party. nthPiece (round.ownKeys shakePad file n K contributions values meter lent party) K w)
+      (λ party. nthPiece (round.ownKeys (shakePad round-number) file n K contributions values meter lent party) K w)
       (λ party l. ap (λ (xs : List ℕ). nthPiece xs K w) (keys-is party l)))
 
-  wire-keys-is : (party : ℕ) → party < n → r .wireKeys party ≡ round.wireKeys shakePad file n K contributions values meter lent party
+  wire-keys-is : (party : ℕ) → party < n → r .wireKeys party ≡ round.wireKeys (shakePad round-number) file n K contributions values meter lent party
   unfolding round.wireKeys
   wire-keys-is party h = played .opening party h .holds .wireKeysIs ∙ rw (all-externals-is, all-keys-is, rows-is)
 
-  wire-externals-is : (party : ℕ) → party < n → r .wireExternals party ≡ round.wireExternals shakePad file n K contributions values meter lent party
+  wire-externals-is : (party : ℕ) → party < n → r .wireExternals party ≡ round.wireExternals (shakePad round-number) file n K contributions values meter lent party
   unfolding round.wireExternals
   wire-externals-is party h = played .opening party h .holds .wireExternalsIs ∙ rw (all-externals-is, all-keys-is, rows-is)
 
-  figures-is : (party : ℕ) → party < n → r .decoded party ≡ round.figures shakePad file n K contributions values meter lent party
+  figures-is : (party : ℕ) → party < n → r .decoded party ≡ round.figures (shakePad round-number) file n K contributions values meter lent party
   unfolding round.figures
   figures-is party h = played .decode party h .holds .resultsIs ∙ rw (wire-externals-is party h, outs-is)
 
@@ -114,11 +115,11 @@ module _ (file : List ℕ) (n K : ℕ) (contributions values : List ℕ) (meter 
   unfolding garbleMeter round.garbling
   counted = played .garble .holds .meterIs ∙ afterwards-passed (promise .garbles) (charged meter (rowsIn wires)) meter
 
-  plain-is : r .plain ≡ round.plainFigures shakePad file n K contributions values meter lent
+  plain-is : r .plain ≡ round.plainFigures (shakePad round-number) file n K contributions values meter lent
   unfolding round.plainFigures
   plain-is = played .plainly .holds .resultsIs
 
-  pub demand : Kept file n K contributions values meter lent r played
+  pub demand : Kept file n K round-number contributions values meter lent r played
   demand =
       record {
         garbles = garbles;

@@ -114,13 +114,13 @@ conditions =
       space = as-read (λ ws. HasSpace 0 (rowsIn ws)) space;
     }
 
-promise : Promise shakePad file 2 1 contributions values 0 lent
-promise = shake-claim file 2 1 contributions values 0 lent conditions
+promise : (round : ℕ) → Promise (shakePad round) file 2 1 contributions values 0 lent
+promise round = shake-claim round file 2 1 contributions values 0 lent conditions
 
 plain : plainOutputs file wires outputs values ≡ 1 ∷ 3 ∷ []
 unfolding plainOutputs plainValues plainTo plainBy grown extended add mul blocks file fileOf bytesOf wires outputs values
 plain = refl
 
-pub both-decode : (party : ℕ) → party < 2 → figures shakePad file 2 1 contributions values 0 lent party ≡ 1 ∷ 3 ∷ []
-both-decode party h =
-    promise .delivers .decoded party h ∙ ap₂ (λ (ws : List Wire) (outs : List ℕ). plainOutputs file ws outs values) wires-read outputs-read ∙ plain
+pub both-decode : (round party : ℕ) → party < 2 → figures (shakePad round) file 2 1 contributions values 0 lent party ≡ 1 ∷ 3 ∷ []
+both-decode round party h =
+    promise round .delivers .decoded party h ∙ ap₂ (λ (ws : List Wire) (outs : List ℕ). plainOutputs file ws outs values) wires-read outputs-read ∙ plain

@@ -1,4 +1,4 @@
--- The claim for the pad of document 01, SHAKE256: its pad has K entries, whatever the sponge takes.
+-- The claim for the pad of a round, SHAKE256: its pad has K entries, whatever the sponge takes.
 -- Assumes nothing.
 use mathlib.Core.Path.{_≡_}
 use mathlib.Core.List.{List}
@@ -10,10 +10,10 @@ use Rattle.round.specs.Round.{Lent}
 use Rattle.round.specs.Claim.{Conditions, Promise}
 use Rattle.round.proofs.Claim.{claim}
 
-pub shakePad-size : (q K : ℕ) (input : List ℕ) → 0 < q → length (shakePad q K input) ≡ K
-shakePad-size q K input _ = shakePad-length q K input
+pub shakePad-size : (round q K : ℕ) (input : List ℕ) → 0 < q → length (shakePad round q K input) ≡ K
+shakePad-size round q K input _ = shakePad-length round q K input
 
-pub shake-claim : (file : List ℕ) (n K : ℕ) (contributions values : List ℕ) (meter : ℕ) (lent : Lent)
+pub shake-claim : (round : ℕ) (file : List ℕ) (n K : ℕ) (contributions values : List ℕ) (meter : ℕ) (lent : Lent)
     → Conditions file n K contributions values meter lent
-    → Promise shakePad file n K contributions values meter lent
-shake-claim = claim shakePad shakePad-size
+    → Promise (shakePad round) file n K contributions values meter lent
+shake-claim round = claim (shakePad round) (shakePad-size round)

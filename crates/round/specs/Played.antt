@@ -1,5 +1,5 @@
--- Document 01, "A round", over the calls' promises: each call met its promise, on what the calls before it left, and nothing else is known of the
--- calls. What demand 3 then says of their answers and of what they left.
+-- Document 01, "A round", over the calls' promises: each call met its promise, on what the calls before it left, garbling and every opening in one
+-- round (order 3), and nothing else is known of the calls. What demand 3 then says of their answers and of what they left.
 -- Assumes nothing.
 use mathlib.Core.Path.{_≡_}
 use mathlib.Core.List.{List}
@@ -37,7 +37,7 @@ pub record Results : Type 0 where
   pub decoded : ℕ → List ℕ
   pub plain : List ℕ
 
-module _ (file : List ℕ) (n K : ℕ) (contributions values : List ℕ) (meter : ℕ) (lent : Lent) (r : Results) where
+module _ (file : List ℕ) (n K round : ℕ) (contributions values : List ℕ) (meter : ℕ) (lent : Lent) (r : Results) where
   abbrev wires : List Wire
   wires = readFile file .wires
 
@@ -53,13 +53,13 @@ module _ (file : List ℕ) (n K : ℕ) (contributions values : List ℕ) (meter 
 
   -- the calls, in the order of a round
   pub record Played : Type 0 where
-    pub garble : Answered (λ number place. GarbleCall file n K contributions (lent .rows) (lent .inputMasks) (lent .outputMasks) meter
+    pub garble : Answered (λ number place. GarbleCall file n K round contributions (lent .rows) (lent .inputMasks) (lent .outputMasks) meter
         number place (r .rows) (r .inputMasks) (r .outputMasks) (r .meter))
     pub externals : (party : ℕ) → party < n → Answered (λ number place. ExternalsCall file n party (ownOf wires values party)
         (ownOf wires (r .inputMasks) party) (lent .externals party) number place (r .externals party))
     pub inputKeys : (party : ℕ) → party < n → Answered (λ number place. InputKeysCall file n K party (contribution party) allExternals
         (lent .inputKeys party) number place (r .keys party))
-    pub opening : (party : ℕ) → party < n → Answered (λ number place. OpenCall file n K party (contribution party) allExternals allKeys (r .rows)
+    pub opening : (party : ℕ) → party < n → Answered (λ number place. OpenCall file n K party round (contribution party) allExternals allKeys (r .rows)
         (lent .wireKeys party) (lent .wireExternals party) number place (r .wireKeys party) (r .wireExternals party))
     pub decode : (party : ℕ) → party < n → Answered (λ number place. DecodeCall file (r .wireExternals party) (r .outputMasks)
         (lent .results party) number place (r .decoded party))

@@ -119,12 +119,12 @@ module _ {reading : Reading} (file : List ℕ) (n K : ℕ) (contributions rows m
       (checked ∙ ap₂ (λ (w : List Wire) (o : List ℕ). garbleAsked n K w o contributions (length rows) (length masks) (length outs)) (h .wires) (h .outputs)))
       (spaced ∙ ap (meterChecked meter) rows-are) last
 
-  abbrev Ends : Answer → List ℕ → List ℕ → List ℕ → ℕ → Type 0
-  Ends a = GarbleCall file n K contributions rows masks outs meter (numberIn a) (placeIn a)
+  abbrev Ends : ℕ → Answer → List ℕ → List ℕ → List ℕ → ℕ → Type 0
+  Ends round a = GarbleCall file n K round contributions rows masks outs meter (numberIn a) (placeIn a)
 
-  pub garble-refused : {reason : Refusal} {place : ℕ} → answer ≡ Refused reason place → Ends (Refused reason place) rows masks outs meter
+  pub garble-refused : {round : ℕ} {reason : Refusal} {place : ℕ} → answer ≡ Refused reason place → Ends round (Refused reason place) rows masks outs meter
   unfolding garbleRows garbleInputMasks garbleOutputMasks garbleMeter
-  garble-refused {reason} {place} e =
+  garble-refused {round} {reason} {place} e =
       let a : fate ≡ Refused reason place = sym met ∙ e in
       record {
         answer = reports (sym a);
@@ -185,20 +185,20 @@ module _ {reading : Reading} (file : List ℕ) (n K : ℕ) (contributions rows m
       drawn-is =
           ap₂ (λ (a b : ℕ). drawn a b wires contributions) p l ∙ ap (λ (w : List Wire). drawn n K w contributions) (h .wires)
 
-      pub garble-written : {rows′ masks′ outs′ : List ℕ} {meter′ : ℕ}
-          → (rows′ ≡ garbledRows shakePad parties long file (wiresIn (reading .circuit)) (drawnIn (reading .circuit) parties long contributions))
+      pub garble-written : {round : ℕ} {rows′ masks′ outs′ : List ℕ} {meter′ : ℕ}
+          → (rows′ ≡ garbledRows (shakePad round) parties long file (wiresIn (reading .circuit)) (drawnIn (reading .circuit) parties long contributions))
           × ((masks′ ≡ inputMasks (wiresIn (reading .circuit)) (drawnIn (reading .circuit) parties long contributions))
           × (outs′ ≡ outputMasks (wiresIn (reading .circuit)) (outputsIn (reading .circuit)) (drawnIn (reading .circuit) parties long contributions)))
-          → meter′ ≡ charged meter count → Ends Accepted rows′ masks′ outs′ meter′
+          → meter′ ≡ charged meter count → Ends round Accepted rows′ masks′ outs′ meter′
       unfolding garbleRows garbleInputMasks garbleOutputMasks garbleMeter
-      garble-written {rows′} {masks′} {outs′} {meter′} w r =
+      garble-written {round} {rows′} {masks′} {outs′} {meter′} w r =
           let a : fate ≡ Accepted = sym met ∙ e in
           record {
             answer = reports (sym a);
             rowsIs =
                 w .0
-                ∙ ap₂ (λ (a b : ℕ). garbledRows shakePad a b file wires (drawnIn circuit parties long contributions)) p l
-                ∙ ap₂ (λ (v : List Wire) (d : Draw). garbledRows shakePad n K file v d) (h .wires) drawn-is
+                ∙ ap₂ (λ (a b : ℕ). garbledRows (shakePad round) a b file wires (drawnIn circuit parties long contributions)) p l
+                ∙ ap₂ (λ (v : List Wire) (d : Draw). garbledRows (shakePad round) n K file v d) (h .wires) drawn-is
                 ∙ sym (afterwards-passed a _ rows);
             inputMasksIs = w .1 .0 ∙ ap₂ (λ (v : List Wire) (d : Draw). inputMasks v d) (h .wires) drawn-is ∙ sym (afterwards-passed a _ masks);
             outputMasksIs =

@@ -213,13 +213,13 @@ module _ {circuit : Circuit} {n K party : ℕ} {contribution externals keys rows
 
   -- ---- 20
 
-  abbrev fate : Answer
-  fate = gatesChecked shakePad n K party (wiresIn circuit) (drawn 1 K (wiresIn circuit) contribution) externals keys rows
+  abbrev fate : ℕ → Answer
+  fate round = gatesChecked (shakePad round) n K party (wiresIn circuit) (drawn 1 K (wiresIn circuit) contribution) externals keys rows
 
-  pub gates-met : {wkeys₀ wexternals₀ wkeys wexternals : List ℕ} {r : ℕ} {answer : Answer} → OpensAll circuit n K party contribution externals keys rows wkeys₀ wexternals₀ r wkeys wexternals
+  pub gates-met : {round : ℕ} {wkeys₀ wexternals₀ wkeys wexternals : List ℕ} {r : ℕ} {answer : Answer} → OpensAll circuit n K party round contribution externals keys rows wkeys₀ wexternals₀ r wkeys wexternals
       → answer ≡ named (circuit .made) r NoMultiplier
-      → GatesOpened n K party (wiresIn circuit) contribution externals keys rows wkeys₀ wexternals₀ answer wkeys wexternals
-  gates-met {wkeys₀} {wexternals₀} {wkeys} {wexternals} {r} {answer} v e = by (decLe (length wires) r)
+      → GatesOpened n K party round (wiresIn circuit) contribution externals keys rows wkeys₀ wexternals₀ answer wkeys wexternals
+  gates-met {round} {wkeys₀} {wexternals₀} {wkeys} {wexternals} {r} {answer} v e = by (decLe (length wires) r)
     where
       made : length wires ≡ circuit .made
       made = made-is (g .held)
@@ -227,12 +227,12 @@ module _ {circuit : Circuit} {n K party : ℕ} {contribution externals keys rows
       joined : answer ≡ named (length wires) r NoMultiplier
       joined = e ∙ ap (λ (a : ℕ). named a r NoMultiplier) (sym made)
 
-      met : answer ≡ fate
+      met : answer ≡ fate round
       met = noneBad-found (length wires) _ NoMultiplier (v .found) joined
 
-      by : Dec (length wires ≤ r) → GatesOpened n K party (wiresIn circuit) contribution externals keys rows wkeys₀ wexternals₀ answer wkeys wexternals
+      by : Dec (length wires ≤ r) → GatesOpened n K party round (wiresIn circuit) contribution externals keys rows wkeys₀ wexternals₀ answer wkeys wexternals
       by (yes h) =
-          let a : fate ≡ Accepted = sym met ∙ joined ∙ named-past (length wires) r NoMultiplier h in
+          let a : fate round ≡ Accepted = sym met ∙ joined ∙ named-past (length wires) r NoMultiplier h in
           record {
             answerIs = met;
             keysAre = v .allKeys h ∙ sym (afterwards-passed a _ (replicate (length wkeys₀) 0));
@@ -240,7 +240,7 @@ module _ {circuit : Circuit} {n K party : ℕ} {contribution externals keys rows
           }
       by (no h) =
           let l : r < length wires = omega arith in
-          let a : fate ≡ Refused NoMultiplier r = sym met ∙ joined ∙ named-found (length wires) r NoMultiplier l in
+          let a : fate round ≡ Refused NoMultiplier r = sym met ∙ joined ∙ named-found (length wires) r NoMultiplier l in
           record {
             answerIs = met;
             keysAre = v .noKeys l ∙ afterwards-refused a _ (replicate (length wkeys₀) 0);
@@ -254,16 +254,16 @@ module _ {circuit : Circuit} {n K party : ℕ} {contribution externals keys rows
 
   module _ (wkeys₀ wexternals₀ : List ℕ) {r : ℕ} {answer : Answer} (f : r ≡ firstWrong n K party (wiresIn circuit) contribution externals keys)
       (e : answer ≡ named (circuit .inputs) r WrongInputKey) where
-    abbrev Opened : Answer → List ℕ → List ℕ → Type 0
-    Opened = InputsOpened n K party (wiresIn circuit) contribution externals keys rows wkeys₀ wexternals₀
+    abbrev Opened : ℕ → Answer → List ℕ → List ℕ → Type 0
+    Opened round = InputsOpened n K party round (wiresIn circuit) contribution externals keys rows wkeys₀ wexternals₀
 
     own-met : answer ≡ own
     own-met =
         noneBad-found (inputsIn wires) (inputKeyWrong n K party wires contribution externals keys) WrongInputKey f
         (e ∙ ap (λ (a : ℕ). named a r WrongInputKey) count)
 
-    pub own-next : {wkeys wexternals : List ℕ} {z : Answer} → answer ≡ Accepted
-        → GatesOpened n K party (wiresIn circuit) contribution externals keys rows wkeys₀ wexternals₀ z wkeys wexternals → Opened z wkeys wexternals
+    pub own-next : {round : ℕ} {wkeys wexternals : List ℕ} {z : Answer} → answer ≡ Accepted
+        → GatesOpened n K party round (wiresIn circuit) contribution externals keys rows wkeys₀ wexternals₀ z wkeys wexternals → Opened round z wkeys wexternals
     own-next a t =
         let p : own ≡ Accepted = sym own-met ∙ a in
         record {
@@ -272,10 +272,10 @@ module _ {circuit : Circuit} {n K party : ℕ} {contribution externals keys rows
           externalsAre = t .externalsAre ∙ sym (afterwards-passed p _ wexternals₀);
         }
 
-    pub own-stop : {reason : Refusal} {place : ℕ} → answer ≡ Refused reason place → Opened (Refused reason place) wkeys₀ wexternals₀
-    own-stop {reason} {place} a =
+    pub own-stop : {round : ℕ} {reason : Refusal} {place : ℕ} → answer ≡ Refused reason place → Opened round (Refused reason place) wkeys₀ wexternals₀
+    own-stop {round} {reason} {place} a =
         let m : own ≡ Refused reason place = sym own-met ∙ a in
-        record { answerIs = stage-refused own-met fate a; keysAre = afterwards-refused m _ wkeys₀; externalsAre = afterwards-refused m _ wexternals₀ }
+        record { answerIs = stage-refused own-met (fate round) a; keysAre = afterwards-refused m _ wkeys₀; externalsAre = afterwards-refused m _ wexternals₀ }
 
 -- ---- the whole call
 
@@ -300,35 +300,36 @@ module _ {reading : Reading} (file : List ℕ) (n K party : ℕ) (contribution e
   abbrev ownKeys : Answer
   ownKeys = ownKeysChecked n K party read contribution externals keys
 
-  abbrev gates : Answer
-  gates = gatesChecked shakePad n K party read (drawn 1 K read contribution) externals keys rows
+  abbrev gates : ℕ → Answer
+  gates round = gatesChecked (shakePad round) n K party read (drawn 1 K read contribution) externals keys rows
 
   earlier-met : answer ≡ earlier
   earlier-met =
       read-met file h check joined
       (checked ∙ ap (λ (w : List Wire). openAsked n K w contribution externals keys rows party (length wkeys) (length wexternals)) (h .wires))
 
-  abbrev Opens : Answer → List ℕ → List ℕ → Type 0
-  Opens a = OpenCall file n K party contribution externals keys rows wkeys wexternals (numberIn a) (placeIn a)
+  abbrev Opens : ℕ → Answer → List ℕ → List ℕ → Type 0
+  Opens round a = OpenCall file n K party round contribution externals keys rows wkeys wexternals (numberIn a) (placeIn a)
 
-  abbrev zeroKeys : List ℕ
-  zeroKeys =
-      afterwards gates (wireKeys shakePad n K party read (drawn 1 K read contribution) externals keys rows) (replicate (length wkeys) 0)
+  abbrev zeroKeys : ℕ → List ℕ
+  zeroKeys round =
+      afterwards (gates round) (wireKeys (shakePad round) n K party read (drawn 1 K read contribution) externals keys rows) (replicate (length wkeys) 0)
 
-  abbrev zeroExternals : List ℕ
-  zeroExternals =
-      afterwards gates (wireExternals shakePad n K party read (drawn 1 K read contribution) externals keys rows) (replicate (length wexternals) 0)
+  abbrev zeroExternals : ℕ → List ℕ
+  zeroExternals round =
+      afterwards (gates round) (wireExternals (shakePad round) n K party read (drawn 1 K read contribution) externals keys rows) (replicate (length wexternals) 0)
 
   -- the call's ends, by the checks as they were made
-  ends : {a : Answer} {wkeys′ wexternals′ : List ℕ} → a ≡ andThen (andThen earlier ownKeys) gates → wkeys′ ≡ afterwards (andThen earlier ownKeys) zeroKeys wkeys
-      → wexternals′ ≡ afterwards (andThen earlier ownKeys) zeroExternals wexternals → Opens a wkeys′ wexternals′
+  ends : {round : ℕ} {a : Answer} {wkeys′ wexternals′ : List ℕ} → a ≡ andThen (andThen earlier ownKeys) (gates round)
+      → wkeys′ ≡ afterwards (andThen earlier ownKeys) (zeroKeys round) wkeys
+      → wexternals′ ≡ afterwards (andThen earlier ownKeys) (zeroExternals round) wexternals → Opens round a wkeys′ wexternals′
   unfolding openChecked openKeys openExternals beforeOpening
   ends m k x = record { answer = reports m; wireKeysIs = k; wireExternalsIs = x }
 
-  pub open-refused : {reason : Refusal} {place : ℕ} → answer ≡ Refused reason place → Opens (Refused reason place) wkeys wexternals
-  open-refused {reason} {place} e =
+  pub open-refused : {round : ℕ} {reason : Refusal} {place : ℕ} → answer ≡ Refused reason place → Opens round (Refused reason place) wkeys wexternals
+  open-refused {round} {reason} {place} e =
       let m : Refused reason place ≡ andThen earlier ownKeys = stage-refused earlier-met ownKeys e in
-      ends (andThen-stop gates (sym m)) (afterwards-refused (sym m) zeroKeys wkeys) (afterwards-refused (sym m) zeroExternals wexternals)
+      ends (andThen-stop (gates round) (sym m)) (afterwards-refused (sym m) (zeroKeys round) wkeys) (afterwards-refused (sym m) (zeroExternals round) wexternals)
 
   module _ (e : answer ≡ Accepted) {parties long seat : ℕ} (p : parties ≡ n) (l : long ≡ K) (t : seat ≡ party) where
     abbrev bytes : Answer
@@ -403,18 +404,18 @@ module _ {reading : Reading} (file : List ℕ) (n K party : ℕ) (contribution e
         (lent-is _ _ sizes 4 ∙ ap₂ (λ (a b : ℕ). a * b) (made-is (held-of h)) (ap₂ (λ (a b : ℕ). a * b) (sym p) (sym l)), lent-is _ _ sizes 5 ∙ made-is (held-of h))
 
     -- what opening the rows gave, on the circuit of the code
-    abbrev Came : ℕ → ℕ → ℕ → List Wire → Answer → List ℕ → List ℕ → Type 0
-    Came a b c w = InputsOpened a b c w contribution externals keys rows wkeys wexternals
+    abbrev Came : ℕ → ℕ → ℕ → ℕ → List Wire → Answer → List ℕ → List ℕ → Type 0
+    Came a b c round w = InputsOpened a b c round w contribution externals keys rows wkeys wexternals
 
-    pub open-done : {z : Answer} {wkeys′ wexternals′ : List ℕ} → Came parties long seat (wiresIn (reading .circuit)) z wkeys′ wexternals′ → Opens z wkeys′ wexternals′
-    open-done {z} {wkeys′} {wexternals′} came =
-        let there : Came n K party read z wkeys′ wexternals′ =
-        subst (λ (w : List Wire). Came n K party w z wkeys′ wexternals′) (h .wires)
-        (subst (λ (a : ℕ). Came a K party here z wkeys′ wexternals′) p
-        (subst (λ (b : ℕ). Came parties b party here z wkeys′ wexternals′) l
-        (subst (λ (c : ℕ). Came parties long c here z wkeys′ wexternals′) t came))) in
+    pub open-done : {round : ℕ} {z : Answer} {wkeys′ wexternals′ : List ℕ} → Came parties long seat round (wiresIn (reading .circuit)) z wkeys′ wexternals′ → Opens round z wkeys′ wexternals′
+    open-done {round} {z} {wkeys′} {wexternals′} came =
+        let there : Came n K party round read z wkeys′ wexternals′ =
+        subst (λ (w : List Wire). Came n K party round w z wkeys′ wexternals′) (h .wires)
+        (subst (λ (a : ℕ). Came a K party round here z wkeys′ wexternals′) p
+        (subst (λ (b : ℕ). Came parties b party round here z wkeys′ wexternals′) l
+        (subst (λ (c : ℕ). Came parties long c round here z wkeys′ wexternals′) t came))) in
         let q : earlier ≡ Accepted = sym earlier-met ∙ e in
         ends
-        (there .answerIs ∙ sym (ap (λ (c : Answer). andThen c gates) (andThen-next ownKeys q)))
-        (there .keysAre ∙ sym (after-both earlier ownKeys zeroKeys wkeys q))
-        (there .externalsAre ∙ sym (after-both earlier ownKeys zeroExternals wexternals q))
+        (there .answerIs ∙ sym (ap (λ (c : Answer). andThen c (gates round)) (andThen-next ownKeys q)))
+        (there .keysAre ∙ sym (after-both earlier ownKeys (zeroKeys round) wkeys q))
+        (there .externalsAre ∙ sym (after-both earlier ownKeys (zeroExternals round) wexternals q))

@@ -41,20 +41,20 @@ pub record Compared (n K party inputs : ℕ) (keys own : List ℕ) : Type 0 wher
 abbrev pub firstWrong : ℕ → ℕ → ℕ → List Wire → List ℕ → List ℕ → List ℕ → ℕ
 firstWrong n K party wires contribution externals keys = first (inputsIn wires) (inputKeyWrong n K party wires contribution externals keys)
 
-module _ (n K party : ℕ) (wires : List Wire) (contribution externals keys rows wkeys₀ wexternals₀ : List ℕ) where
+module _ (n K party round : ℕ) (wires : List Wire) (contribution externals keys rows wkeys₀ wexternals₀ : List ℕ) where
   abbrev ownKeys : Answer
   ownKeys = ownKeysChecked n K party wires contribution externals keys
 
   abbrev gates : Answer
-  gates = gatesChecked shakePad n K party wires (drawn 1 K wires contribution) externals keys rows
+  gates = gatesChecked (shakePad round) n K party wires (drawn 1 K wires contribution) externals keys rows
 
   -- the keys and the external values of all wires, or zeros where no multiplier fits
   abbrev newKeys : List ℕ
-  newKeys = afterwards gates (wireKeys shakePad n K party wires (drawn 1 K wires contribution) externals keys rows) (replicate (length wkeys₀) 0)
+  newKeys = afterwards gates (wireKeys (shakePad round) n K party wires (drawn 1 K wires contribution) externals keys rows) (replicate (length wkeys₀) 0)
 
   abbrev newExternals : List ℕ
   newExternals =
-      afterwards gates (wireExternals shakePad n K party wires (drawn 1 K wires contribution) externals keys rows) (replicate (length wexternals₀) 0)
+      afterwards gates (wireExternals (shakePad round) n K party wires (drawn 1 K wires contribution) externals keys rows) (replicate (length wexternals₀) 0)
 
   -- the gates' stage: 20, and what both buffers hold then
   pub record GatesOpened (answer : Answer) (wkeys wexternals : List ℕ) : Type 0 where

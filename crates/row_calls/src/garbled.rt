@@ -17,7 +17,8 @@ use contribution::offsets_checked;
 use meter::charged;
 use meter::meter_checked;
 use party_calls::counted;
-use session::Size;
+use session::AskedSession;
+use session::Session;
 use session::length_checked;
 use session::owners_checked;
 use session::session_checked;
@@ -104,8 +105,7 @@ fn garble_asked(circuit: Circuit, n: u32, k: u32, contributions: &[u8], lent: Le
 fn garble_read(
     reading: Reading,
     file: &[u8],
-    n: u32,
-    k: u32,
+    asked: AskedSession,
     contributions: &[u8],
     rows: &mut [u8],
     inputs: &mut [u8],
@@ -113,7 +113,7 @@ fn garble_read(
     meter: u32,
 ) -> Metered
     requires { ⌜ Holds reading (readFile (now file)) ⌝ }
-    ensures { λ r. ⌜ GarbleCall (now (file .entry)) n k (now (contributions .entry)) (now (rows .entry)) (now (inputs .entry)) (now (outputs .entry)) meter
+    ensures { λ r. ⌜ GarbleCall (now (file .entry)) (asked .n) (asked .k) (asked .round) (now (contributions .entry)) (now (rows .entry)) (now (inputs .entry)) (now (outputs .entry)) meter
         (numberIn (r .answer)) (placeIn (r .answer)) (now (rows .exit)) (now (inputs .exit)) (now (outputs .exit)) (r .meter) ⌝ }
 {
     let read = reading.answer;
@@ -124,21 +124,22 @@ fn garble_read(
         inputs: inputs.len(),
         outputs: outputs.len(),
     };
-    let asked = garble_asked(circuit, n, k, contributions, lent);
-    let earlier = followed(read, asked);
+    let checked = garble_asked(circuit, asked.n, asked.k, contributions, lent);
+    let earlier = followed(read, checked);
     let count = counts::rows(circuit);
     let answer = followed(earlier, meter_checked(meter, count));
     match answer {
         Answer::Accepted => {
-            let parties = counted(n);
-            let long = counted(k);
+            let parties = counted(asked.n);
+            let long = counted(asked.k);
             let size = contribution_size(circuit, long);
             garbling::garble(
                 circuit,
                 file,
-                Size {
+                Session {
                     n: parties,
                     k: long,
+                    round: asked.round,
                 },
                 size,
                 contributions,
@@ -161,23 +162,21 @@ fn garble_read(
 // Garbles a circuit. Refused or not, the contract gives the answer, every byte of the three buffers lent, and the meter.
 pub fn garble(
     file: &[u8],
-    n: u32,
-    k: u32,
+    asked: AskedSession,
     contributions: &[u8],
     rows: &mut [u8],
     inputs: &mut [u8],
     outputs: &mut [u8],
     meter: u32,
 ) -> Metered
-    ensures { λ r. ⌜ GarbleCall (now (file .entry)) n k (now (contributions .entry)) (now (rows .entry)) (now (inputs .entry)) (now (outputs .entry)) meter
+    ensures { λ r. ⌜ GarbleCall (now (file .entry)) (asked .n) (asked .k) (asked .round) (now (contributions .entry)) (now (rows .entry)) (now (inputs .entry)) (now (outputs .entry)) meter
         (numberIn (r .answer)) (placeIn (r .answer)) (now (rows .exit)) (now (inputs .exit)) (now (outputs .exit)) (r .meter) ⌝ }
 {
     let reading = read(file);
     garble_read(
         reading,
         file,
-        n,
-        k,
+        asked,
         contributions,
         rows,
         inputs,

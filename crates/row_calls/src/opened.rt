@@ -29,7 +29,7 @@ use opening::open_wires;
 use party_calls::counted;
 use party_calls::put_keys;
 use search::same_bytes;
-use session::Asked;
+use session::AskedSeat;
 use session::Seat;
 use session::length_checked;
 use session::owners_checked;
@@ -108,7 +108,7 @@ fn open_lent(
 // The party and the owners, and then what is lent.
 fn open_party(
     circuit: Circuit,
-    asked: Asked,
+    asked: AskedSeat,
     contribution: &[u8],
     externals: &[u8],
     keys: &[u8],
@@ -140,7 +140,7 @@ fn open_party(
 // The session, and where it is in range the rest.
 fn open_asked(
     circuit: Circuit,
-    asked: Asked,
+    asked: AskedSeat,
     contribution: &[u8],
     externals: &[u8],
     keys: &[u8],
@@ -272,7 +272,7 @@ fn open_gates(
 ) -> Answer
     requires { ⌜ Given circuit (seat .n) (seat .k) (seat .party) (now contribution) (now externals) (now keys) (now rows) ⌝ }
     requires { ⌜ (length (now wkeys) ≡ circuit .made * (seat .n * seat .k)) × (length (now wexternals) ≡ circuit .made) ⌝ }
-    ensures { λ r. ⌜ GatesOpened (seat .n) (seat .k) (seat .party) (wiresIn circuit) (now (contribution .entry)) (now (externals .entry)) (now (keys .entry)) (now (rows .entry))
+    ensures { λ r. ⌜ GatesOpened (seat .n) (seat .k) (seat .party) (seat .round) (wiresIn circuit) (now (contribution .entry)) (now (externals .entry)) (now (keys .entry)) (now (rows .entry))
         (now (wkeys .entry)) (now (wexternals .entry)) r (now (wkeys .exit)) (now (wexternals .exit)) ⌝ }
 {
     let made = circuit.made;
@@ -302,7 +302,7 @@ fn open_inputs(
 ) -> Answer
     requires { ⌜ Given circuit (seat .n) (seat .k) (seat .party) (now contribution) (now externals) (now keys) (now rows) ⌝ }
     requires { ⌜ (length (now wkeys) ≡ circuit .made * (seat .n * seat .k)) × (length (now wexternals) ≡ circuit .made) ⌝ }
-    ensures { λ r. ⌜ InputsOpened (seat .n) (seat .k) (seat .party) (wiresIn circuit) (now (contribution .entry)) (now (externals .entry)) (now (keys .entry)) (now (rows .entry))
+    ensures { λ r. ⌜ InputsOpened (seat .n) (seat .k) (seat .party) (seat .round) (wiresIn circuit) (now (contribution .entry)) (now (externals .entry)) (now (keys .entry)) (now (rows .entry))
         (now (wkeys .entry)) (now (wexternals .entry)) r (now (wkeys .exit)) (now (wexternals .exit)) ⌝ }
 {
     let inputs = circuit.inputs;
@@ -327,7 +327,7 @@ fn open_inputs(
 fn open_read(
     reading: Reading,
     file: &[u8],
-    asked: Asked,
+    asked: AskedSeat,
     contribution: &[u8],
     externals: &[u8],
     keys: &[u8],
@@ -336,7 +336,7 @@ fn open_read(
     wexternals: &mut [u8],
 ) -> Answer
     requires { ⌜ Holds reading (readFile (now file)) ⌝ }
-    ensures { λ r. ⌜ OpenCall (now (file .entry)) (asked .n) (asked .k) (asked .party) (now (contribution .entry)) (now (externals .entry)) (now (keys .entry)) (now (rows .entry))
+    ensures { λ r. ⌜ OpenCall (now (file .entry)) (asked .n) (asked .k) (asked .party) (asked .round) (now (contribution .entry)) (now (externals .entry)) (now (keys .entry)) (now (rows .entry))
         (now (wkeys .entry)) (now (wexternals .entry)) (numberIn r) (placeIn r) (now (wkeys .exit)) (now (wexternals .exit)) ⌝ }
 {
     let read = reading.answer;
@@ -345,6 +345,7 @@ fn open_read(
         n: counted(asked.n),
         k: counted(asked.k),
         party: counted(asked.party),
+        round: asked.round,
     };
     let checked = open_asked(
         circuit,
@@ -375,7 +376,7 @@ fn open_read(
 // Opens garbled rows at a party. Refused or not, the contract gives the answer and every byte of the two buffers lent.
 pub fn open_rows(
     file: &[u8],
-    asked: Asked,
+    asked: AskedSeat,
     contribution: &[u8],
     externals: &[u8],
     keys: &[u8],
@@ -383,7 +384,7 @@ pub fn open_rows(
     wkeys: &mut [u8],
     wexternals: &mut [u8],
 ) -> Answer
-    ensures { λ r. ⌜ OpenCall (now (file .entry)) (asked .n) (asked .k) (asked .party) (now (contribution .entry)) (now (externals .entry)) (now (keys .entry)) (now (rows .entry))
+    ensures { λ r. ⌜ OpenCall (now (file .entry)) (asked .n) (asked .k) (asked .party) (asked .round) (now (contribution .entry)) (now (externals .entry)) (now (keys .entry)) (now (rows .entry))
         (now (wkeys .entry)) (now (wexternals .entry)) (numberIn r) (placeIn r) (now (wkeys .exit)) (now (wexternals .exit)) ⌝ }
 {
     let reading = read(file);

@@ -57,9 +57,9 @@ module _ {n K q : ℕ} {out message : List ℕ} where
 
 module _ (r : Shape) {out : List ℕ} where
   pub row-made : (keys base : List ℕ) (c : ℕ) (D : List ℕ) {message : List ℕ} → message ≡ keyV (r .q) base c D
-      → out ≡ addV (r .q) message (padRow shakePad (r .k) (r .q) (underOf (r .bound)) keys (r .n)) → out ≡ rowOf r keys (keyV (r .q) base c D)
+      → out ≡ addV (r .q) message (padRow (shakePad (r .bound .round)) (r .k) (r .q) (underOf (r .bound)) keys (r .n)) → out ≡ rowOf r keys (keyV (r .q) base c D)
   unfolding row
-  row-made keys base c D e t = t ∙ ap (λ (l : List ℕ). addV (r .q) l (padRow shakePad (r .k) (r .q) (underOf (r .bound)) keys (r .n))) e
+  row-made keys base c D e t = t ∙ ap (λ (l : List ℕ). addV (r .q) l (padRow (shakePad (r .bound .round)) (r .k) (r .q) (underOf (r .bound)) keys (r .n))) e
 
   -- keys under another name
   pub row-under : (message : List ℕ) {keys keys′ : List ℕ} → keys ≡ keys′ → out ≡ rowOf r keys message → out ≡ rowOf r keys′ message
@@ -174,7 +174,7 @@ module _ (made : Made) (D : List ℕ) where
       ++ secondMade made D a b second ≡ productMade made D a b z first
   unfolding productRows productRow₀ productRow₁
   product-is a b z first second e =
-      ap (λ (s : Keyed). blocks (made .modulus) (productRow₀ shakePad (made .n) (made .k) (made .wire) (made .modulus) D a b z first) ++ secondMade made D a b s) e
+      ap (λ (s : Keyed). blocks (made .modulus) (productRow₀ (shakePad (made .round)) (made .n) (made .k) (made .wire) (made .modulus) D a b z first) ++ secondMade made D a b s) e
 
   pub choice-is : (D₂ : List ℕ) (bit d z first second : Keyed) {chosen rest₀ rest₁ : Keyed} → chosen ≡ less (made .modulus) second d
       → rest₀ ≡ less (made .modulus) z first → rest₁ ≡ less (made .modulus) z second

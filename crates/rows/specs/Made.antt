@@ -21,7 +21,7 @@ use Rattle.rows.specs.declared.keyed.Keyed.{Keyed as Held}
 -- ---- one row, and a row for each α below the keys' modulus
 
 abbrev pub rowOf : Row → List ℕ → List ℕ → List ℕ
-rowOf r keys message = row shakePad (r .n) (r .k) (r .bound .wire) (r .q) (r .bound .modulus) (r .bound .component) keys message
+rowOf r keys message = row (shakePad (r .bound .round)) (r .n) (r .k) (r .bound .wire) (r .q) (r .bound .modulus) (r .bound .component) keys message
 
 abbrev pub componentRows : Row → List ℕ → List ℕ → List ℕ → List ℕ → List ℕ → List ℕ
 componentRows r factors zero offset base given =
@@ -70,7 +70,7 @@ heldIn made x = keyedOf (made .n * made .k) x
 
 abbrev pub rowFor : Made → ℕ → ℕ → Row
 rowFor made q component =
-    record { n = made .n; k = made .k; q = made .modulus; bound = record { modulus = q; wire = made .wire; component = component } }
+    record { n = made .n; k = made .k; q = made .modulus; bound = record { round = made .round; modulus = q; wire = made .wire; component = component } }
 
 module _ (made : Made) where
   abbrev p : ℕ
@@ -78,10 +78,10 @@ module _ (made : Made) where
 
   -- message plus pads, under keys of modulus q
   abbrev pub padded : ℕ → ℕ → List ℕ → List ℕ → List ℕ
-  padded q component keys message = row shakePad (made .n) (made .k) (made .wire) p q component keys message
+  padded q component keys message = row (shakePad (made .round)) (made .n) (made .k) (made .wire) p q component keys message
 
   abbrev pub tableMade : List ℕ → Images → ℕ → Keyed → List ℕ → Keyed → List ℕ → List ℕ
-  tableMade file images q a Dₐ z D = tableRows shakePad (made .n) (made .k) (made .wire) (imageOf file images p) q a Dₐ p z D
+  tableMade file images q a Dₐ z D = tableRows (shakePad (made .round)) (made .n) (made .k) (made .wire) (imageOf file images p) q a Dₐ p z D
 
   -- base + (start + α·step)·D, under the keys k + α·D
   abbrev pub linearMade : ℕ → List ℕ → List ℕ → List ℕ → ℕ → ℕ → List ℕ
@@ -93,7 +93,7 @@ module _ (made : Made) where
       blocks p (λ β. padded p 1 (keyV p (b .key) β D) (productMessage₁ p D (second .key) (second .mask) (a .key) (a .mask) β))
 
   abbrev pub productMade : List ℕ → Keyed → Keyed → Keyed → Keyed → List ℕ
-  productMade D a b z first = productRows shakePad (made .n) (made .k) (made .wire) p D a b z first
+  productMade D a b z first = productRows (shakePad (made .round)) (made .n) (made .k) (made .wire) p D a b z first
 
   abbrev pub chooserMade : List ℕ → List ℕ → List ℕ → ℕ → Keyed → List ℕ
   chooserMade D D₂ bit α x = padded 2 0 (keyV 2 bit α D₂) (keyV p (x .key) (x .mask) D)
@@ -107,4 +107,4 @@ module _ (made : Made) where
       ++ blocks p (λ α. padded p 2 (keyV p (d .key) α D) (correctorMessage₁ p D (second .key) (second .mask) mᵥ (d .mask) α))
 
   abbrev pub choiceMade : List ℕ → List ℕ → Keyed → Keyed → Keyed → Keyed → Keyed → List ℕ
-  choiceMade D D₂ bit d z first second = choiceRows shakePad (made .n) (made .k) (made .wire) p D D₂ bit d z first second
+  choiceMade D D₂ bit d z first second = choiceRows (shakePad (made .round)) (made .n) (made .k) (made .wire) p D D₂ bit d z first second

@@ -19,10 +19,11 @@ use residue::add;
 use residue::mul;
 use residue::sub;
 
-// The wire that a gate makes, for `n` parties and key length `k`.
+// The wire that a gate makes, for `n` parties and key length `k`, in a round.
 pub struct Made {
     pub n: usize,
     pub k: usize,
+    pub round: u32,
     pub wire: u32,
     pub modulus: u8,
 }
@@ -36,6 +37,7 @@ fn row_of(made: Made, q: u8, component: u8) -> Row
         k: made.k,
         q: made.modulus,
         bound: Bound {
+            round: made.round,
             modulus: q,
             wire: made.wire,
             component,

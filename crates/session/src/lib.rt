@@ -3,7 +3,7 @@
 mod lengths;
 mod owners;
 mod parties;
-mod sizes;
+mod seats;
 mod values;
 
 pub use lengths::length_checked;
@@ -11,7 +11,8 @@ pub use owners::owners_checked;
 pub use parties::parties_checked;
 pub use parties::party_checked;
 pub use parties::session_checked;
-pub use sizes::Asked;
-pub use sizes::Seat;
-pub use sizes::Size;
+pub use seats::AskedSeat;
+pub use seats::AskedSession;
+pub use seats::Seat;
+pub use seats::Session;
 pub use values::values_checked;

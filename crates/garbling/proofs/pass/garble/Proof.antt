@@ -6,31 +6,24 @@ use Rattle.garbling.proofs.pass.garble.Lts as lts
 use Rattle.garbling.proofs.pass.garble_in.Reads as garble-in-reads
 use Rattle.garbling.proofs.pass.zeros.Reads as zeros-reads
 
--- src/pass.rt:184:20
 zeros-requires : tie.Need-zeros-requires
 zeros-requires c κs = search needs
 
--- src/pass.rt:191:9
 slice-aggregate-garble-in : tie.Need-slice-aggregate-garble-in
 slice-aggregate-garble-in c = search needs
 
--- src/pass.rt:185:5
 garble-in-requires : tie.Need-garble-in-requires
 garble-in-requires c κs = (c .before .before .before .before .before .before .before .before .before .before .pre .0, (search needs, c .before .before .before .before .before .before .before .before .before .before .pre .1))
 
--- src/pass.rt:167:1
 same-length : tie.Need-same-length
 same-length c = search needs
 
--- src/pass.rt:167:1
 same-length-2 : tie.Need-same-length-2
 same-length-2 c = search needs
 
--- src/pass.rt:167:1
 same-length-3 : tie.Need-same-length-3
 same-length-3 c = search needs
 
--- src/pass.rt:167:1
 returns : tie.Need-returns
 returns c = search needs
 

@@ -11,47 +11,36 @@ use Rattle.garbling.proofs.handed.put_output_masks.Reads as put-output-
 use Rattle.garbling.proofs.pass.put_rows.Reads as put-rows-reads
 use Rattle.zero.proofs.wire_masks.Reads as wire-masks-reads
 
--- src/pass.rt:110:17
 wire-masks-requires : tie.Need-wire-masks-requires
 wire-masks-requires c κs = search needs
 
--- src/pass.rt:119:9
 slice-aggregate-put-rows : tie.Need-slice-aggregate-put-rows
 slice-aggregate-put-rows c = search needs
 
--- src/pass.rt:111:5
 put-rows-requires : tie.Need-put-rows-requires
 put-rows-requires c κs = search needs
 
--- src/pass.rt:122:21
 slice-aggregate-put-input-masks : tie.Need-slice-aggregate-put-input-masks
 slice-aggregate-put-input-masks c = search needs
 
--- src/pass.rt:122:5
 put-input-masks-requires : tie.Need-put-input-masks-requires
 put-input-masks-requires c κs = inputs-fit (c .before .before .before .before .before .before .before .before .before .before .before .before .before .before .pre .0) (c .before .before .before .before .before .before .before .wire-masks .ensures) (c .before .before .before .before .before .before .before .before .before .before .before .before .before .before .pre .1 .1 .1 .0)
 
--- src/pass.rt:123:31
 slice-aggregate-put-output-masks : tie.Need-slice-aggregate-put-output-masks
 slice-aggregate-put-output-masks c = search needs
 
--- src/pass.rt:123:5
 put-output-masks-requires : tie.Need-put-output-masks-requires
 put-output-masks-requires c κs = gives-masks (c .before .before .before .before .before .before .before .before .before .before .before .before .before .before .before .before .before .before .before .pre .0) (c .before .before .before .before .before .before .before .before .before .before .before .before .wire-masks .ensures) (c .before .before .before .before .before .before .before .before .before .before .before .before .before .before .before .before .before .before .before .pre .1 .1 .1 .1)
 
--- src/pass.rt:91:1
 same-length : tie.Need-same-length
 same-length c = search needs
 
--- src/pass.rt:91:1
 same-length-2 : tie.Need-same-length-2
 same-length-2 c = search needs
 
--- src/pass.rt:91:1
 same-length-3 : tie.Need-same-length-3
 same-length-3 c = search needs
 
--- src/pass.rt:91:1
 returns : tie.Need-returns
 returns c = (c .before .before .before .before .before .before .before .before .before .before .before .before .put-rows .ensures, (c .before .before .before .before .before .before .before .put-input-masks .ensures ∙ inputs-are (c .before .before .before .before .before .before .before .before .before .before .before .before .before .before .before .before .before .before .before .before .before .before .pre .0) (c .before .before .before .before .before .before .before .before .before .before .before .before .before .before .before .wire-masks .ensures) (c .before .before .before .before .before .before .before .before .before .before .before .before .before .before .before .before .before .before .before .before .before .before .pre .1 .1 .1 .0), c .before .before .put-output-masks .ensures ∙ outputs-are (c .before .before .before .before .before .before .before .before .before .before .before .before .before .before .before .before .before .before .before .before .before .before .pre .0) (c .before .before .before .before .before .before .before .before .before .before .before .before .before .before .before .wire-masks .ensures)))
 

@@ -15,68 +15,55 @@ use Rattle.garbling.proofs.pass.garble_in.Lts as lts
 use Rattle.garbling.proofs.pass.garble_from.Reads as garble-from-reads
 use Rattle.zero.proofs.zero_keys.Reads as zero-keys-reads
 
--- src/pass.rt:146:33
 mul-bytes : tie.Need-mul-bytes
 mul-bytes c = omega (arith, vector-fits (c .before .before .before .before .before .before .before .pre .0 .sizes))
 
--- src/pass.rt:146:17
 mul-bytes-2 : tie.Need-mul-bytes-2
 mul-bytes-2 c = omega (arith, keys-fit (c .before .before .before .before .before .before .before .before .pre .0))
 
--- src/pass.rt:147:69
 slice-relend-prefix-zero-keys : tie.Need-slice-relend-prefix-zero-keys
 slice-relend-prefix-zero-keys c = omega (arith, keys-fit (c .before .before .before .before .before .before .before .before .pre .0), c .before .before .before .before .before .before .before .before .pre .1 .0)
 
--- src/pass.rt:147:69
 slice-aggregate-zero-keys : tie.Need-slice-aggregate-zero-keys
 slice-aggregate-zero-keys c =
     let a = c .before .before .before .before .before .before .before .before .before .args in
-    sym (length-take-le (a .circuit .made * (a .sizes .n * a .sizes .k)) (a .work .now) (omega (arith, keys-fit (c .before .before .before .before .before .before .before .before .before .pre .0), c .before .before .before .before .before .before .before .before .before .pre .1 .0)))
+    sym (length-take-le (a .circuit .made * (a .session .n * a .session .k)) (a .work .now) (omega (arith, keys-fit (c .before .before .before .before .before .before .before .before .before .pre .0), c .before .before .before .before .before .before .before .before .before .pre .1 .0)))
 
--- src/pass.rt:147:5
 zero-keys-requires : tie.Need-zero-keys-requires
 zero-keys-requires c κs =
     let a = c .before .before .before .before .before .before .before .before .before .args in
-    (c .before .before .before .before .before .before .before .before .before .pre .0, length-take-le (a .circuit .made * (a .sizes .n * a .sizes .k)) (a .work .now) (omega (arith, keys-fit (c .before .before .before .before .before .before .before .before .before .pre .0), c .before .before .before .before .before .before .before .before .before .pre .1 .0)))
+    (c .before .before .before .before .before .before .before .before .before .pre .0, length-take-le (a .circuit .made * (a .session .n * a .session .k)) (a .work .now) (omega (arith, keys-fit (c .before .before .before .before .before .before .before .before .before .pre .0), c .before .before .before .before .before .before .before .before .before .pre .1 .0)))
 
--- src/pass.rt:154:9
 slice-reshare-prefix-garble-from : tie.Need-slice-reshare-prefix-garble-from
 slice-reshare-prefix-garble-from c =
     let a = c .before .before .before .before .before .before .before .before .before .before .before .before .args in
-    let q = wrote-front (a .work .now) (a .circuit .made * (a .sizes .n * a .sizes .k)) {ys = c .before .before .zero-keys .last .1 .1 .1 .1 .1 .1 .0} (omega (arith, keys-fit (c .before .before .before .before .before .before .before .before .before .before .before .before .pre .0), c .before .before .before .before .before .before .before .before .before .before .before .before .pre .1 .0)) (c .before .before .zero-keys .kept .1 .1 .1 .1 .1 .1 .0) refl in
+    let q = wrote-front (a .work .now) (a .circuit .made * (a .session .n * a .session .k)) {ys = c .before .before .zero-keys .last .1 .1 .1 .1 .1 .1 .0} (omega (arith, keys-fit (c .before .before .before .before .before .before .before .before .before .before .before .before .pre .0), c .before .before .before .before .before .before .before .before .before .before .before .before .pre .1 .0)) (c .before .before .zero-keys .kept .1 .1 .1 .1 .1 .1 .0) refl in
     omega (arith, q .kept, q .room)
 
--- src/pass.rt:154:9
 slice-aggregate-garble-from : tie.Need-slice-aggregate-garble-from
 slice-aggregate-garble-from c =
     let a = c .before .before .before .before .before .before .before .before .before .before .before .before .before .args in
-    let q = wrote-front (a .work .now) (a .circuit .made * (a .sizes .n * a .sizes .k)) {ys = c .before .before .before .zero-keys .last .1 .1 .1 .1 .1 .1 .0} (omega (arith, keys-fit (c .before .before .before .before .before .before .before .before .before .before .before .before .before .pre .0), c .before .before .before .before .before .before .before .before .before .before .before .before .before .pre .1 .0)) (c .before .before .before .zero-keys .kept .1 .1 .1 .1 .1 .1 .0) refl in
-    sym (length-take-le (a .circuit .made * (a .sizes .n * a .sizes .k)) _ (omega (arith, q .kept, q .room)))
+    let q = wrote-front (a .work .now) (a .circuit .made * (a .session .n * a .session .k)) {ys = c .before .before .before .zero-keys .last .1 .1 .1 .1 .1 .1 .0} (omega (arith, keys-fit (c .before .before .before .before .before .before .before .before .before .before .before .before .before .pre .0), c .before .before .before .before .before .before .before .before .before .before .before .before .before .pre .1 .0)) (c .before .before .before .zero-keys .kept .1 .1 .1 .1 .1 .1 .0) refl in
+    sym (length-take-le (a .circuit .made * (a .session .n * a .session .k)) _ (omega (arith, q .kept, q .room)))
 
--- src/pass.rt:148:5
 garble-from-requires : tie.Need-garble-from-requires
 garble-from-requires c κs =
     let a = c .before .before .before .before .before .before .before .before .before .before .before .before .before .before .before .before .args in
-    let q = wrote-front (a .work .now) (a .circuit .made * (a .sizes .n * a .sizes .k)) {ys = c .before .before .before .before .before .before .zero-keys .last .1 .1 .1 .1 .1 .1 .0} (omega (arith, keys-fit (c .before .before .before .before .before .before .before .before .before .before .before .before .before .before .before .before .pre .0), c .before .before .before .before .before .before .before .before .before .before .before .before .before .before .before .before .pre .1 .0)) (c .before .before .before .before .before .before .zero-keys .kept .1 .1 .1 .1 .1 .1 .0) refl in
-    (c .before .before .before .before .before .before .before .before .before .before .before .before .before .before .before .before .pre .0, (subst (λ (l : List ℕ). ZeroKeys (a .circuit) (a .sizes .n) (a .sizes .k) (a .contributions .now) l) (sym (wrote-take q)) (c .before .before .before .before .before .before .zero-keys .ensures), c .before .before .before .before .before .before .before .before .before .before .before .before .before .before .before .before .pre .1 .1))
+    let q = wrote-front (a .work .now) (a .circuit .made * (a .session .n * a .session .k)) {ys = c .before .before .before .before .before .before .zero-keys .last .1 .1 .1 .1 .1 .1 .0} (omega (arith, keys-fit (c .before .before .before .before .before .before .before .before .before .before .before .before .before .before .before .before .pre .0), c .before .before .before .before .before .before .before .before .before .before .before .before .before .before .before .before .pre .1 .0)) (c .before .before .before .before .before .before .zero-keys .kept .1 .1 .1 .1 .1 .1 .0) refl in
+    (c .before .before .before .before .before .before .before .before .before .before .before .before .before .before .before .before .pre .0, (subst (λ (l : List ℕ). ZeroKeys (a .circuit) (a .session .n) (a .session .k) (a .contributions .now) l) (sym (wrote-take q)) (c .before .before .before .before .before .before .zero-keys .ensures), c .before .before .before .before .before .before .before .before .before .before .before .before .before .before .before .before .pre .1 .1))
 
--- src/pass.rt:127:1
 same-length : tie.Need-same-length
 same-length c = search needs
 
--- src/pass.rt:127:1
 same-length-2 : tie.Need-same-length-2
 same-length-2 c = search needs
 
--- src/pass.rt:127:1
 same-length-3 : tie.Need-same-length-3
 same-length-3 c = search needs
 
--- src/pass.rt:127:1
 same-length-4 : tie.Need-same-length-4
 same-length-4 c = search needs
 
--- src/pass.rt:127:1
 returns : tie.Need-returns
 returns c = search needs
 

@@ -28,133 +28,106 @@ use Rattle.lists.proofs.index_number.Reads as index-number-reads
 use Rattle.lists.proofs.number_index.Reads as number-index-reads
 
 abbrev Inv-loop : tie.InvT-loop
-Inv-loop file n k size contributions keys masks rows₀ circuit moduli ranks bytes made at₀ from₀ w₀ rows at from w =
-    (at ≡ recordAt k (take (circuit .made) (circuit .wires)) w)
-    × Steps rows₀ 0 w (circuit .made) (λ v. rowsOf (take (circuit .made) (circuit .wires)) v * (n * k))
-    (gateRows shakePad n k file (take (circuit .made) (circuit .wires)) (drawn n k (take (circuit .made) (circuit .wires)) contributions)) from rows
+Inv-loop file session size contributions keys masks rows₀ circuit moduli ranks bytes made at₀ from₀ w₀ rows at from w =
+    (at ≡ recordAt (session .k) (take (circuit .made) (circuit .wires)) w)
+    × Steps rows₀ 0 w (circuit .made) (λ v. rowsOf (take (circuit .made) (circuit .wires)) v * (session .n * session .k))
+    (gateRows (shakePad (session .round)) (session .n) (session .k) file (take (circuit .made) (circuit .wires)) (drawn (session .n) (session .k) (take (circuit .made) (circuit .wires)) contributions)) from rows
 
 abbrev μ-loop : tie.MeasureT-loop
-μ-loop file n k size contributions keys masks rows₀ circuit moduli ranks bytes made at₀ from₀ w₀ rows at from w = circuit .made - w
+μ-loop file session size contributions keys masks rows₀ circuit moduli ranks bytes made at₀ from₀ w₀ rows at from w = circuit .made - w
 
--- src/pass.rt:54:18
 moduli-requires : tie.Need-moduli-requires Inv-loop μ-loop
 moduli-requires c κs = c .before .before .before .before .before .pre .0 .held .room
 
--- src/pass.rt:55:17
 ranks-requires : tie.Need-ranks-requires Inv-loop μ-loop
 ranks-requires c κs = c .before .before .before .before .before .before .pre .0 .held .room
 
--- src/pass.rt:56:17
 mul-bytes : tie.Need-mul-bytes Inv-loop μ-loop
-mul-bytes c = omega (arith, vector-fits (c .before .before .before .before .before .before .before .pre .0 .sizes))
+mul-bytes c = omega (arith, vector-fits (c .before .before .before .before .before .before .before .before .pre .0 .sizes))
 
--- src/pass.rt:58:9
 first-record-requires : tie.Need-first-record-requires Inv-loop μ-loop
-first-record-requires c κs = (c .before .before .before .before .before .before .before .pre .0 .held .room, c .before .before .before .before .before .before .before .pre .0 .sizes .short)
+first-record-requires c κs = (c .before .before .before .before .before .before .before .before .pre .0 .held .room, c .before .before .before .before .before .before .before .before .pre .0 .sizes .short)
 
--- src/pass.rt:61:5
 loop-holds : tie.Need-loop-holds Inv-loop μ-loop
-loop-holds c = (c .first-record .ensures, pass-start (c .before .before .before .before .before .before .before .before .pre .0) (c .before .before .before .before .before .before .before .before .pre .1 .1))
+loop-holds c = (c .first-record .ensures, pass-start (c .before .before .before .before .before .before .before .before .before .pre .0) (c .before .before .before .before .before .before .before .before .before .args .session .round) (c .before .before .before .before .before .before .before .before .before .pre .1 .1))
 
--- src/pass.rt:62:20
 mul-wire : tie.Need-mul-wire Inv-loop μ-loop
-mul-wire c = omega (arith, c .loop-test .taken, c .before .before .before .before .before .before .before .before .before .before .pre .0 .held .room .made, c .before .before .before .before .before .before .before .before .before .before .pre .0 .held .room .wires)
+mul-wire c = omega (arith, c .loop-test .taken, c .before .before .before .before .before .before .before .before .before .before .before .pre .0 .held .room .made, c .before .before .before .before .before .before .before .before .before .before .before .pre .0 .held .room .wires)
 
--- src/pass.rt:62:20
 element-copy-out-wire : tie.Need-element-copy-out-wire Inv-loop μ-loop
-element-copy-out-wire c = omega (arith, c .loop-test .taken, c .before .before .before .before .before .before .before .before .before .before .pre .0 .held .room .made, c .before .before .before .before .before .before .before .before .before .before .pre .0 .held .room .wires)
+element-copy-out-wire c = omega (arith, c .loop-test .taken, c .before .before .before .before .before .before .before .before .before .before .before .pre .0 .held .room .made, c .before .before .before .before .before .before .before .before .before .before .before .pre .0 .held .room .wires)
 
--- src/pass.rt:63:41
 slice-aggregate-row-bytes : tie.Need-slice-aggregate-row-bytes Inv-loop μ-loop
-slice-aggregate-row-bytes c = sym (moduli-long (c .before .before .before .before .before .before .before .before .before .before .before .before .pre .0) (c .before .before .before .before .before .before .before .before .before .before .before .before .pre .1 .0 .0) (c .before .before .before .before .before .before .before .before .before .before .before .before .pre .1 .0 .1) (c .before .before .before .before .before .ranks .ensures) (c .before .before .before .before .before .before .moduli .ensures))
+slice-aggregate-row-bytes c = sym (moduli-long (c .before .before .before .before .before .before .before .before .before .before .before .before .before .pre .0) (c .before .before .before .before .before .before .before .before .before .before .before .before .before .pre .1 .0 .0) (c .before .before .before .before .before .before .before .before .before .before .before .before .before .pre .1 .0 .1) (c .before .before .before .before .before .before .ranks .ensures) (c .before .before .before .before .before .before .before .moduli .ensures))
 
--- src/pass.rt:63:25
 row-bytes-requires : tie.Need-row-bytes-requires Inv-loop μ-loop
-row-bytes-requires c κs = omega (arith, vector-fits (c .before .before .before .before .before .before .before .before .before .before .before .before .pre .0 .sizes))
+row-bytes-requires c κs = omega (arith, vector-fits (c .before .before .before .before .before .before .before .before .before .before .before .before .before .pre .0 .sizes))
 
--- src/pass.rt:63:18
 add-to : tie.Need-add-to Inv-loop μ-loop
-add-to c = omega (arith, steps-fits (c .before .before .before .before .loop .inv .1) (c .before .before .before .loop-test .taken), turn-size (c .before .before .before .before .before .before .before .before .before .before .before .before .before .pre .0) (c .before .before .before .before .before .before .before .before .before .before .before .before .before .pre .1 .0 .0) (c .before .before .before .before .before .before .before .before .before .before .before .before .before .pre .1 .0 .1) (c .before .before .before .before .before .before .ranks .ensures) (c .before .before .before .before .before .before .before .moduli .ensures) (c .before .before .before .loop-test .taken) (c .before .before .before .before .loop .inv .0) (c .row-bytes .ensures) refl)
+add-to c = omega (arith, c .before .before .before .before .loop .inv .1 .kept, c .before .before .before .before .before .before .before .before .before .before .before .before .before .before .good, steps-fits (c .before .before .before .before .loop .inv .1) (c .before .before .before .loop-test .taken), turn-size (c .before .before .before .before .before .before .before .before .before .before .before .before .before .before .pre .0) (c .before .before .before .before .before .before .before .before .before .before .before .before .before .before .pre .1 .0 .0) (c .before .before .before .before .before .before .before .before .before .before .before .before .before .before .pre .1 .0 .1) (c .before .before .before .before .before .before .before .ranks .ensures) (c .before .before .before .before .before .before .before .before .moduli .ensures) (c .before .before .before .loop-test .taken) (c .before .before .before .before .loop .inv .0) (c .row-bytes .ensures) refl)
 
--- src/pass.rt:67:19
 index-number-requires : tie.Need-index-number-requires Inv-loop μ-loop
-index-number-requires c κs = omega (arith, c .before .before .before .loop-test .taken, c .before .before .before .before .before .before .before .before .before .before .before .before .before .pre .0 .held .room .made)
+index-number-requires c κs = omega (arith, c .before .before .before .loop-test .taken, c .before .before .before .before .before .before .before .before .before .before .before .before .before .before .pre .0 .held .room .made)
 
--- src/pass.rt:71:33
 record-count-requires : tie.Need-record-count-requires Inv-loop μ-loop
 record-count-requires c κs = tt
 
--- src/pass.rt:71:20
 number-index-requires : tie.Need-number-index-requires Inv-loop μ-loop
 number-index-requires c κs = tt
 
--- src/pass.rt:74:13
 recipe-of-requires : tie.Need-recipe-of-requires Inv-loop μ-loop
 recipe-of-requires c κs = tt
 
--- src/pass.rt:78:13
 slice-aggregate-gate-rows : tie.Need-slice-aggregate-gate-rows Inv-loop μ-loop
-slice-aggregate-gate-rows c = sym (ranks-long (c .before .before .before .before .before .before .before .before .before .before .before .before .before .before .before .before .before .before .pre .0) (c .before .before .before .before .before .before .before .before .before .before .before .ranks .ensures))
+slice-aggregate-gate-rows c = sym (ranks-long (c .before .before .before .before .before .before .before .before .before .before .before .before .before .before .before .before .before .before .before .pre .0) (c .before .before .before .before .before .before .before .before .before .before .before .before .ranks .ensures))
 
--- src/pass.rt:79:13
 slice-aggregate-gate-rows-2 : tie.Need-slice-aggregate-gate-rows-2 Inv-loop μ-loop
-slice-aggregate-gate-rows-2 c = sym (moduli-long (c .before .before .before .before .before .before .before .before .before .before .before .before .before .before .before .before .before .before .before .pre .0) (c .before .before .before .before .before .before .before .before .before .before .before .before .before .before .before .before .before .before .before .pre .1 .0 .0) (c .before .before .before .before .before .before .before .before .before .before .before .before .before .before .before .before .before .before .before .pre .1 .0 .1) (c .before .before .before .before .before .before .before .before .before .before .before .before .ranks .ensures) (c .before .before .before .before .before .before .before .before .before .before .before .before .before .moduli .ensures))
+slice-aggregate-gate-rows-2 c = sym (moduli-long (c .before .before .before .before .before .before .before .before .before .before .before .before .before .before .before .before .before .before .before .before .pre .0) (c .before .before .before .before .before .before .before .before .before .before .before .before .before .before .before .before .before .before .before .before .pre .1 .0 .0) (c .before .before .before .before .before .before .before .before .before .before .before .before .before .before .before .before .before .before .before .before .pre .1 .0 .1) (c .before .before .before .before .before .before .before .before .before .before .before .before .before .ranks .ensures) (c .before .before .before .before .before .before .before .before .before .before .before .before .before .before .moduli .ensures))
 
--- src/pass.rt:82:13
 sub-gate-rows : tie.Need-sub-gate-rows Inv-loop μ-loop
 sub-gate-rows c = omega arith
 
--- src/pass.rt:82:13
 part-gate-rows-start : tie.Need-part-gate-rows-start Inv-loop μ-loop
 part-gate-rows-start c = omega arith
 
--- src/pass.rt:82:13
 part-gate-rows-end : tie.Need-part-gate-rows-end Inv-loop μ-loop
-part-gate-rows-end c = omega (arith, steps-fits (c .before .before .before .before .before .before .before .before .before .before .loop .inv .1) (c .before .before .before .before .before .before .before .before .before .loop-test .taken), turn-size (c .before .before .before .before .before .before .before .before .before .before .before .before .before .before .before .before .before .before .before .pre .0) (c .before .before .before .before .before .before .before .before .before .before .before .before .before .before .before .before .before .before .before .pre .1 .0 .0) (c .before .before .before .before .before .before .before .before .before .before .before .before .before .before .before .before .before .before .before .pre .1 .0 .1) (c .before .before .before .before .before .before .before .before .before .before .before .before .ranks .ensures) (c .before .before .before .before .before .before .before .before .before .before .before .before .before .moduli .ensures) (c .before .before .before .before .before .before .before .before .before .loop-test .taken) (c .before .before .before .before .before .before .before .before .before .before .loop .inv .0) (c .before .before .before .before .before .before .row-bytes .ensures) refl)
+part-gate-rows-end c = omega (arith, steps-fits (c .before .before .before .before .before .before .before .before .before .before .loop .inv .1) (c .before .before .before .before .before .before .before .before .before .loop-test .taken), turn-size (c .before .before .before .before .before .before .before .before .before .before .before .before .before .before .before .before .before .before .before .before .pre .0) (c .before .before .before .before .before .before .before .before .before .before .before .before .before .before .before .before .before .before .before .before .pre .1 .0 .0) (c .before .before .before .before .before .before .before .before .before .before .before .before .before .before .before .before .before .before .before .before .pre .1 .0 .1) (c .before .before .before .before .before .before .before .before .before .before .before .before .before .ranks .ensures) (c .before .before .before .before .before .before .before .before .before .before .before .before .before .before .moduli .ensures) (c .before .before .before .before .before .before .before .before .before .loop-test .taken) (c .before .before .before .before .before .before .before .before .before .before .loop .inv .0) (c .before .before .before .before .before .before .row-bytes .ensures) refl)
 
--- src/pass.rt:73:9
 gate-rows-requires : tie.Need-gate-rows-requires Inv-loop μ-loop
 gate-rows-requires c κs =
-    let start = c .before .before .before .before .before .before .before .before .before .before .before .before .before .before .before .before .before .before .before .before in
-    let t = turn-size (start .pre .0) (start .pre .1 .0 .0) (start .pre .1 .0 .1) (c .before .before .before .before .before .before .before .before .before .before .before .before .before .ranks .ensures) (c .before .before .before .before .before .before .before .before .before .before .before .before .before .before .moduli .ensures) (c .before .before .before .before .before .before .before .before .before .before .loop-test .taken) (c .before .before .before .before .before .before .before .before .before .before .before .loop .inv .0) (c .before .before .before .before .before .before .before .row-bytes .ensures) refl in
-    turn-ready (start .pre .0) (start .pre .1 .0 .0) (start .pre .1 .0 .1) (c .before .before .before .before .before .before .before .before .before .before .before .before .before .ranks .ensures) (c .before .before .before .before .before .before .before .before .before .before .before .before .before .before .moduli .ensures) (c .before .before .before .before .before .before .before .before .before .before .loop-test .taken) (c .before .before .before .before .before .before .before .before .before .before .before .loop .inv .0) (c .before .before .before .before .before .before .before .row-bytes .ensures) refl
-    (c .before .before .before .before .before .before .index-number .result) (c .before .before .before .before .number-index .result) (c .before .before .before .before .before .before .index-number .ensures) (record { is = c .before .before .before .before .number-index .ensures ∙ c .before .before .before .before .before .record-count .ensures .is; most = omega (arith, c .before .before .before .before .number-index .ensures, c .before .before .before .before .before .record-count .ensures .most) }) (c .before .before .before .recipe-of .ensures)
+    let start = c .before .before .before .before .before .before .before .before .before .before .before .before .before .before .before .before .before .before .before .before .before in
+    let t = turn-size (start .pre .0) (start .pre .1 .0 .0) (start .pre .1 .0 .1) (c .before .before .before .before .before .before .before .before .before .before .before .before .before .before .ranks .ensures) (c .before .before .before .before .before .before .before .before .before .before .before .before .before .before .before .moduli .ensures) (c .before .before .before .before .before .before .before .before .before .before .loop-test .taken) (c .before .before .before .before .before .before .before .before .before .before .before .loop .inv .0) (c .before .before .before .before .before .before .before .row-bytes .ensures) refl in
+    turn-ready (start .pre .0) (start .pre .1 .0 .0) (start .pre .1 .0 .1) (c .before .before .before .before .before .before .before .before .before .before .before .before .before .before .ranks .ensures) (c .before .before .before .before .before .before .before .before .before .before .before .before .before .before .before .moduli .ensures) (c .before .before .before .before .before .before .before .before .before .before .loop-test .taken) (c .before .before .before .before .before .before .before .before .before .before .before .loop .inv .0) (c .before .before .before .before .before .before .before .row-bytes .ensures) refl
+    (start .args .session .round) (c .before .before .before .before .before .before .index-number .result) (c .before .before .before .before .number-index .result) (c .before .before .before .before .before .before .index-number .ensures) (record { is = c .before .before .before .before .number-index .ensures ∙ c .before .before .before .before .before .record-count .ensures .is; most = omega (arith, c .before .before .before .before .number-index .ensures, c .before .before .before .before .before .record-count .ensures .most) }) (c .before .before .before .recipe-of .ensures)
     (steps-long (c .before .before .before .before .before .before .before .before .before .before .before .loop .inv .1) (c .before .before .before .before .before .before .before .before .before .before .loop-test .taken) (omega (arith, t)))
 
--- src/pass.rt:84:15
 record-size-requires : tie.Need-record-size-requires Inv-loop μ-loop
-record-size-requires c κs = c .before .before .before .before .before .before .before .before .before .before .before .before .before .before .before .before .before .before .before .before .before .before .before .pre .0 .sizes .short
+record-size-requires c κs = c .before .before .before .before .before .before .before .before .before .before .before .before .before .before .before .before .before .before .before .before .before .before .before .before .pre .0 .sizes .short
 
--- src/pass.rt:84:9
 add-at : tie.Need-add-at Inv-loop μ-loop
-add-at c = omega (arith, cursor-fits (c .before .before .before .before .before .before .before .before .before .before .before .before .before .before .before .before .before .before .before .before .before .before .before .before .pre .0 .held) (c .before .before .before .before .before .before .before .before .before .before .before .before .before .before .before .before .before .before .before .before .before .before .before .before .args .k) (c .before .before .before .before .before .before .before .before .before .before .before .before .before .before .loop-test .taken) (c .before .before .before .before .before .before .before .before .before .before .before .before .before .before .before .loop .inv .0) (c .before .before .before .before .before .before .before .before .before .before .before .before .before .before .before .before .before .before .before .before .before .before .before .before .pre .0 .each) (c .record-size .ensures), c .before .before .before .before .before .before .before .before .before .before .before .before .before .before .before .before .before .before .before .before .before .before .before .before .fits .size .fits)
+add-at c = omega (arith, cursor-fits (c .before .before .before .before .before .before .before .before .before .before .before .before .before .before .before .before .before .before .before .before .before .before .before .before .before .pre .0 .held) (c .before .before .before .before .before .before .before .before .before .before .before .before .before .before .before .before .before .before .before .before .before .before .before .before .before .args .session .k) (c .before .before .before .before .before .before .before .before .before .before .before .before .before .before .loop-test .taken) (c .before .before .before .before .before .before .before .before .before .before .before .before .before .before .before .loop .inv .0) (c .before .before .before .before .before .before .before .before .before .before .before .before .before .before .before .before .before .before .before .before .before .before .before .before .before .pre .0 .each) (c .record-size .ensures), c .before .before .before .before .before .before .before .before .before .before .before .before .before .before .before .before .before .before .before .before .before .before .before .before .before .fits .size .fits)
 
--- src/pass.rt:86:9
 add-w : tie.Need-add-w Inv-loop μ-loop
-add-w c = omega (arith, c .before .before .before .before .before .before .before .before .before .before .before .before .before .before .loop-test .taken, c .before .before .before .before .before .before .before .before .before .before .before .before .before .before .before .before .before .before .before .before .before .before .before .before .pre .0 .held .room .made)
+add-w c = omega (arith, c .before .before .before .before .before .before .before .before .before .before .before .before .before .before .loop-test .taken, c .before .before .before .before .before .before .before .before .before .before .before .before .before .before .before .before .before .before .before .before .before .before .before .before .before .pre .0 .held .room .made)
 
--- src/pass.rt:61:5
 loop-less : tie.Need-loop-less Inv-loop μ-loop
 loop-less c = omega (arith, c .before .before .before .before .before .before .before .before .before .before .before .before .before .before .loop-test .taken)
 
--- src/pass.rt:61:5
 loop-again : tie.Need-loop-again Inv-loop μ-loop
 loop-again c =
-    let start = c .before .before .before .before .before .before .before .before .before .before .before .before .before .before .before .before .before .before .before .before .before .before .before .before in
-    let t = turn-size (start .pre .0) (start .pre .1 .0 .0) (start .pre .1 .0 .1) (c .before .before .before .before .before .before .before .before .before .before .before .before .before .before .before .before .before .ranks .ensures) (c .before .before .before .before .before .before .before .before .before .before .before .before .before .before .before .before .before .before .moduli .ensures) (c .before .before .before .before .before .before .before .before .before .before .before .before .before .before .loop-test .taken) (c .before .before .before .before .before .before .before .before .before .before .before .before .before .before .before .loop .inv .0) (c .before .before .before .before .before .before .before .before .before .before .before .row-bytes .ensures) refl in (
-      cursor-next (start .pre .0 .held) (start .args .k) (c .before .before .before .before .before .before .before .before .before .before .before .before .before .before .loop-test .taken) (c .before .before .before .before .before .before .before .before .before .before .before .before .before .before .before .loop .inv .0) (c .record-size .ensures),
+    let start = c .before .before .before .before .before .before .before .before .before .before .before .before .before .before .before .before .before .before .before .before .before .before .before .before .before in
+    let t = turn-size (start .pre .0) (start .pre .1 .0 .0) (start .pre .1 .0 .1) (c .before .before .before .before .before .before .before .before .before .before .before .before .before .before .before .before .before .before .ranks .ensures) (c .before .before .before .before .before .before .before .before .before .before .before .before .before .before .before .before .before .before .before .moduli .ensures) (c .before .before .before .before .before .before .before .before .before .before .before .before .before .before .loop-test .taken) (c .before .before .before .before .before .before .before .before .before .before .before .before .before .before .before .loop .inv .0) (c .before .before .before .before .before .before .before .before .before .before .before .row-bytes .ensures) refl in (
+      cursor-next (start .pre .0 .held) (start .args .session .k) (c .before .before .before .before .before .before .before .before .before .before .before .before .before .before .loop-test .taken) (c .before .before .before .before .before .before .before .before .before .before .before .before .before .before .before .loop .inv .0) (c .record-size .ensures),
       steps-call (c .before .before .before .before .before .before .before .before .before .before .before .before .before .before .before .loop .inv .1) (c .before .before .before .before .before .before .before .before .before .before .before .before .before .before .loop-test .taken) (omega (arith, t)) (c .before .before .before .gate-rows .kept .1 .1 .1 .1 .1 .1 .1 .1 .0)
-          (turn-rows (start .pre .0) (start .pre .1 .0 .0) (start .pre .1 .0 .1) (c .before .before .before .before .before .before .before .before .before .before .before .before .before .before .before .before .before .ranks .ensures) (c .before .before .before .before .before .before .before .before .before .before .before .before .before .before .before .before .before .before .moduli .ensures) (c .before .before .before .before .before .before .before .before .before .before .before .before .before .before .loop-test .taken) (c .before .before .before .before .before .before .before .before .before .before .before .before .before .before .before .loop .inv .0) (c .before .before .before .before .before .before .before .before .before .before .before .row-bytes .ensures) refl
-          (c .before .before .before .before .before .before .before .before .before .before .index-number .result) (c .before .before .before .before .before .before .before .before .number-index .result) (c .before .before .before .before .before .before .before .before .before .before .index-number .ensures) (record { is = c .before .before .before .before .before .before .before .before .number-index .ensures ∙ c .before .before .before .before .before .before .before .before .before .record-count .ensures .is; most = omega (arith, c .before .before .before .before .before .before .before .before .number-index .ensures, c .before .before .before .before .before .before .before .before .before .record-count .ensures .most) }) (c .before .before .before .before .before .before .before .recipe-of .ensures) (c .before .before .before .gate-rows .ensures)),
+          (turn-rows (start .pre .0) (start .pre .1 .0 .0) (start .pre .1 .0 .1) (c .before .before .before .before .before .before .before .before .before .before .before .before .before .before .before .before .before .before .ranks .ensures) (c .before .before .before .before .before .before .before .before .before .before .before .before .before .before .before .before .before .before .before .moduli .ensures) (c .before .before .before .before .before .before .before .before .before .before .before .before .before .before .loop-test .taken) (c .before .before .before .before .before .before .before .before .before .before .before .before .before .before .before .loop .inv .0) (c .before .before .before .before .before .before .before .before .before .before .before .row-bytes .ensures) refl
+          (start .args .session .round) (c .before .before .before .before .before .before .before .before .before .before .index-number .result) (c .before .before .before .before .before .before .before .before .number-index .result) (c .before .before .before .before .before .before .before .before .before .before .index-number .ensures) (record { is = c .before .before .before .before .before .before .before .before .number-index .ensures ∙ c .before .before .before .before .before .before .before .before .before .record-count .ensures .is; most = omega (arith, c .before .before .before .before .before .before .before .before .number-index .ensures, c .before .before .before .before .before .before .before .before .before .record-count .ensures .most) }) (c .before .before .before .before .before .before .before .recipe-of .ensures) (c .before .before .before .gate-rows .ensures)),
     )
 
--- src/pass.rt:38:1
 same-length : tie.Need-same-length Inv-loop μ-loop
 same-length c = c .before .loop .inv .1 .kept
 
--- src/pass.rt:38:1
 returns : tie.Need-returns Inv-loop μ-loop
-returns c = pass-done (c .before .before .before .before .before .before .before .before .before .before .pre .0) (c .before .loop .inv .1) (c .loop-test .left) (c .before .before .before .before .before .before .before .before .before .before .pre .1 .1)
+returns c = pass-done (c .before .before .before .before .before .before .before .before .before .before .before .pre .0) (c .before .before .before .before .before .before .before .before .before .before .before .args .session .round) (c .before .loop .inv .1) (c .loop-test .left) (c .before .before .before .before .before .before .before .before .before .before .before .pre .1 .1)
 
 pub put-rows-spec : {M : Type 1} → statement M
 put-rows-spec =

@@ -10,19 +10,15 @@ use Rattle.garbling.proofs.pass.row_bytes.Lts as lts
 use Rattle.counts.proofs.row_count.Reads as row-count-reads
 use Rattle.lists.proofs.number_index.Reads as number-index-reads
 
--- src/pass.rt:34:18
 row-count-requires : tie.Need-row-count-requires
 row-count-requires c κs = search needs
 
--- src/pass.rt:34:5
 number-index-requires : tie.Need-number-index-requires
 number-index-requires c κs = search needs
 
--- src/pass.rt:34:5
 mul-result : tie.Need-mul-result
 mul-result c = omega (arith, times-most (c .number-index .result) (c .before .before .before .args .bytes) 512 1024 (omega (arith, c .number-index .ensures, c .before .row-count .ensures .most)) (c .before .before .before .pre))
 
--- src/pass.rt:30:1
 returns : tie.Need-returns
 returns c = ap (λ (x : ℕ). x * c .before .before .before .args .bytes) (c .number-index .ensures ∙ c .before .row-count .ensures .is)
 

@@ -17,4 +17,4 @@ open-choice-spec =
     (λ c. search needs)
     (λ c κs. search needs)
     (λ c. search needs)
-    (λ c. choice-is _ _ _ _ (c .before .before .before .before .before .before .before .before .before .before .before .before .before .args .rows .now) _ _ _ _ (c .before .before .before .before .corrector-row .ensures .0) (c .before .before .before .before .before .before .before .open-chooser .ensures) (c .before .before .add-bare .ensures)))
+    (λ c. choice-is _ _ _ _ _ (c .before .before .before .before .before .before .before .before .before .before .before .before .before .args .rows .now) _ _ _ _ (c .before .before .before .before .corrector-row .ensures .0) (c .before .before .before .before .before .before .before .open-chooser .ensures) (c .before .before .add-bare .ensures)))

@@ -18,7 +18,7 @@ open-chooser-spec =
     let start = c .before .before .before .before .before .before .before in
     ((start .pre .0 .0 .sizes, (start .pre .0 .0 .modulus, row-below (start .pre .0 .1 .0) _ (c .before .nth-piece .ensures .0))), (start .pre .1 .0, (record { size = c .before .nth-piece .ensures .1 }, start .pre .1 .1 .1))))
     (λ c. search needs)
-    (λ c. chooser-zero _ _ _ _ (c .before .before .before .before .before .before .before .before .before .before .before .args .rows .now) _ _ _ (c .before .before .before .before .before .nth-piece .ensures .0) (c .before .before .before .before .before .before .byte-index .ensures .0) (c .if1 .taken) (c .before .before .before .bare .ensures))
+    (λ c. chooser-zero _ _ _ _ _ (c .before .before .before .before .before .before .before .before .before .before .before .args .rows .now) _ _ _ (c .before .before .before .before .before .nth-piece .ensures .0) (c .before .before .before .before .before .before .byte-index .ensures .0) (c .if1 .taken) (c .before .before .before .bare .ensures))
     (λ c κs. search needs)
     (λ c. search needs)
-    (λ c. chooser-one _ _ _ _ (c .before .before .before .before .before .before .before .before .before .before .before .before .before .before .before .args .rows .now) _ _ _ (c .before .before .before .before .before .before .before .before .before .nth-piece .ensures .0) (c .before .before .before .before .before .before .before .before .before .before .byte-index .ensures .0) (c .before .before .before .before .if1 .left) (c .before .before .before .before .before .before .before .bare .ensures) (c .before .before .add-multiple .ensures)))
+    (λ c. chooser-one _ _ _ _ _ (c .before .before .before .before .before .before .before .before .before .before .before .before .before .before .before .args .rows .now) _ _ _ (c .before .before .before .before .before .before .before .before .before .nth-piece .ensures .0) (c .before .before .before .before .before .before .before .before .before .before .byte-index .ensures .0) (c .before .before .before .before .if1 .left) (c .before .before .before .before .before .before .before .bare .ensures) (c .before .before .add-multiple .ensures)))

@@ -30,4 +30,4 @@ open-product-spec =
     let start = c .before .before .before .before .before .before .before .before .before .before .before .before .before .before .before .before .before .before in
     record { positive = omega (arith, start .pre .0 .0 .modulus); size = c .before .before .before .add-bare .kept .1 .1 .1 .1 .1 .1 .0 ∙ c .before .before .before .before .before .before .before .before .before .before .bare .kept .1 .1 .1 .1 .1 .1 .0 ∙ start .pre .1 .1 .1 .size ∙ sym (start .pre .1 .0 .size) })
     (λ c. search needs)
-    (λ c. product-is _ _ _ _ (c .before .before .before .before .before .before .before .before .before .before .before .before .before .before .before .before .before .before .before .before .before .args .rows .now) _ _ _ _ (c .before .before .before .before .before .before .before .before .before .before .before .before .before .before .before .nth-piece .ensures .0) (c .before .before .before .before .before .before .before .before .before .before .before .before .before .before .before .before .byte-index .ensures .0) (c .before .before .before .before .before .before .before .before .nth-piece2 .ensures .0) (omega (arith, c .before .before .before .before .before .before .before .before .before .before .byte-index2 .ensures .0, c .before .before .before .before .before .before .before .before .before .byte-index3 .ensures .0)) (c .before .before .before .before .before .before .before .before .before .before .before .before .before .bare .ensures) (c .before .before .before .before .before .before .add-bare .ensures) (c .before .before .add-multiple .ensures)))
+    (λ c. product-is _ _ _ _ _ (c .before .before .before .before .before .before .before .before .before .before .before .before .before .before .before .before .before .before .before .before .before .args .rows .now) _ _ _ _ (c .before .before .before .before .before .before .before .before .before .before .before .before .before .before .before .nth-piece .ensures .0) (c .before .before .before .before .before .before .before .before .before .before .before .before .before .before .before .before .byte-index .ensures .0) (c .before .before .before .before .before .before .before .before .nth-piece2 .ensures .0) (omega (arith, c .before .before .before .before .before .before .before .before .before .before .byte-index2 .ensures .0, c .before .before .before .before .before .before .before .before .before .byte-index3 .ensures .0)) (c .before .before .before .before .before .before .before .before .before .before .before .before .before .bare .ensures) (c .before .before .before .before .before .before .add-bare .ensures) (c .before .before .add-multiple .ensures)))

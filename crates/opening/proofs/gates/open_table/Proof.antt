@@ -17,4 +17,4 @@ open-table-spec =
     let start = c .before .before .before .before .before .before in
     ((start .pre .0 .0 .sizes, (start .pre .0 .0 .modulus, row-below (start .pre .0 .1 .0) _ (c .before .nth-piece .ensures .0))), (start .pre .1 .0, (record { size = c .before .nth-piece .ensures .1 }, start .pre .1 .1))))
     (λ c. search needs)
-    (λ c. table-is _ _ _ _ (c .before .before .before .before .before .before .before .before .before .args .rows .now) _ _ _ (c .before .before .before .before .nth-piece .ensures .0) (c .before .before .before .before .before .byte-index .ensures .0) (c .before .before .bare .ensures)))
+    (λ c. table-is _ _ _ _ _ (c .before .before .before .before .before .before .before .before .before .args .rows .now) _ _ _ (c .before .before .before .before .nth-piece .ensures .0) (c .before .before .before .before .before .byte-index .ensures .0) (c .before .before .bare .ensures)))

@@ -8,7 +8,7 @@ use Rattle.opening.proofs.pass.pass.Statement.{statement}
 use Rattle.opening.proofs.pass.pass.Tie as tie
 
 abbrev Inv-loop : tie.InvT-loop
-Inv-loop seat contribution externals keys rows wkeys₀ wexternals₀ circuit n k table places made zero₀ from₀ w₀ wkeys wexternals zero from w = Reached n k (seat .party) (take (circuit .made) (circuit .wires)) contribution externals keys rows w zero from wkeys wexternals
+Inv-loop seat contribution externals keys rows wkeys₀ wexternals₀ circuit n k table places made zero₀ from₀ w₀ wkeys wexternals zero from w = Reached n k (seat .party) (seat .round) (take (circuit .made) (circuit .wires)) contribution externals keys rows w zero from wkeys wexternals
 
 abbrev μ-loop : tie.MeasureT-loop
 μ-loop seat contribution externals keys rows wkeys₀ wexternals₀ circuit n k table places made zero₀ from₀ w₀ wkeys wexternals zero from w = circuit .made - w

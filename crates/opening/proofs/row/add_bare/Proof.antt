@@ -18,4 +18,4 @@ add-bare-spec =
     (λ c. search needs)
     (λ c.
     let start = c .before .before .before .before .before .before .before .before .before .before .before in
-    bare-more _ _ _ _ _ _ _ (start .pre .0 .1) (start .pre .1 .1 .0) (start .pre .1 .1 .1 .size) (c .before .before .before .before .before .before .add-multiple .ensures) (c .before .before .sub-pad-row .ensures)))
+    bare-more _ _ _ _ _ _ _ _ (start .pre .0 .1) (start .pre .1 .1 .0) (start .pre .1 .1 .1 .size) (c .before .before .before .before .before .before .add-multiple .ensures) (c .before .before .sub-pad-row .ensures)))

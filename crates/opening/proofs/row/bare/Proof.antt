@@ -15,4 +15,4 @@ bare-spec =
     let start = c .before .before .before .before .before .before .before .before in
     (asked (start .pre .0 .0) (start .pre .0 .1 .0) (start .pre .0 .1 .1) (c .before .before .before .copy .ensures), rowed (start .pre .0 .0) (start .pre .1 .0) (ap length (c .before .before .before .copy .ensures) ∙ start .pre .1 .1 .0 .size)))
     (λ c. search needs)
-    (λ c. bare-row _ _ _ _ _ (c .before .before .before .before .before .before .copy .ensures) (c .before .before .sub-pad-row .ensures)))
+    (λ c. bare-row _ _ _ _ _ _ (c .before .before .before .before .before .before .copy .ensures) (c .before .before .sub-pad-row .ensures)))

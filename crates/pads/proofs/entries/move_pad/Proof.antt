@@ -32,4 +32,4 @@ move-pad-spec = tie.close (tie.spec
     (λ c. search needs)
     (λ c.
     let a = c .before .before .before .before .before .before .before .before .before .before .before .before .args in
-    pad-moved (a .minus) (a .q) (boundBy (a .bound) (a .receiver) (a .key .now)) (a .out .now) (a .numbers .now) (c .before .before .before .before .before .before .before .pad-numbers .last .1 .1 .1 .0) (omega (arith, c .before .before .before .before .before .before .before .before .before .before .before .before .pre .1 .0 .short, c .before .before .before .before .before .before .before .before .before .before .before .before .pre .1 .1)) (c .before .before .before .before .before .before .before .pad-numbers .kept .1 .1 .1 .0) (c .before .before .before .before .before .before .before .pad-numbers .ensures) (c .before .before .move-numbers .ensures)))
+    pad-moved (a .minus) (a .q) (a .bound .round) (boundBy (a .bound) (a .receiver) (a .key .now)) (a .out .now) (a .numbers .now) (c .before .before .before .before .before .before .before .pad-numbers .last .1 .1 .1 .0) (omega (arith, c .before .before .before .before .before .before .before .before .before .before .before .before .pre .1 .0 .short, c .before .before .before .before .before .before .before .before .before .before .before .before .pre .1 .1)) (c .before .before .before .before .before .before .before .pad-numbers .kept .1 .1 .1 .0) (c .before .before .before .before .before .before .before .pad-numbers .ensures) (c .before .before .move-numbers .ensures)))

@@ -11,7 +11,7 @@ use Rattle.pads.proofs.entries.move_pad_row.Statement.{statement}
 use Rattle.pads.proofs.entries.move_pad_row.Tie as tie
 
 abbrev Inv-loop : tie.InvT-loop
-Inv-loop minus q f bound n k keys numbers₀ out₀ at₀ i₀ numbers out at i = (length numbers ≡ 128) × Done minus q (underOf bound) keys n k out₀ i at out
+Inv-loop minus q f bound n k keys numbers₀ out₀ at₀ i₀ numbers out at i = (length numbers ≡ 128) × Done (bound .round) minus q (underOf bound) keys n k out₀ i at out
 
 abbrev μ-loop : tie.MeasureT-loop
 μ-loop minus q f bound n k keys numbers₀ out₀ at₀ i₀ numbers out at i = n - i
@@ -24,12 +24,12 @@ move-pad-row-spec = tie.close (tie.spec Inv-loop μ-loop
     (λ c. omega arith)
     (λ c. omega (arith, steps-fits (c .before .before .loop .inv .1) (c .before .loop-test .taken)))
     (λ c. omega (arith, steps-fits (c .before .before .loop .inv .1) (c .before .loop-test .taken)))
-    (λ c κs. (c .before .before .before .before .before .before .before .pre .0, (receiver-asked _ _ _ _ _ _ _ (c .before .before .before .loop .inv .1) (c .before .before .loop-test .taken) refl (c .before .before .before .before .before .before .before .pre .1 .0), (c .before .before .before .loop .inv .0, c .before .before .before .before .before .before .before .pre .1 .1 .1 .senders ∙ ap (λ m. c .before .before .before .before .before .before .before .args .n * m) (sym (steps-long (c .before .before .before .loop .inv .1) (c .before .before .loop-test .taken) refl))))))
+    (λ c κs. (c .before .before .before .before .before .before .before .pre .0, (receiver-asked _ _ _ _ _ _ _ _ (c .before .before .before .loop .inv .1) (c .before .before .loop-test .taken) refl (c .before .before .before .before .before .before .before .pre .1 .0), (c .before .before .before .loop .inv .0, c .before .before .before .before .before .before .before .pre .1 .1 .1 .senders ∙ ap (λ m. c .before .before .before .before .before .before .before .args .n * m) (sym (steps-long (c .before .before .before .loop .inv .1) (c .before .before .loop-test .taken) refl))))))
     (λ c. omega arith)
     (λ c. omega arith)
-    (λ c. (c .before .before .before .before .move-pads .kept .1 .1 .1 .1 .1 .1 .1 .0 ∙ c .before .before .before .before .before .before .before .before .loop .inv .0, receivers-more _ _ _ _ _ _ _ (c .before .before .before .before .before .before .before .before .loop .inv .1) (c .before .before .before .before .before .before .before .loop-test .taken) refl (c .before .before .before .before .move-pads .kept .1 .1 .1 .1 .1 .1 .1 .1 .0) (c .before .before .before .before .move-pads .ensures)))
+    (λ c. (c .before .before .before .before .move-pads .kept .1 .1 .1 .1 .1 .1 .1 .0 ∙ c .before .before .before .before .before .before .before .before .loop .inv .0, receivers-more _ _ _ _ _ _ _ _ (c .before .before .before .before .before .before .before .before .loop .inv .1) (c .before .before .before .before .before .before .before .loop-test .taken) refl (c .before .before .before .before .move-pads .kept .1 .1 .1 .1 .1 .1 .1 .1 .0) (c .before .before .before .before .move-pads .ensures)))
     (λ c. c .before .loop .inv .0 ∙ sym (c .before .before .before .before .before .pre .1 .1 .0))
     (λ c. c .before .loop .inv .1 .kept)
     (λ c.
     let a = c .before .before .before .before .before .args in
-    receivers-all (a .minus) (a .q) (underOf (a .bound)) (a .keys .now) (a .n) (a .k) (a .out .now) (c .before .loop .inv .1) (c .loop-test .left) (c .before .before .before .before .before .pre .1 .1 .1 .receivers)))
+    receivers-all (a .bound .round) (a .minus) (a .q) (underOf (a .bound)) (a .keys .now) (a .n) (a .k) (a .out .now) (c .before .loop .inv .1) (c .loop-test .left) (c .before .before .before .before .before .pre .1 .1 .1 .receivers)))

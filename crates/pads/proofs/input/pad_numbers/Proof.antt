@@ -23,5 +23,5 @@ pad-numbers-spec = tie.close (tie.spec
     let a = start .args in
     let small : a .bound .modulus < 256 = omega (arith, start .good) in
     let short : a .bound .component < 256 = omega (arith, start .good) in
-    let bytes = input-bytes (underOf (a .bound)) (a .receiver) (a .key .now) small short (start .fits .receiver .fits) (λ i. c .before .before .before .before .before .before .before .shared-slice-known .given i .fits) in
-    c .before .before .squeeze-numbers .ensures ∙ ap numbers (is-shake256 (c .before .before .before .before .before .pad-sponge .result) (padInput (boundBy (a .bound) (a .receiver) (a .key .now))) (c .before .before .before .before .finished .result) _ bytes (c .before .before .before .before .before .pad-sponge .ensures) (c .before .before .before .before .finished .ensures))))
+    let bytes = input-bytes (a .bound .round) (underOf (a .bound)) (a .receiver) (a .key .now) small short (start .fits .receiver .fits) (λ i. c .before .before .before .before .before .before .before .shared-slice-known .given i .fits) in
+    c .before .before .squeeze-numbers .ensures ∙ ap numbers (is-shake256 (c .before .before .before .before .before .pad-sponge .result) (padInput (a .bound .round) (boundBy (a .bound) (a .receiver) (a .key .now))) (c .before .before .before .before .finished .result) _ bytes (c .before .before .before .before .before .pad-sponge .ensures) (c .before .before .before .before .finished .ensures))))

@@ -1,4 +1,4 @@
--- `pads::input::pad_sponge` meets its contract: the six fields are the pad input.
+-- `pads::input::pad_sponge` meets its contract: the seven fields are the pad input.
 -- Assumes nothing.
 use borrow.Author.Needs.{needs}
 use Rattle.pads.proofs.Taken.{takes-input}
@@ -11,6 +11,8 @@ pub pad-sponge-spec : {M : Type 1} → statement M
 unfolding rowpad
 pad-sponge-spec = tie.close (tie.spec
     (λ c κs. search needs)
+    (λ c κs. search needs)
+    (λ c. search needs)
     (λ c. search needs)
     (λ c. search needs)
     (λ c. search needs)
@@ -18,5 +20,7 @@ pad-sponge-spec = tie.close (tie.spec
     (λ c. search needs)
     (λ c κs. search needs)
     (λ c.
-    let a = c .before .before .before .before .before .before .before .before .args in
-    takes-input (underOf (a .bound)) (a .receiver) (a .key .now) (c .before .before .before .before .before .before .wire-bytes .result) (c .before .before .before .before .before .before .wire-bytes .ensures) (c .six-fields .ensures)))
+    let a = c .before .before .before .before .before .before .before .before .before .before .args in
+    let round = c .before .before .before .before .before .before .before .before .number-bytes in
+    let wire = c .before .before .before .before .before .before .before .number-bytes2 in
+    takes-input (a .bound .round) (underOf (a .bound)) (a .receiver) (a .key .now) (round .result) (wire .result) (round .ensures) (wire .ensures) (c .seven-fields .ensures)))

@@ -7,11 +7,11 @@ use Rattle.rehearsal.proofs.parties.open_all.Statement.{statement}
 use Rattle.rehearsal.proofs.parties.open_all.Tie as tie
 
 abbrev Inv-loop : tie.InvT-loop
-Inv-loop file contributions externals keys rows wkeys₀ wexternals₀ n k size wide long from₀ at₀ place₀ party₀ wkeys wexternals from at place party =
-    OpenTo file n k contributions size externals keys rows wide wkeys₀ long wexternals₀ party from at place wkeys wexternals
+Inv-loop file contributions externals keys rows wkeys₀ wexternals₀ n k round size wide long from₀ at₀ place₀ party₀ wkeys wexternals from at place party =
+    OpenTo file n k round contributions size externals keys rows wide wkeys₀ long wexternals₀ party from at place wkeys wexternals
 
 abbrev μ-loop : tie.MeasureT-loop
-μ-loop file contributions externals keys rows wkeys₀ wexternals₀ n k size wide long from₀ at₀ place₀ party₀ wkeys wexternals from at place party = n - party
+μ-loop file contributions externals keys rows wkeys₀ wexternals₀ n k round size wide long from₀ at₀ place₀ party₀ wkeys wexternals from at place party = n - party
 
 pub open-all-spec : {M : Type 1} → statement M
 open-all-spec =
@@ -33,7 +33,7 @@ open-all-spec =
     (λ c κs. tt)
     (λ c. omega (arith, c .before .before .before .before .before .before .before .before .loop-test .taken, c .before .before .before .before .before .before .before .before .before .before .before .before .before .before .before .before .before .pre .1 .1 .1))
     (λ c. omega arith)
-    (λ c. open-next (c .before .before .before .before .before .before .before .before .before .loop .inv) (c .before .before .before .before .before .before .before .before .loop-test .taken) (c .before .before .before .before .before .before .before .piece .ensures .0) (c .before .before .before .before .lupiknam-open .kept .1 .1 .1 .1 .1 .1 .1 .1 .0) (c .before .before .before .before .lupiknam-open .kept .1 .1 .1 .1 .1 .1 .1 .1 .1 .0) (c .before .before .before .before .lupiknam-open .ensures))
+    (λ c. open-next (c .before .before .before .before .before .before .before .before .before .loop .inv) (c .before .before .before .before .before .before .before .before .loop-test .taken) (c .before .before .before .before .before .before .before .piece .ensures .0) (c .before .before .before .before .lupiknam-open .kept .1 .1 .1 .1 .1 .1 .1 .1 .1 .0) (c .before .before .before .before .lupiknam-open .kept .1 .1 .1 .1 .1 .1 .1 .1 .1 .1 .0) (c .before .before .before .before .lupiknam-open .ensures))
     (λ c. c .before .loop .inv .keysLevel .kept)
     (λ c. c .before .loop .inv .extsLevel .kept)
     (λ c. open-all (c .before .loop .inv) (c .loop-test .left)))
