@@ -10,20 +10,25 @@ use Rattle.lists.specs.Blocks.{nthPiece}
 use Rattle.words.specs.declared.gate.Pair.{Pair}
 use Rattle.words.specs.declared.gate.Scaling.{Scaling}
 use Rattle.words.specs.declared.gate.Choice.{Choice as Chosen}
+use Rattle.circuit.specs.declared.Circuit.{Circuit}
+use Rattle.circuit.specs.Held.{wiresIn}
 use Rattle.counts.specs.declared.recipe.Lookup.{Lookup}
 use Rattle.counts.specs.declared.recipe.Recipe.{Recipe}
 use Rattle.counts.specs.declared.recipe.Recipe.the-variants.{Entered, Sum, Multiple, Table, Product, Choice}
 use Rattle.counts.specs.Counts.{recordKeysBy, rowsBy}
 use Rattle.counts.specs.Images.{ImagesFit}
+use Rattle.session.specs.declared.seats.Session.{Session}
 use Rattle.session.specs.Sizes.{Sizes}
 use Rattle.pads.specs.Pad.{shakePad}
 use Rattle.scheme.specs.Keyed.{Keyed, less}
 use Rattle.scheme.specs.Gate.{Source, rowsFrom}
+use Rattle.scheme.specs.Rows.{garbledRows}
 use Rattle.rows.specs.declared.gates.Made.{Made}
 use Rattle.rows.specs.declared.keyed.Keyed.{Keyed as Held}
 use Rattle.rows.specs.Made.{keyedOf, tableMade, productMade, choiceMade}
 use Rattle.rows.specs.Made.{Operand as Paired}
 use Rattle.zero.specs.Turn.{keysAt, maskAt}
+use Rattle.zero.specs.Ready.{drawnIn}
 use Rattle.garbling.specs.declared.turn.Turn.{Turn}
 
 abbrev pub madeOf : Turn → Made
@@ -78,6 +83,11 @@ module _ (turn : Turn) (contributions ranks keys masks : List ℕ) where
       choiceMade (madeOf turn) (offsetHere turn contributions ranks (turn .modulus)) (offsetHere turn contributions ranks 2) (wireHere turn keys masks (g .bit))
       (less (turn .modulus) (wireHere turn keys masks (g .b)) (wireHere turn keys masks (g .a)))
       (drawnHere turn contributions 0) (drawnHere turn contributions 1) (drawnHere turn contributions 2)
+
+-- the rows of all gates, of a circuit of the code: the scheme's, in the session's round
+abbrev pub rowsMade : Session → Circuit → List ℕ → List ℕ → List ℕ
+rowsMade session circuit file contributions =
+    garbledRows (shakePad (session .round)) (session .n) (session .k) file (wiresIn circuit) (drawnIn circuit (session .n) (session .k) contributions)
 
 -- ---- how the code hands it on
 

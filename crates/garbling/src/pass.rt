@@ -6,9 +6,9 @@ ghost use Rattle.circuit.specs.Wires.{inputsIn};
 ghost use Rattle.circuit.specs.Held.{wiresIn, outputsIn};
 ghost use Rattle.counts.specs.Recipe.{recipe};
 ghost use Rattle.counts.specs.Counts.{rowsBy, rowsIn};
-ghost use Rattle.pads.specs.Pad.{shakePad};
-ghost use Rattle.scheme.specs.Rows.{garbledRows, inputMasks, outputMasks};
+ghost use Rattle.scheme.specs.Rows.{inputMasks, outputMasks};
 ghost use Rattle.zero.specs.Ready.{Contributed, ZeroKeys, Masks, drawnIn};
+ghost use Rattle.garbling.specs.Source.{rowsMade};
 use super::gate::gate_rows;
 use super::handed::put_input_masks;
 use super::handed::put_output_masks;
@@ -48,7 +48,7 @@ pub fn put_rows(
     requires { ⌜ Contributed (now file) circuit (session .n) (session .k) size (now contributions) ⌝ }
     requires { ⌜ ZeroKeys circuit (session .n) (session .k) (now contributions) (now keys) × Masks circuit (session .n) (session .k) (now contributions) (now masks) ⌝ }
     requires { ⌜ length (now rows) ≡ rowsIn (wiresIn circuit) * (session .n * session .k) ⌝ }
-    ensures { λ _. ⌜ now (rows .exit) ≡ garbledRows (shakePad (session .round)) (session .n) (session .k) (now (file .entry)) (wiresIn circuit) (drawnIn circuit (session .n) (session .k) (now (contributions .entry))) ⌝ }
+    ensures { λ _. ⌜ now (rows .exit) ≡ rowsMade session circuit (now (file .entry)) (now (contributions .entry)) ⌝ }
 {
     let moduli = counts::moduli(circuit);
     let ranks = contribution::ranks(circuit);
@@ -103,7 +103,7 @@ fn garble_from(
     requires { ⌜ ZeroKeys circuit (session .n) (session .k) (now contributions) (now keys) ⌝ }
     requires { ⌜ (length (now rows) ≡ rowsIn (wiresIn circuit) * (session .n * session .k))
         × ((length (now inputs) ≡ inputsIn (wiresIn circuit)) × (length (now outputs) ≡ length (outputsIn circuit))) ⌝ }
-    ensures { λ _. ⌜ (now (rows .exit) ≡ garbledRows (shakePad (session .round)) (session .n) (session .k) (now (file .entry)) (wiresIn circuit) (drawnIn circuit (session .n) (session .k) (now (contributions .entry))))
+    ensures { λ _. ⌜ (now (rows .exit) ≡ rowsMade session circuit (now (file .entry)) (now (contributions .entry)))
         × ((now (inputs .exit) ≡ inputMasks (wiresIn circuit) (drawnIn circuit (session .n) (session .k) (now (contributions .entry))))
         × (now (outputs .exit) ≡ outputMasks (wiresIn circuit) (outputsIn circuit) (drawnIn circuit (session .n) (session .k) (now (contributions .entry))))) ⌝ }
 {
@@ -138,7 +138,7 @@ fn garble_in(
     requires { ⌜ 1048576 ≤ length (now work) ⌝ }
     requires { ⌜ (length (now rows) ≡ rowsIn (wiresIn circuit) * (session .n * session .k))
         × ((length (now inputs) ≡ inputsIn (wiresIn circuit)) × (length (now outputs) ≡ length (outputsIn circuit))) ⌝ }
-    ensures { λ _. ⌜ (now (rows .exit) ≡ garbledRows (shakePad (session .round)) (session .n) (session .k) (now (file .entry)) (wiresIn circuit) (drawnIn circuit (session .n) (session .k) (now (contributions .entry))))
+    ensures { λ _. ⌜ (now (rows .exit) ≡ rowsMade session circuit (now (file .entry)) (now (contributions .entry)))
         × ((now (inputs .exit) ≡ inputMasks (wiresIn circuit) (drawnIn circuit (session .n) (session .k) (now (contributions .entry))))
         × (now (outputs .exit) ≡ outputMasks (wiresIn circuit) (outputsIn circuit) (drawnIn circuit (session .n) (session .k) (now (contributions .entry))))) ⌝ }
 {
@@ -184,7 +184,7 @@ pub fn garble(
     requires { ⌜ Contributed (now file) circuit (session .n) (session .k) size (now contributions) ⌝ }
     requires { ⌜ (length (now rows) ≡ rowsIn (wiresIn circuit) * (session .n * session .k))
         × ((length (now inputs) ≡ inputsIn (wiresIn circuit)) × (length (now outputs) ≡ length (outputsIn circuit))) ⌝ }
-    ensures { λ _. ⌜ (now (rows .exit) ≡ garbledRows (shakePad (session .round)) (session .n) (session .k) (now (file .entry)) (wiresIn circuit) (drawnIn circuit (session .n) (session .k) (now (contributions .entry))))
+    ensures { λ _. ⌜ (now (rows .exit) ≡ rowsMade session circuit (now (file .entry)) (now (contributions .entry)))
         × ((now (inputs .exit) ≡ inputMasks (wiresIn circuit) (drawnIn circuit (session .n) (session .k) (now (contributions .entry))))
         × (now (outputs .exit) ≡ outputMasks (wiresIn circuit) (outputsIn circuit) (drawnIn circuit (session .n) (session .k) (now (contributions .entry))))) ⌝ }
 {

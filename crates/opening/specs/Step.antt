@@ -13,7 +13,7 @@ use Rattle.words.specs.declared.gate.Choice.{Choice as Chosen}
 use Rattle.counts.specs.declared.recipe.Recipe.{Recipe}
 use Rattle.counts.specs.declared.recipe.Recipe.the-variants.{Entered, Sum, Multiple, Table, Product, Choice}
 use Rattle.pads.specs.Pad.{shakePad}
-use Rattle.scheme.specs.Opening.{Opened, bared, choiceKeys, differing, searched, openFrom, openInput}
+use Rattle.scheme.specs.Opening.{Opened, bared, tableKeys, productKeys, choiceKeys, differing, searched, openFrom, openInput}
 use Rattle.opening.specs.declared.turn.Turn.{Turn}
 
 -- what a turn gives: an external value below the modulus exactly if a multiplier fits, and then the wire's keys and that value
@@ -50,6 +50,16 @@ abbrev pub baredAt : Turn → List ℕ → ℕ → ℕ → List ℕ → ℕ → 
 baredAt turn rows q component senders r =
     bared (shakePad (turn .round)) (turn .n) (turn .k) (turn .wire) (turn .modulus) rows q component senders r
 
+-- the keys that the wire's own rows give, by the kind of its recipe
+abbrev pub tableAt : Turn → List ℕ → ℕ → Opened → List ℕ
+tableAt turn rows q a = tableKeys (shakePad (turn .round)) (turn .n) (turn .k) (turn .wire) (turn .modulus) rows q a
+
+abbrev pub productAt : Turn → List ℕ → Opened → Opened → List ℕ
+productAt turn rows a b = productKeys (shakePad (turn .round)) (turn .n) (turn .k) (turn .wire) (turn .modulus) rows a b
+
+abbrev pub choiceAt : Turn → List ℕ → Opened → Opened → List ℕ
+choiceAt turn rows bit d = choiceKeys (shakePad (turn .round)) (turn .n) (turn .k) (turn .wire) (turn .modulus) rows bit d
+
 -- the wire by its recipe; `given` where it is an input
 unfoldable pub openBy : Turn → Opened → List ℕ → List ℕ → List ℕ → List ℕ → Recipe → Opened
 openBy turn given contribution rows wkeys wexternals how =
@@ -65,5 +75,5 @@ openAt turn contribution externals keys rows wkeys wexternals how =
 unfoldable pub heldBack : Turn → List ℕ → List ℕ → List ℕ → List ℕ → Chosen → Opened
 heldBack turn contribution rows wkeys wexternals g =
     searched (turn .modulus) (multiplierAt turn contribution)
-    (choiceKeys (shakePad (turn .round)) (turn .n) (turn .k) (turn .wire) (turn .modulus) rows (lower (turn .n * turn .k) wkeys wexternals (g .bit))
+    (choiceAt turn rows (lower (turn .n * turn .k) wkeys wexternals (g .bit))
     (differing (turn .modulus) (lower (turn .n * turn .k) wkeys wexternals (g .b)) (lower (turn .n * turn .k) wkeys wexternals (g .a))))

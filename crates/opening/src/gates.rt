@@ -4,10 +4,9 @@ ghost use Prim.Native.Nat.{_+_, _*_, _≤_, _<_};
 ghost use lib.ListN.{length};
 ghost use Rattle.lists.specs.Blocks.{nthPiece};
 ghost use Rattle.session.specs.Sizes.{Vector};
-ghost use Rattle.pads.specs.Pad.{shakePad};
-ghost use Rattle.scheme.specs.Opening.{tableKeys, productKeys, chosen, corrector, choiceKeys};
+ghost use Rattle.scheme.specs.Opening.{chosen, corrector};
 ghost use Rattle.opening.specs.Given.{Rows};
-ghost use Rattle.opening.specs.Step.{held, baredAt};
+ghost use Rattle.opening.specs.Step.{held, baredAt, tableAt, productAt, choiceAt};
 ghost use Rattle.opening.specs.Ready.{Seated};
 use super::row::add_bare;
 use super::row::bare;
@@ -23,7 +22,7 @@ use search::chosen_corrector;
 pub fn open_table(turn: Turn, a: &[u8], ea: u8, rows: &[u8], out: &mut [u8])
     requires { ⌜ Seated turn × (Rows (turn .n) (turn .k) (turn .modulus) (now rows) (turn .over) × (ea < turn .over)) ⌝ }
     requires { ⌜ Vector (turn .n) (turn .k) (now a) × Vector (turn .n) (turn .k) (now out) ⌝ }
-    ensures { λ _. ⌜ now (out .exit) ≡ tableKeys (shakePad (turn .round)) (turn .n) (turn .k) (turn .wire) (turn .modulus) (now (rows .entry)) (turn .over) (held (now (a .entry)) ea) ⌝ }
+    ensures { λ _. ⌜ now (out .exit) ≡ tableAt turn (now (rows .entry)) (turn .over) (held (now (a .entry)) ea) ⌝ }
 {
     let n = turn.n;
     let k = turn.k;
@@ -41,7 +40,7 @@ pub fn open_table(turn: Turn, a: &[u8], ea: u8, rows: &[u8], out: &mut [u8])
 pub fn open_product(turn: Turn, a: &[u8], ea: u8, b: &[u8], eb: u8, rows: &[u8], out: &mut [u8])
     requires { ⌜ Seated turn × (Rows (turn .n) (turn .k) (turn .modulus) (now rows) (2 * turn .modulus) × ((ea < turn .modulus) × (eb < turn .modulus))) ⌝ }
     requires { ⌜ Vector (turn .n) (turn .k) (now a) × (Vector (turn .n) (turn .k) (now b) × Vector (turn .n) (turn .k) (now out)) ⌝ }
-    ensures { λ _. ⌜ now (out .exit) ≡ productKeys (shakePad (turn .round)) (turn .n) (turn .k) (turn .wire) (turn .modulus) (now (rows .entry)) (held (now (a .entry)) ea) (held (now (b .entry)) eb) ⌝ }
+    ensures { λ _. ⌜ now (out .exit) ≡ productAt turn (now (rows .entry)) (held (now (a .entry)) ea) (held (now (b .entry)) eb) ⌝ }
 {
     let n = turn.n;
     let k = turn.k;
@@ -105,7 +104,7 @@ fn corrector_row(rows: &[u8], m: usize, p: u8, bit: u8, alpha: u8) -> &[u8]
 pub fn open_choice(turn: Turn, v: &[u8], bit: u8, d: &[u8], alpha: u8, rows: &[u8], out: &mut [u8])
     requires { ⌜ Seated turn × (Rows (turn .n) (turn .k) (turn .modulus) (now rows) (2 * turn .modulus + 2) × ((bit < 2) × (alpha < turn .modulus))) ⌝ }
     requires { ⌜ Vector (turn .n) (turn .k) (now v) × (Vector (turn .n) (turn .k) (now d) × Vector (turn .n) (turn .k) (now out)) ⌝ }
-    ensures { λ _. ⌜ now (out .exit) ≡ choiceKeys (shakePad (turn .round)) (turn .n) (turn .k) (turn .wire) (turn .modulus) (now (rows .entry)) (held (now (v .entry)) bit) (held (now (d .entry)) alpha) ⌝ }
+    ensures { λ _. ⌜ now (out .exit) ≡ choiceAt turn (now (rows .entry)) (held (now (v .entry)) bit) (held (now (d .entry)) alpha) ⌝ }
 {
     let n = turn.n;
     let k = turn.k;

@@ -11,14 +11,13 @@ use super::parties::open_all;
 use engine::lupiknam_garble;
 use engine::lupiknam_plain;
 use party_calls::counted;
+use session::AskedSession;
 
 // Under demand 3's conditions every call accepts, each party opens value plus mask on every wire, and decodes the plain circuit's outputs. Gives back what
 // the row meter then holds.
 pub fn rehearse(
     file: &[u8],
-    n: u32,
-    k: u32,
-    round: u32,
+    asked: AskedSession,
     contributions: &[u8],
     values: &[u8],
     rows: &mut [u8],
@@ -33,16 +32,19 @@ pub fn rehearse(
     evaluated: &mut [u8],
     meter: u32,
 ) -> u32
-    requires { ⌜ Conditions (now file) n k (now contributions) (now values) meter
-        (lentOf (now file) n k (now rows) (now inputs) (now outputs) (now mine) (now wkeys) (now wexternals) (now results) (now evaluated))
-        × Whole (now file) n k (now externals) (now mine) (now keys) (now wkeys) (now wexternals) (now results) ⌝ }
-    ensures { λ r. ⌜ Rehearsed (now (file .entry)) n k round (now (contributions .entry)) (now (values .entry)) meter
-        (lentOf (now (file .entry)) n k (now (rows .entry)) (now (inputs .entry)) (now (outputs .entry)) (now (mine .entry))
+    requires { ⌜ Conditions (now file) (asked .n) (asked .k) (now contributions) (now values) meter
+        (lentOf (now file) (asked .n) (asked .k) (now rows) (now inputs) (now outputs) (now mine) (now wkeys) (now wexternals) (now results) (now evaluated))
+        × Whole (now file) (asked .n) (asked .k) (now externals) (now mine) (now keys) (now wkeys) (now wexternals) (now results) ⌝ }
+    ensures { λ r. ⌜ Rehearsed (now (file .entry)) (asked .n) (asked .k) (asked .round) (now (contributions .entry)) (now (values .entry)) meter
+        (lentOf (now (file .entry)) (asked .n) (asked .k) (now (rows .entry)) (now (inputs .entry)) (now (outputs .entry)) (now (mine .entry))
         (now (wkeys .entry)) (now (wexternals .entry)) (now (results .entry)) (now (evaluated .entry)))
-        (resultsOf (now (file .entry)) n k (now (values .entry)) (now (rows .exit)) (now (inputs .exit)) (now (outputs .exit)) r (now (mine .exit))
+        (resultsOf (now (file .entry)) (asked .n) (asked .k) (now (values .entry)) (now (rows .exit)) (now (inputs .exit)) (now (outputs .exit)) r (now (mine .exit))
         (now (wkeys .exit)) (now (wexternals .exit)) (now (results .exit)) (now (evaluated .exit)))
         (now (externals .exit)) (now (keys .exit)) ⌝ }
 {
+    let n = asked.n;
+    let k = asked.k;
+    let round = asked.round;
     let sizes = sizes_of(file, n, k);
     let own = sizes.own;
     let made = sizes.made;
