@@ -95,9 +95,9 @@ static void read_file(const char *path) {
     must(lupiknam_read(r.file, r.file_length, &r.wires, &r.inputs, &r.outputs, &r.rows, &r.moduli, &r.records), "read");
     r.opened_rows = 0;
     for (size_t at = 0; 4 * at < r.file_length; at++) {
-        uint32_t kind = word(at) >> 28;
-        // one row of a projection, two of a product and of a select
-        r.opened_rows += kind == 6 ? 1 : kind == 5 || kind == 8 ? 2 : 0;
+        uint32_t kind = word(at) >> 28, square = (word(at) >> 10 & 1023) == (word(at) & 1023);
+        // one row of a projection and of a square, two of any other product and of a select
+        r.opened_rows += kind == 6 || (kind == 5 && square) ? 1 : kind == 5 || kind == 8 ? 2 : 0;
     }
 }
 

@@ -219,7 +219,10 @@ static void list_word(uint32_t w) {
         list_wire(low, 0, 0, 0);
         break;
     case 5:
-        list_wire(low, 2, 2u * low, 2);
+        if ((w >> 10 & 1023) == (w & 1023)) /* a square is a projection */
+            list_wire(low, 1, low, 1);
+        else
+            list_wire(low, 2, 2u * low, 2);
         break;
     case 6:
         list_wire((uint8_t)(w >> 10), 1, low, 1);

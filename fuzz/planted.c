@@ -6,7 +6,7 @@
 #include <stdlib.h>
 #include <string.h>
 
-enum { FAULTS = 24 }; /* fuzz/run reads this line */
+enum { FAULTS = 25 }; /* fuzz/run reads this line */
 
 #define FILE_PARAMETERS const uint8_t *file, size_t length
 #define READ_ONLY(name) const uint8_t *name, size_t name##_length
@@ -31,6 +31,15 @@ static int planted(int number) {
     return given && atoi(given) == number;
 }
 
+static uint32_t squares(FILE_PARAMETERS) {
+    uint32_t found = 0;
+    for (size_t i = 0; i + 4 <= length; i += 4) {
+        const uint32_t low = file[i] | (uint32_t)(file[i + 1] & 3) << 8, high = file[i + 1] >> 2 | (uint32_t)(file[i + 2] & 15) << 6;
+        found += file[i + 3] == 0x50 && low == high;
+    }
+    return found;
+}
+
 lupiknam_answer lupiknam_read(FILE_PARAMETERS, uint32_t *wires, uint32_t *inputs, uint32_t *outputs, uint32_t *rows, uint32_t *moduli,
     uint32_t *records) {
     if (planted(1) && length > 0 && length % 4 == 0 && file[length] == 1) // looks at the byte after the file
@@ -41,7 +50,10 @@ lupiknam_answer lupiknam_read(FILE_PARAMETERS, uint32_t *wires, uint32_t *inputs
         *records = 0;
     if (planted(3) && a.number == 0 && c[4] == 4) // a good file refused
         return (lupiknam_answer){4, 1};
-    return engine_read(file, length, wires, inputs, outputs, rows, moduli, records);
+    a = engine_read(file, length, wires, inputs, outputs, rows, moduli, records);
+    if (planted(25) && a.number == 0) // a square with the record of a product
+        *records += squares(file, length);
+    return a;
 }
 
 lupiknam_answer lupiknam_inputs_of(FILE_PARAMETERS, uint32_t n, uint32_t party, uint32_t *count) {

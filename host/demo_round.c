@@ -282,6 +282,11 @@ static const struct wire *named(const struct circuit *c, uint32_t word) {
     return &c->wire[word & 0x3FF];
 }
 
+// is it a multiply of a wire by itself? It has the rows and the record of a projection
+static bool is_square(uint32_t word) {
+    return word >> 28 == MULTIPLY && (word >> 10 & 0x3FF) == (word & 0x3FF);
+}
+
 // the wire that a word of an accepted file starts; a select's moduli stand in the word after it
 static struct wire wire_of(const struct circuit *c, uint32_t word, uint32_t next) {
     uint32_t kind = word >> 28, p = named(c, kind == SELECT ? next : word)->modulus;
@@ -291,6 +296,8 @@ static struct wire wire_of(const struct circuit *c, uint32_t word, uint32_t next
     case PROJECT:
         return (struct wire){kind, 0, word >> 10 & 0xFF, p, 1};
     case MULTIPLY:
+        if (is_square(word))
+            return (struct wire){kind, 0, p, p, 1};
         return (struct wire){kind, 0, p, 2 * p, 2};
     case SELECT:
         return (struct wire){kind, 0, p, 2 * p + 2, 3};

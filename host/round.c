@@ -23,21 +23,22 @@ static const uint32_t circuit[] = {
     0x30000001, /* wire 3: wire 0 + wire 1                                          */
     0x40000C03, /* wire 4: 3 times wire 3                                           */
     0x50001001, /* wire 5: wire 4 times wire 1                                      */
-    0x60001C05, /* wire 6: wire 5 by a table, modulus 7; the images of 0 to 4 follow */
+    0x50001405, /* wire 6: wire 5 times itself                                      */
+    0x60001C06, /* wire 7: wire 6 by a table, modulus 7; the images of 0 to 4 follow */
     0x70000001, 0x70000002, 0x70000003, 0x70000004, 0x70000005,
-    0x80000002, /* wire 7: by the bit on wire 2, one of the two wires that follow   */
+    0x80000002, /* wire 8: by the bit on wire 2, one of the two wires that follow   */
     0x90001403, /*         wire 5 where it is 0, wire 3 where it is 1               */
-    0xA0000006, /* output: wire 6                                                   */
     0xA0000007, /* output: wire 7                                                   */
+    0xA0000008, /* output: wire 8                                                   */
     0xB0000000, /* end                                                              */
 };
 
-enum { WORDS = sizeof circuit / sizeof circuit[0], INPUTS = 3, OUTPUTS = 2, ROWS = 27, ROUNDS = 3 };
+enum { WORDS = sizeof circuit / sizeof circuit[0], INPUTS = 3, OUTPUTS = 2, ROWS = 32, ROUNDS = 3 };
 
-/* Values of the inputs, and the outputs, worked out by hand: for 3, 4 and 1 wire 3 is 2, wire 4 is 1, wire 5 is 4, wire 6 is 5, and wire 7
-   is wire 3. The rows are 10 of the product, 5 of the table and 2 * 5 + 2 of the choice. */
-static const uint8_t values[ROUNDS][INPUTS] = {{3, 4, 1}, {3, 4, 0}, {4, 4, 1}};
-static const uint8_t figures[ROUNDS][OUTPUTS] = {{5, 2}, {5, 4}, {2, 3}};
+/* Values of the inputs, and the outputs, worked out by hand: for 3, 4 and 1 wire 3 is 2, wire 4 is 1, wire 5 is 4, wire 6 is 1, wire 7 is 2,
+   and wire 8 is wire 3. The rows are 10 of the product, 5 of the square, 5 of the table and 2 * 5 + 2 of the choice. */
+static const uint8_t values[ROUNDS][INPUTS] = {{3, 4, 1}, {3, 4, 0}, {4, 3, 1}};
+static const uint8_t figures[ROUNDS][OUTPUTS] = {{2, 2}, {2, 4}, {5, 2}};
 
 /* ---- what may go wrong */
 
@@ -118,8 +119,8 @@ static void list_wires(const uint8_t *file, size_t words, struct wire *wires)
         case 4: /* scale */
             *next = (struct wire){wires[word & 1023].modulus, 0, 0};
             break;
-        case 5: /* multiply */
-            *next = (struct wire){wires[word & 1023].modulus, 0, 2};
+        case 5: /* multiply: of a wire by itself, a square, it has a projection's record */
+            *next = (struct wire){wires[word & 1023].modulus, 0, (word >> 10 & 1023) == (word & 1023) ? 1 : 2};
             break;
         case 6: /* project */
             *next = (struct wire){word >> 10 & 255, 0, 1};

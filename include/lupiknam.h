@@ -22,7 +22,7 @@
  * record for each wire in the order of the wires, by the kind of the wire:
  *
  *   input, project   zero key; mask share
- *   multiply         zero key, first-part key; mask share, first-part share
+ *   multiply         zero key, first-part key; mask share, first-part share; but of a wire by itself, a square, as a project
  *   select           zero key, two first-part keys; mask share, two first-part shares (of the product of bit and difference)
  *   add, scale       nothing
  *

@@ -23,13 +23,29 @@ pub enum Gate<'f> {
     Select { bit: u16, a: u16, b: u16 },
 }
 
-/// A projection's images, left where they lie in the file.
+/// A projection's images.
 #[derive(Clone, Copy, Debug)]
-pub struct Table<'f>(&'f [Bytes]);
+pub enum Table<'f> {
+    /// Left where they lie in the file.
+    InFile(&'f [Bytes]),
+    /// The squares modulo this prime, which no file lists.
+    Squares(u8),
+}
 
 impl Table<'_> {
     pub fn image(&self, value: u8) -> u8 {
-        self.0[usize::from(value)][0]
+        match self {
+            Table::InFile(entries) => entries[usize::from(value)][0],
+            Table::Squares(p) => (u16::from(value).pow(2) % u16::from(*p)) as u8,
+        }
+    }
+
+    /// How many images there are: the modulus of the projected wire.
+    fn length(&self) -> u32 {
+        match self {
+            Table::InFile(entries) => entries.len() as u32,
+            Table::Squares(p) => u32::from(*p),
+        }
     }
 }
 
@@ -39,7 +55,26 @@ pub struct Wire<'f> {
     pub modulus: u8,
 }
 
-impl Wire<'_> {
+impl<'f> Wire<'f> {
+    /// Whether this wire is the product of a wire with itself: the same wire number, not just the
+    /// same value.
+    pub fn is_square(&self) -> bool {
+        matches!(self.gate, Gate::Multiply { a, b } if a == b)
+    }
+
+    /// The gate that this wire is garbled and opened as: its own, but for a square, which is
+    /// garbled as a projection. All that has to do with rows or records asks for this gate; the
+    /// plain value, the kind and the file's words are those of the wire's own.
+    pub fn garbled(&self) -> Gate<'f> {
+        match self.gate {
+            Gate::Multiply { a, .. } if self.is_square() => Gate::Project {
+                a,
+                table: Table::Squares(self.modulus),
+            },
+            own => own,
+        }
+    }
+
     /// The number of the word kind that starts this wire.
     pub fn kind(&self) -> u32 {
         match self.gate {
@@ -55,18 +90,18 @@ impl Wire<'_> {
     /// The rows that garbling writes for this wire.
     pub fn rows(&self) -> u32 {
         let p = u32::from(self.modulus);
-        match self.gate {
+        match self.garbled() {
             Gate::Input { .. } | Gate::Add { .. } | Gate::Scale { .. } => 0,
             Gate::Multiply { .. } => 2 * p,
-            // One row for each value of the projected wire, whose modulus is the table's length.
-            Gate::Project { table, .. } => table.0.len() as u32,
+            // One row for each value of the projected wire.
+            Gate::Project { table, .. } => table.length(),
             Gate::Select { .. } => 2 * p + 2,
         }
     }
 
     /// How many pairs of a key and a mask share a party's record for this wire has.
     pub fn records(&self) -> u32 {
-        match self.gate {
+        match self.garbled() {
             Gate::Input { .. } | Gate::Project { .. } => 1,
             Gate::Multiply { .. } => 2,
             Gate::Select { .. } => 3,
@@ -352,7 +387,7 @@ impl<'f> Reader<'f> {
             self.at += 1;
             return Err(self.refuse(10));
         }
-        Ok(Table(entries))
+        Ok(Table::InFile(entries))
     }
 
     fn select(&mut self, word: u32) -> Result<Wire<'f>, Refusal> {
@@ -432,8 +467,9 @@ mod tests {
 
     #[test]
     fn rows_of_the_examples() {
-        let square = [HEAD, input(0, 251), multiply(0, 0), output(1), END];
-        assert_eq!(rows(&square), 502);
+        let [one, other] = [input(0, 251), input(1, 251)];
+        let product = [HEAD, one, other, multiply(0, 1), output(2), END];
+        assert_eq!(rows(&product), 502);
         let select = [HEAD, input(0, 2), select(0), branches(0, 0), output(1), END];
         assert_eq!(rows(&select), 6);
         let project = [
@@ -446,6 +482,28 @@ mod tests {
             END,
         ];
         assert_eq!(rows(&project), 2);
+    }
+
+    /// A wire times itself has as many rows as a projection of it, half as many as other products.
+    #[test]
+    fn rows_of_squares() {
+        for (p, due) in [(2, 2), (3, 3), (251, 251)] {
+            let square = [HEAD, input(0, p), multiply(0, 0), output(1), END];
+            assert_eq!(rows(&square), due);
+        }
+        // A wire of the same value is not the same wire: 2·251.
+        let copied = [scale(1, 0), multiply(0, 1), output(2), END];
+        let copied = [&[HEAD, input(0, 251)], &copied[..]].concat();
+        assert_eq!(rows(&copied), 502);
+        // A product, the square of a sum, and the square of that square: 10 + 5 + 5.
+        let gates = [multiply(0, 1), add(0, 1), multiply(3, 3), multiply(4, 4)];
+        let mixed = [
+            &[HEAD, input(0, 5), input(1, 5)],
+            &gates[..],
+            &[output(5), END],
+        ]
+        .concat();
+        assert_eq!(rows(&mixed), 20);
     }
 
     #[test]

@@ -90,7 +90,7 @@ fn along_wires(circuit: &Circuit, own: impl Fn(usize) -> Option<Vec<u8>>) -> Vec
         let at = |wire: u16| &found[usize::from(wire)][..];
         let due = || own(number).expect("this kind of wire has a record");
         let p = wire.modulus;
-        found.push(match wire.gate {
+        found.push(match wire.garbled() {
             Gate::Input { .. } | Gate::Project { .. } | Gate::Multiply { .. } => due(),
             Gate::Select { a, .. } => combined(p, &due(), 1, at(a)),
             Gate::Add { a, b } => combined(p, at(a), 1, at(b)),

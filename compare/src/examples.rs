@@ -113,6 +113,16 @@ fn rows() -> Vec<Line> {
             Rows(502),
         ),
         (
+            "square at 251",
+            vec![HEAD, input(0, 251), multiply(0, 0), output(1), END],
+            Rows(251),
+        ),
+        (
+            "square at 2",
+            vec![HEAD, input(0, 2), multiply(0, 0), output(1), END],
+            Rows(2),
+        ),
+        (
             "select at 2",
             vec![
                 HEAD,

@@ -118,7 +118,7 @@ impl<'g, 'c> Garbler<'g, 'c> {
     fn rows(&self, circuit: &Circuit) -> Vec<u8> {
         let mut rows = Vec::new();
         for (number, wire) in circuit.wires.iter().enumerate() {
-            match wire.gate {
+            match wire.garbled() {
                 Gate::Project { .. } => self.project(circuit, number, &mut rows),
                 Gate::Multiply { .. } => self.multiply(circuit, number, &mut rows),
                 Gate::Select { .. } => self.select(circuit, number, &mut rows),
@@ -156,7 +156,7 @@ impl<'g, 'c> Garbler<'g, 'c> {
     /// Row α: k_z + (T(α − m_a) + m_z)·D_q.
     fn project(&self, circuit: &Circuit, number: usize, rows: &mut Vec<u8>) {
         let wire = circuit.wires[number];
-        let Gate::Project { a, table } = wire.gate else {
+        let Gate::Project { a, table } = wire.garbled() else {
             return;
         };
         let (p, q) = (circuit.modulus(a), wire.modulus);
@@ -180,7 +180,7 @@ impl<'g, 'c> Garbler<'g, 'c> {
 
     fn multiply(&self, circuit: &Circuit, number: usize, rows: &mut Vec<u8>) {
         let wire = circuit.wires[number];
-        let Gate::Multiply { a, b } = wire.gate else {
+        let Gate::Multiply { a, b } = wire.garbled() else {
             return;
         };
         let p = wire.modulus;
@@ -220,7 +220,7 @@ impl<'g, 'c> Garbler<'g, 'c> {
 
     fn select(&self, circuit: &Circuit, number: usize, rows: &mut Vec<u8>) {
         let wire = circuit.wires[number];
-        let Gate::Select { bit, a, b } = wire.gate else {
+        let Gate::Select { bit, a, b } = wire.garbled() else {
             return;
         };
         let p = wire.modulus;

@@ -22,6 +22,8 @@ pub mod rng;
 mod round_tests;
 pub mod session;
 pub mod shake;
+#[cfg(test)]
+mod square_tests;
 pub mod word;
 pub mod writer;
 #[cfg(test)]

@@ -128,8 +128,9 @@ impl Opener<'_> {
 
     /// The keys and the external value of one gate's wire.
     fn gate(&self, number: usize, rows: &[u8]) -> Result<(Vec<u8>, u8), Refusal> {
-        let p = self.circuit.wires[number].modulus;
-        Ok(match self.circuit.wires[number].gate {
+        let wire = self.circuit.wires[number];
+        let p = wire.modulus;
+        Ok(match wire.garbled() {
             Gate::Input { .. } => unreachable!("the inputs come before all gates"),
             Gate::Add { a, b } => (
                 combined(p, self.keys(a), 1, self.keys(b)),

@@ -83,6 +83,20 @@ mod tests {
         assert_eq!(price_sheet(&text[..text.len() - 1]), expected);
     }
 
+    /// Still of kind 5, at p rows where another product has 2p.
+    #[test]
+    fn squares() {
+        let text = b"10000000\n20000005\n20010005\n50000000\n50000001\nA0000002\nB0000000\n";
+        let expected = "0 2 5 0\n1 2 5 0\n2 5 5 5\n3 5 5 10\ntotal 15\n";
+        assert_eq!(
+            price_sheet(text),
+            format!("wire kind modulus rows\n{expected}")
+        );
+        let bit = b"10000000\n20000002\n50000000\nA0000001\nB0000000\n";
+        let expected = "wire kind modulus rows\n0 2 2 0\n1 5 2 2\ntotal 2\n";
+        assert_eq!(price_sheet(bit), expected);
+    }
+
     #[test]
     fn a_refused_circuit() {
         assert_eq!(price_sheet(b""), "refused 1 at 0\n");

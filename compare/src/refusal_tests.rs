@@ -8,19 +8,22 @@ use crate::inputs::{externals, input_keys};
 use crate::open::{Given, open};
 use crate::word::{self, *};
 
-/// Two parties and keys of two bytes: a wire of modulus 2 and one of modulus 5, multiplied.
+/// Two parties and keys of two bytes: a wire of modulus 2 and one of modulus 5, which is squared and
+/// multiplied with its square.
 fn setting() -> Setting {
     let words = [
         HEAD,
         input(0, 2),
         input(1, 5),
         multiply(1, 1),
-        output(2),
+        multiply(1, 2),
+        output(3),
         END,
     ];
     let own = [
         1, 0, 2, 1, // offsets
-        1, 0, 1, 3, 4, 2, 0, 1, 2, 3, 4, 1, // bit; wire 1; product
+        1, 0, 1, 3, 4, 2, 4, 1, 3, // bit; wire 1; its square
+        0, 1, 2, 3, 4, 1, // product
     ];
     Setting {
         file: word::file(&words),
@@ -32,13 +35,21 @@ fn setting() -> Setting {
     }
 }
 
-/// The bytes of a contribution, and where the offset of modulus 5 starts in it.
-const EACH: usize = 16;
+/// The bytes of a contribution, 2·2 + 3·(2 + 1 + 2), and where the offset of modulus 5 and the
+/// square's record start in it.
+const EACH: usize = 19;
 const OFFSET_5: usize = 2;
+const SQUARE: usize = 10;
+
+/// 5 of the square, 10 of the product.
+const ROWS: u32 = 15;
+
+/// A row is two keys of two bytes.
+const ROW_BYTES: usize = ROWS as usize * 4;
 
 /// Garbles with this meter; the rows, and the meter afterwards.
 fn garbled(setting: &Setting, before: u32) -> Result<(Vec<u8>, u32), (u32, usize)> {
-    let mut rows = vec![7; 10 * 4];
+    let mut rows = vec![7; ROW_BYTES];
     let mut masks = [7; 3];
     let (input_masks, output_masks) = masks.split_at_mut(2);
     let written = Written {
@@ -53,7 +64,7 @@ fn garbled(setting: &Setting, before: u32) -> Result<(Vec<u8>, u32), (u32, usize
         Ok(()) => Ok((rows, meter)),
         Err(Refusal { number, place }) => {
             assert_eq!((meter, masks), (before, [7; 3]));
-            assert_eq!(rows, [7; 40]);
+            assert_eq!(rows, [7; ROW_BYTES]);
             Err((number, place))
         }
     }
@@ -62,9 +73,9 @@ fn garbled(setting: &Setting, before: u32) -> Result<(Vec<u8>, u32), (u32, usize
 #[test]
 fn the_meter_has_a_limit() {
     assert_eq!(length(&read(&setting().file).unwrap(), 2), EACH);
-    let (_, meter) = garbled(&setting(), u32::MAX - 10).unwrap();
+    let (_, meter) = garbled(&setting(), u32::MAX - ROWS).unwrap();
     assert_eq!(meter, u32::MAX);
-    assert_eq!(garbled(&setting(), u32::MAX - 9), Err((21, 0)));
+    assert_eq!(garbled(&setting(), u32::MAX - ROWS + 1), Err((21, 0)));
 }
 
 #[test]
@@ -101,10 +112,16 @@ fn garbling_takes_every_round_number_and_each_has_its_rows() {
     for round in [0, 1, 1 << 24, 0x0403_0201, 0x0102_0304, u32::MAX] {
         setting.round = round;
         let (rows, meter) = garbled(&setting, 0).unwrap();
-        assert_eq!(meter, 10);
+        assert_eq!(meter, ROWS);
         assert!(!seen.contains(&rows), "{round:#010x}");
         seen.push(rows);
     }
+}
+
+/// Party 0's part of both parties' contributions, whatever their lengths.
+fn own(setting: &Setting) -> &[u8] {
+    let both = &setting.contributions;
+    &both[..both.len() / 2]
 }
 
 /// What party 0 opens with, in a round with no fault.
@@ -126,11 +143,11 @@ fn opening() -> Opening {
         let (value, external) = (&setting.values[at..][..1], &mut all[at..][..1]);
         externals(&setting.file, (2, party), value, &[mask], external).unwrap();
     }
-    let mut own = vec![0; 4];
-    let contribution = &setting.contributions[..EACH];
-    input_keys(&setting.file, (2, 2, 0), contribution, &all, &mut own).unwrap();
+    let mut keys = vec![0; 4];
+    let contribution = own(&setting);
+    input_keys(&setting.file, (2, 2, 0), contribution, &all, &mut keys).unwrap();
     // The other party's keys are the same, as its contribution is.
-    let keys = [&own[..2], &own[..2], &own[2..], &own[2..]].concat();
+    let keys = [&keys[..2], &keys[..2], &keys[2..], &keys[2..]].concat();
     Opening {
         round: setting.round,
         setting,
@@ -143,12 +160,12 @@ fn opening() -> Opening {
 /// Opens; the answer, and what the first byte of each written buffer then holds.
 fn opened(opening: &Opening) -> (Result<(), (u32, usize)>, [u8; 2]) {
     let given = Given {
-        contribution: &opening.setting.contributions[..EACH],
+        contribution: own(&opening.setting),
         externals: &opening.externals,
         keys: &opening.keys,
         rows: &opening.rows,
     };
-    let (mut keys, mut externals) = (vec![9; 3 * 4], vec![9; 3]);
+    let (mut keys, mut externals) = (vec![9; 4 * 4], vec![9; 4]);
     let (file, numbers) = (&opening.setting.file, (2, 2, 0, opening.round));
     let result = open(file, numbers, &given, &mut keys, &mut externals);
     let result = result.map_err(|refusal| (refusal.number, refusal.place));
@@ -185,21 +202,23 @@ fn opening_judges_bytes_then_own_keys_then_gates() {
 }
 
 /// Opened with a number that is another in one bit, whichever: mostly no multiplier fits. There are 5
-/// multipliers and 25 keys, so that now and then one does, and wrong keys are opened.
+/// multipliers and 25 keys, so that now and then one does, and wrong keys are opened: of the square,
+/// and then now and then of the product too.
 #[test]
 fn opening_with_another_round_number() {
     let mut opening = opening();
     let garbled = opening.round;
-    let mut refused = 0;
+    let mut refused = [0; 4];
     for bit in 0..32 {
         opening.round = garbled ^ 1 << bit;
         let (result, written) = opened(&opening);
-        if result.is_err() {
-            assert_eq!((result, written), (Err((20, 2)), [0, 0]));
-            refused += 1;
+        if let Err((number, wire)) = result {
+            assert_eq!((number, written), (20, [0, 0]));
+            refused[wire] += 1;
         }
     }
-    assert!((16..32).contains(&refused), "{refused}");
+    assert!((16..32).contains(&refused[2]), "{refused:?}");
+    assert!(refused[3] > 0, "{refused:?}");
     opening.round = garbled;
     assert_eq!(opened(&opening).0, Ok(()));
 }
@@ -219,7 +238,7 @@ fn another_round_number_shows_after_all_checks() {
 
 /// Asks for the input keys of party 0; nothing is written where that is refused.
 fn keyed(opening: &Opening) -> Result<(), (u32, usize)> {
-    let own = &opening.setting.contributions[..EACH];
+    let own = own(&opening.setting);
     let (file, externals) = (&opening.setting.file, &opening.externals);
     let mut keys = [9; 4];
     let result = input_keys(file, (2, 2, 0), own, externals, &mut keys);
@@ -236,6 +255,28 @@ fn input_keys_and_opening_name_the_lowest_byte_of_the_contribution() {
         assert_eq!(keyed(&opening), Err((16, at)));
         assert_eq!(opened(&opening), (Err((16, at)), [9, 9]));
     }
+}
+
+/// With the record of another product for the square: zero key, first-part key, two shares. That has
+/// three bytes too many in each contribution, whatever they hold.
+#[test]
+fn a_square_in_the_old_layout_has_the_wrong_length() {
+    let mut opening = opening();
+    for start in [EACH + SQUARE, SQUARE] {
+        let record = [4, 1, 0, 2, 3, 1];
+        let old = &mut opening.setting.contributions;
+        old.splice(start..start + 3, record);
+    }
+    assert_eq!(own(&opening.setting).len(), EACH + 3);
+    assert_eq!(garbled(&opening.setting, 0), Err((14, 0)));
+    assert_eq!(keyed(&opening), Err((14, 0)));
+    assert_eq!(opened(&opening), (Err((14, 0)), [9, 9]));
+    // Bytes too large and a zero offset would come after it.
+    opening.setting.contributions.fill(0);
+    assert_eq!(garbled(&opening.setting, u32::MAX), Err((14, 0)));
+    opening.setting.contributions.fill(255);
+    assert_eq!(keyed(&opening), Err((14, 0)));
+    assert_eq!(opened(&opening), (Err((14, 0)), [9, 9]));
 }
 
 #[test]

@@ -13,18 +13,18 @@ use crate::rng::Rng;
 use crate::word::{self, *};
 
 /// What the calls of a round wrote, opening and decoding at party 0.
-struct Played {
-    rows: Vec<u8>,
-    output_masks: Vec<u8>,
+pub struct Played {
+    pub rows: Vec<u8>,
+    pub output_masks: Vec<u8>,
     externals: Vec<u8>,
     /// Of all parties, by input and then by party.
     input_keys: Vec<u8>,
-    wire_keys: Vec<u8>,
-    wire_externals: Vec<u8>,
-    decoded: Vec<u8>,
+    pub wire_keys: Vec<u8>,
+    pub wire_externals: Vec<u8>,
+    pub decoded: Vec<u8>,
 }
 
-fn play(setting: &Setting) -> Played {
+pub fn play(setting: &Setting) -> Played {
     let Setting { file, n, k, .. } = setting;
     let circuit = read(file).unwrap();
     let counts = circuit.counts();

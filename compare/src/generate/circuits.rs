@@ -75,6 +75,25 @@ fn every_modulus(rng: &mut Rng) -> Vec<u32> {
     builder.end()
 }
 
+/// For each of the 54 moduli, of two inputs: the square of one, their product, the square of their
+/// sum, and the square of the first square.
+pub fn every_square() -> Vec<u32> {
+    let primes = all_moduli();
+    let inputs = primes.iter().flat_map(|p| [word::input(0, *p); 2]);
+    let mut words: Vec<u32> = [HEAD].into_iter().chain(inputs).collect();
+    let gates = 2 * primes.len() as u32;
+    for index in 0..primes.len() as u32 {
+        let (a, b) = (2 * index, 2 * index + 1);
+        // The first of this modulus's five gates.
+        let square = gates + 5 * index;
+        let sum = square + 2;
+        words.extend([word::multiply(a, a), word::multiply(a, b), word::add(a, b)]);
+        words.extend([word::multiply(sum, sum), word::multiply(square, square)]);
+    }
+    words.extend([word::output(gates), END]);
+    words
+}
+
 /// Every gate kind at the largest modulus, with the largest constant and images.
 fn largest_modulus(rng: &mut Rng) -> Vec<u32> {
     let mut builder = Builder::new(rng, vec![251]);
@@ -86,6 +105,7 @@ fn largest_modulus(rng: &mut Rng) -> Vec<u32> {
     builder.push_wire(word::multiply(2, 3), 251);
     builder.push_wire(word::select(1), 251);
     builder.words.push(word::branches(5, 2));
+    builder.push_wire(word::multiply(6, 6), 251);
     builder.gates(4);
     builder.outputs(5);
     builder.end()
@@ -208,11 +228,13 @@ impl<'r> Builder<'r> {
     }
 
     fn gate_on(&mut self, a: u32) {
-        match self.rng.below(6) {
+        match self.rng.below(7) {
             0 => self.two_wired(a, word::add),
             1 => self.two_wired(a, word::multiply),
-            2 => self.scale(a),
-            3 => {
+            // Squares are garbled in their own way, so they are at least as likely as others.
+            2 => self.push_wire(word::multiply(a, a), self.moduli[a as usize]),
+            3 => self.scale(a),
+            4 => {
                 let modulus = self.modulus();
                 // Long tables would crowd out everything else.
                 if self.moduli[a as usize] < 20 || self.rng.once_in(4) {
@@ -301,7 +323,7 @@ fn below_or_last(rng: &mut Rng, bound: u32) -> u32 {
 #[cfg(test)]
 mod tests {
     use super::*;
-    use crate::circuit::read;
+    use crate::circuit::{Wire, read};
 
     #[test]
     fn good_circuits_are_accepted() {
@@ -314,5 +336,34 @@ mod tests {
             let words = at_limit(&mut rng);
             assert!(read(&word::file(&words)).is_ok(), "{words:08X?}");
         }
+    }
+
+    #[test]
+    fn random_circuits_mix_squares_with_other_gates() {
+        let mut rng = Rng::new(1);
+        let mut mixed = 0;
+        for _ in 0..1000 {
+            let file = word::file(&accepted(&mut rng));
+            let wires = read(&file).expect("accepted").wires;
+            let square = wires.iter().any(Wire::is_square);
+            let product = wires
+                .iter()
+                .any(|wire| wire.kind() == 5 && !wire.is_square());
+            let other = wires.iter().any(|wire| matches!(wire.kind(), 6 | 8));
+            mixed += u32::from(square && product && other);
+        }
+        assert!(mixed > 50, "{mixed}");
+    }
+
+    #[test]
+    fn every_modulus_has_its_squares() {
+        let file = word::file(&every_square());
+        let circuit = read(&file).expect("accepted");
+        let squares = circuit.wires.iter().filter(|wire| wire.is_square());
+        let moduli: Vec<u32> = squares.map(|wire| wire.modulus.into()).collect();
+        let due: Vec<u32> = all_moduli().into_iter().flat_map(|p| [p; 3]).collect();
+        assert_eq!(moduli, due);
+        // Of each prime p a product and three squares, 2p + 3p; the primes add up to 6,081.
+        assert_eq!(circuit.counts().rows, 5 * 6081);
     }
 }

@@ -3,6 +3,7 @@
 pub mod circuits;
 pub mod damage;
 mod drawing;
+pub mod old_layout;
 pub mod record_sweep;
 pub mod records;
 pub mod round_numbers;

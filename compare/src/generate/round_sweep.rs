@@ -27,7 +27,9 @@ pub fn circuit(case: u64, rng: &mut Rng) -> Option<(Vec<u32>, u32, u32)> {
     })
 }
 
-/// Every kind of gate, on wires of modulus p, and projections to modulus q and back.
+/// Every kind of gate, on wires of modulus p, and projections to modulus q and back. There are
+/// squares of a projection, of a square and of a sum; the last product is of two wires that have
+/// the same value, which does not make it a square.
 fn every_kind(p: u32, q: u32) -> Vec<u32> {
     let image = |value: u32| value * value + value / 2 + 1;
     let mut words = vec![
@@ -41,8 +43,13 @@ fn every_kind(p: u32, q: u32) -> Vec<u32> {
     words.extend((0..p).map(|value| word::entry(image(value) % q)));
     words.push(word::project(p, 7));
     words.extend((0..q).map(|value| word::entry(image(value) % p)));
-    words.push(word::multiply(8, 8));
-    words.extend((0..10).map(word::output));
+    words.extend([
+        word::multiply(8, 8),
+        word::multiply(9, 9),
+        word::multiply(4, 4),
+    ]);
+    words.extend([word::scale(1, 11), word::multiply(11, 12)]);
+    words.extend((0..14).map(word::output));
     words.push(END);
     words
 }
@@ -57,6 +64,7 @@ fn full(rng: &mut Rng) -> Vec<u32> {
             0 => words.push(word::multiply(a, b)),
             1 => words.extend([word::select(a), word::branches(b, a)]),
             2 => words.extend([word::project(2, a), word::entry(1), word::entry(0)]),
+            3 => words.push(word::multiply(a, a)),
             _ => words.push(word::add(a, b)),
         }
     }
@@ -111,5 +119,16 @@ mod tests {
         }
         assert!(circuit(0, &mut rng).is_none());
         assert!(circuit(189, &mut rng).is_none());
+    }
+
+    /// Two products of 2p rows, three squares of p, a select of 2p + 2, projections of p and of 2.
+    #[test]
+    fn every_modulus_has_squares_beside_products() {
+        let mut rng = Rng::new(1);
+        for (p, case) in all_moduli().into_iter().zip(129..) {
+            let (words, ..) = circuit(case, &mut rng).expect("in the sweep");
+            let rows = read(&word::file(&words)).map(|circuit| circuit.counts().rows);
+            assert_eq!(rows, Ok(10 * p + 4));
+        }
     }
 }

@@ -98,8 +98,18 @@ fn byte_fields() -> Vec<Vec<u32>> {
             files.push(projected(modulus, [1, byte]));
         }
         files.push(projected(byte, [0, 1]));
+        files.push(multiplied(byte));
     }
     files
+}
+
+/// A square, another product, and the square of that square.
+fn multiplied(modulus: u32) -> Vec<u32> {
+    let [one, other] = [0, 1].map(|owner| word::input(owner, modulus));
+    let mut words = vec![HEAD, one, other];
+    words.extend([(0, 0), (0, 1), (2, 2)].map(|(a, b)| word::multiply(a, b)));
+    words.extend([word::output(4), END]);
+    words
 }
 
 fn scaled(constant: u32, modulus: u32) -> Vec<u32> {
@@ -119,9 +129,23 @@ fn projected(modulus: u32, images: [u32; 2]) -> Vec<u32> {
 mod tests {
     use super::*;
     use crate::circuit::read;
+    use crate::generate::circuits::all_moduli;
 
     #[test]
     fn the_circuit_of_the_sweep_is_good() {
         assert!(read(&word::file(&GOOD)).is_ok());
+    }
+
+    /// Two squares of p rows and a product of 2p; two inputs and two squares with a key each in a
+    /// record, and a product with two.
+    #[test]
+    fn squares_and_products_of_every_modulus() {
+        let files = files();
+        for p in all_moduli() {
+            let file = word::file(&multiplied(p));
+            assert!(files.contains(&file));
+            let counts = read(&file).expect("accepted").counts();
+            assert_eq!((counts.rows, counts.records), (4 * p, 6));
+        }
     }
 }

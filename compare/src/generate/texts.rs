@@ -1,16 +1,17 @@
 //! Generators of texts for the price sheet.
 
-use super::circuits::accepted;
+use super::circuits::{accepted, every_square};
 use crate::price_sheet::MOST_LINES;
 use crate::rng::Rng;
 use crate::word::{self, END, HEAD};
 
-/// The text of one case of a run: first every byte in the place of a digit, then texts of any
-/// sort.
+/// The text of one case of a run: first squares and other products of every modulus, then every
+/// byte in the place of a digit, then texts of any sort.
 pub fn text(case: u64, rng: &mut Rng) -> Vec<u8> {
-    match u8::try_from(case) {
-        Ok(byte) => with_byte(byte),
-        Err(_) => random_text(rng),
+    match case {
+        0 => lines(rng, |_| every_square()),
+        1..=256 => with_byte((case - 1) as u8),
+        _ => random_text(rng),
     }
 }
 

@@ -9,6 +9,7 @@ mod reopened;
 mod run;
 mod second;
 mod several;
+mod squares;
 mod step;
 mod tally;
 

@@ -4,6 +4,7 @@ use super::chain::{Made, play};
 use super::faults::spoiled;
 use super::loose::{loose, on_any_file};
 use super::reopened::reopen;
+use super::squares::lend_old_layout;
 use super::step::{Name, Step};
 use super::tally::Tally;
 use super::{engine, second};
@@ -29,7 +30,8 @@ pub fn one(seed: u64, case: u64) -> ExitCode {
     tally.report()
 }
 
-/// A case: a whole round, openings of it with other round numbers, and calls with faults.
+/// A case: a whole round, openings of it with other round numbers, calls lent the squares' old
+/// layout, and calls with faults.
 fn play_case(seed: u64, case: u64, tally: &mut Tally, print: bool) {
     let mut rng = Rng::of_case(seed, case);
     let setting = setting(case, &mut rng);
@@ -47,6 +49,7 @@ fn play_case(seed: u64, case: u64, tally: &mut Tally, print: bool) {
     };
     let round = play(&setting, &mut rng, &mut count);
     let reopened = reopen(&round, &mut rng, &mut count);
+    let old_layout = lend_old_layout(&round, &mut rng, &mut count);
     for _ in 0..faulty_calls(setting.cost()) {
         let good = one_of(&round.steps, &mut rng);
         count(&spoiled(good, &mut rng));
@@ -56,6 +59,7 @@ fn play_case(seed: u64, case: u64, tally: &mut Tally, print: bool) {
         count(&on_any_file(&mut rng));
     }
     tally.count_round(&setting, round.right, &reopened);
+    tally.count_old_layout(&old_layout);
     tally.close_case(before);
 }
 

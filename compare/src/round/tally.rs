@@ -4,7 +4,10 @@ use super::chain::Made;
 use super::difference::Difference;
 use super::reopened::Reopened;
 use super::several::sorts;
+use super::squares::{self, SORTS};
 use super::step::{NAMES, Name, Step};
+use crate::call::Answer;
+use compare::generate::circuits::all_moduli;
 use compare::generate::round_numbers::{WAYS, has_different_bytes};
 use compare::generate::settings::Setting;
 use std::collections::BTreeMap;
@@ -14,7 +17,8 @@ use std::process::ExitCode;
 const SHOWN: usize = 5;
 
 /// A run of this many cases must meet every refusal that each call can give, 16 and 18 with several
-/// bytes too large, and the round numbers below.
+/// bytes too large, the round numbers below, squares of each sort at every modulus, and the refusals
+/// of their old layout.
 const THOROUGH: u64 = 1000;
 
 /// A sort of round numbers, by its name.
@@ -34,6 +38,7 @@ pub struct Tally {
     pub differences: u64,
     rounds: u64,
     wrong_rounds: u64,
+    wrong_refusals: u64,
     passed: u64,
     failed: u64,
     /// How often each call gave each number, 0 where it was accepted.
@@ -45,6 +50,10 @@ pub struct Tally {
     /// How often opening gave each number where the round number was not garbling's, by the way in
     /// which it differed.
     reopened: BTreeMap<(&'static str, u32), u64>,
+    /// How many rounds with a square of each sort and modulus were right.
+    squares: BTreeMap<(&'static str, u8), u64>,
+    /// How often each call refused a contribution in the squares' old layout.
+    old_layout: BTreeMap<Name, u64>,
     /// Of each sort of difference, the smallest one.
     smallest: BTreeMap<(&'static str, u32, u32), Difference>,
 }
@@ -82,12 +91,30 @@ impl Tally {
         if setting.rows() == 0 {
             return;
         }
+        if right {
+            for sort in squares::sorts(setting) {
+                *self.squares.entry(sort).or_default() += 1;
+            }
+        }
         for (sort, is) in NUMBERS {
             let so = right && is(setting.round);
             *self.numbers.entry(sort).or_default() += u64::from(so);
         }
         for (way, answer) in reopened {
             *self.reopened.entry((way, answer.number)).or_default() += 1;
+        }
+    }
+
+    /// Counts calls that were lent a contribution in the squares' old layout: its length is wrong.
+    pub fn count_old_layout(&mut self, answers: &[(Name, Answer)]) {
+        let wrong_length = Answer {
+            number: 14,
+            place: 0,
+        };
+        for (name, answer) in answers {
+            let refused = *answer == wrong_length;
+            *self.old_layout.entry(*name).or_default() += u64::from(refused);
+            self.wrong_refusals += u64::from(!refused);
         }
     }
 
@@ -102,7 +129,7 @@ impl Tally {
 
     /// All that went wrong so far.
     pub fn wrong(&self) -> u64 {
-        self.differences + self.wrong_rounds
+        self.differences + self.wrong_rounds + self.wrong_refusals
     }
 
     pub fn print_differences(&self, seed: u64) {
@@ -112,7 +139,7 @@ impl Tally {
     }
 
     /// Prints the counts; the run failed if anything differs, or if a long run missed a refusal, a
-    /// sort of several bytes too large or a sort of round numbers.
+    /// sort of several bytes too large, a sort of round numbers or a sort of squares.
     pub fn report(mut self) -> ExitCode {
         let count = self.passed + self.failed;
         let mut missed = Vec::new();
@@ -122,6 +149,8 @@ impl Tally {
         missed.extend(self.line_of_several());
         missed.extend(self.line_of_numbers());
         missed.extend(self.line_of_reopened());
+        missed.extend(self.line_of_squares());
+        missed.extend(self.line_of_old_layout());
         println!(
             "{} rounds, {} of them wrong; {} calls, {} differences",
             self.rounds, self.wrong_rounds, self.calls, self.differences
@@ -194,5 +223,40 @@ impl Tally {
         }
         println!("open with another round number {}", counts.join("; "));
         missed
+    }
+
+    /// Prints at how many moduli right rounds had each sort of squares, and gives what was never met.
+    fn line_of_squares(&self) -> Vec<String> {
+        let mut counts = Vec::new();
+        let mut missed = Vec::new();
+        for sort in SORTS {
+            let times = |p: &u8| self.squares.get(&(sort, *p)).copied();
+            let moduli = all_moduli().into_iter().map(|p| p as u8);
+            let (met, never): (Vec<u8>, Vec<u8>) = moduli.partition(|p| times(p).is_some());
+            let all: u64 = met.iter().filter_map(times).sum();
+            counts.push(format!("{sort}: {all} at {} moduli", met.len()));
+            if !never.is_empty() {
+                missed.push(format!("square {sort} at {never:?}"));
+            }
+        }
+        println!("right rounds with squares {}", counts.join(", "));
+        missed
+    }
+
+    /// Prints how often each call refused the squares' old layout, and gives those that never did.
+    fn line_of_old_layout(&self) -> Vec<String> {
+        let names = NAMES.into_iter().filter(|name| name.has_contribution());
+        let times = |name: Name| self.old_layout.get(&name).copied().unwrap_or_default();
+        let line = |name: Name| format!("{}: {}", name.text(), times(name));
+        let counts: Vec<String> = names.clone().map(line).collect();
+        println!(
+            "squares in the old layout, refused by 14: {}; not so: {}",
+            counts.join(", "),
+            self.wrong_refusals
+        );
+        let never = names.filter(|name| times(*name) == 0);
+        never
+            .map(|name| format!("{} lent squares in the old layout", name.text()))
+            .collect()
     }
 }

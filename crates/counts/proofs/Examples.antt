@@ -1,14 +1,16 @@
--- The counts of a small circuit with a gate of each kind, computed from the definitions, and a table's rows. Document 01's row counts stand
--- with the other marked cases, in the crate examples.
+-- The counts of a small circuit with a gate of each kind, computed from the definitions, and rows of a table, a product and a square.
+-- Document 01's row counts stand with the other marked cases, in the crate examples.
 -- Assumes nothing.
 use mathlib.Core.Path.{_≡_, refl}
 use mathlib.Core.List.{List, [], _∷_}
 use Prim.Native.Nat.{ℕ}
 use Rattle.lists.specs.Blocks.{sumTo}
+use Rattle.residue.specs.Residue.{mul}
 use Rattle.words.specs.declared.gate.Gate.{Gate}
 use Rattle.words.specs.declared.gate.Gate.the-variants.{Input, Add, Scale, Multiply, Project, Select}
 use Rattle.words.specs.declared.gate.Wire.{Wire}
-use Rattle.counts.specs.Recipe.{recipe}
+use Rattle.counts.specs.declared.recipe.Images.the-variants.{Squares}
+use Rattle.counts.specs.Recipe.{recipe, imageOf}
 use Rattle.counts.specs.Counts.{rowsOf, rowsIn, recordKeysIn, inputsOf}
 use Rattle.counts.specs.Moduli.{someBelow, moduliUsed}
 
@@ -23,7 +25,21 @@ project-rows : rowsOf (input 0 2 ∷ wire (Project (record { a = 0; table = 3 })
 unfolding recipe wire input
 project-rows = refl
 
--- a bit of party 0 and two residues of party 1; their sum, three times it, a product, a table of the bit, and a choice
+-- a multiply of modulus 251: of two wires 502 rows, of a wire by itself 251
+product-rows : rowsOf (input 0 251 ∷ input 1 251 ∷ wire (Multiply (record { a = 0; b = 1 })) 251 ∷ []) 2 ≡ 502
+unfolding recipe wire input
+product-rows = refl
+
+square-rows : rowsOf (input 0 251 ∷ input 1 251 ∷ wire (Multiply (record { a = 1; b = 1 })) 251 ∷ []) 2 ≡ 251
+unfolding recipe wire input
+square-rows = refl
+
+-- 16 · 16 is 256, so 5 modulo 251
+square-of-16 : imageOf [] Squares 251 16 ≡ 5
+unfolding imageOf mul
+square-of-16 = refl
+
+-- a bit of party 0 and two residues of party 1; their sum, three times it, a product, a table of the bit, a choice and a square
 small : List Wire
 small =
     input 0 2
@@ -34,13 +50,14 @@ small =
     ∷ wire (Multiply (record { a = 1; b = 4 })) 5
     ∷ wire (Project (record { a = 0; table = 8 })) 5
     ∷ wire (Select (record { bit = 0; a = 5; b = 6 })) 5
+    ∷ wire (Multiply (record { a = 7; b = 7 })) 5
     ∷ []
 
-small-rows : rowsIn small ≡ 24
+small-rows : rowsIn small ≡ 29
 unfolding recipe wire input small sumTo
 small-rows = refl
 
-small-records : recordKeysIn small ≡ 9
+small-records : recordKeysIn small ≡ 10
 unfolding recipe wire input small sumTo
 small-records = refl
 

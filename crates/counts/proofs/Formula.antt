@@ -1,6 +1,7 @@
--- Document 01, "What a seat contributes": all records together have I + P + 2M + 3S keys.
+-- Document 01, "What a seat contributes": all records together have I + P + 2M + 3S keys, a square counted with the projections.
 -- Assumes nothing.
 use mathlib.Core.Path.{_≡_, refl}
+use mathlib.Core.Bool.{Bool, true, false}
 use mathlib.Core.List.{List}
 use Prim.Native.Nat.{ℕ, zero, suc, _+_, _*_}
 use native.Mathlib.Omega.{arith}
@@ -9,22 +10,29 @@ use lib.ListN.{length}
 use Rattle.lists.specs.Blocks.{sumTo}
 use Rattle.words.specs.declared.gate.Gate.{Gate}
 use Rattle.words.specs.declared.gate.Gate.the-variants.{Input, Add, Scale, Multiply, Project, Select}
+use Rattle.words.specs.declared.gate.Pair.{Pair}
 use Rattle.words.specs.declared.gate.Wire.{Wire}
 use Rattle.circuit.specs.Wires.{wireAt}
-use Rattle.counts.specs.Recipe.{recipe}
+use Rattle.counts.specs.Recipe.{isSquare, recipeOf, recipe}
 use Rattle.counts.specs.Counts.{mark, recordKeysBy, recordKeysOf, recordKeysIn}
-use Rattle.counts.specs.Kinds.{kindOf, inputs, projects, multiplies, selects}
+use Rattle.counts.specs.Kinds.{countedWith, inputs, projects, multiplies, selects}
 
--- 1 where a gate is of a kind
+-- 1 where a gate is counted with a kind
 abbrev is : ℕ → Gate → ℕ
-is kind gate = mark (eqb (kindOf gate) kind)
+is kind gate = mark (eqb (countedWith gate) kind)
+
+-- whether it is a square or not
+multiply-keys : (g : Pair) (p : ℕ) (square : Bool) → isSquare g ≡ square
+    → recordKeysBy (recipeOf (Multiply g) p) ≡ is 2 (Multiply g) + is 6 (Multiply g) + 2 * is 5 (Multiply g) + 3 * is 8 (Multiply g)
+multiply-keys g p true e = rw e
+multiply-keys g p false e = rw e
 
 wire-keys : (gate : Gate) (p : ℕ) → recordKeysBy (recipe (record { gate = gate; modulus = p })) ≡ is 2 gate + is 6 gate + 2 * is 5 gate + 3 * is 8 gate
 unfolding recipe
 wire-keys (Input gate) p = refl
 wire-keys (Add gate) p = refl
 wire-keys (Scale gate) p = refl
-wire-keys (Multiply gate) p = refl
+wire-keys (Multiply gate) p = multiply-keys gate p (isSquare gate) refl
 wire-keys (Project gate) p = refl
 wire-keys (Select gate) p = refl
 

@@ -1,11 +1,12 @@
 -- The recipe of a gate that is known, and what acceptance says of a wire by its recipe: which wires it is made of, and that they fit. Whoever goes by
 -- recipe needs no other account of acceptance.
 -- Assumes nothing.
-use mathlib.Core.Path.{_≡_, sym, ap}
+use mathlib.Core.Path.{_≡_, refl, sym, ap, subst}
+use mathlib.Core.Bool.{Bool, true, false}
 use mathlib.Core.List.{List}
 use Prim.Native.Nat.{ℕ, _+_, _*_, _/_, _<_}
 use native.Mathlib.Omega.{arith}
-use borrow.Author.Tests.{ltb-true}
+use borrow.Author.Tests.{ltb-true, eq-eqb, ne-eqb}
 use lib.Dec.{ltb}
 use lib.ListN.{length}
 use Rattle.words.specs.declared.gate.Gate.{Gate}
@@ -15,16 +16,34 @@ use Rattle.words.specs.declared.gate.Scaling.{Scaling}
 use Rattle.words.specs.declared.gate.Choice.{Choice as Chosen}
 use Rattle.circuit.specs.Wires.{wireAt, modulusAt, isInput, inputsIn}
 use Rattle.circuit.specs.Accepted.{GateFits, PairFits, ScalingFits, ChoiceFits, AcceptedCircuit}
+use Rattle.residue.proofs.Moduli.{isPrime→Prime}
+use Rattle.residue.proofs.Vectors.{mul-below}
+use Rattle.counts.specs.declared.recipe.Images.{Images}
+use Rattle.counts.specs.declared.recipe.Images.the-variants.{File, Squares}
 use Rattle.counts.specs.declared.recipe.Lookup.{Lookup}
 use Rattle.counts.specs.declared.recipe.Recipe.{Recipe}
 use Rattle.counts.specs.declared.recipe.Recipe.the-variants.{Entered, Sum, Multiple, Table, Product, Choice}
-use Rattle.counts.specs.Recipe.{recipeOf, recipe, imageOf}
-use Rattle.counts.specs.Images.{ImagesFit}
+use Rattle.counts.specs.Recipe.{isSquare, squareOrProduct, recipeOf, recipe, imageOf}
+use Rattle.counts.specs.Images.{ImageHeld, ImagesFit}
 
 -- where the gate is known, so is the recipe
 pub by-gate : (wire : Wire) {gate : Gate} → wire .gate ≡ gate → recipe wire ≡ recipeOf gate (wire .modulus)
 unfolding recipe
 by-gate wire e = ap (λ (g : Gate). recipeOf g (wire .modulus)) e
+
+-- where the wires of a multiply are compared, so is its recipe
+pub a-square : (g : Pair) → g .a ≡ g .b → squareOrProduct g ≡ Table (record { a = g .a; images = Squares })
+a-square g e = rw (eq-eqb (g .a) (g .b) e)
+
+pub a-product : (g : Pair) → (g .a ≡ g .b → ⊥) → squareOrProduct g ≡ Product g
+a-product g e = rw (ne-eqb (g .a) (g .b) e)
+
+-- where the sort of images is known: those of a file stand there
+held-inside : {file : List ℕ} {v table : ℕ} → ImageHeld file v (File table) → 4 * (table + v) < length file
+held-inside (ImageHeld.inFile h) = h
+
+pub in-file : {file : List ℕ} {v table : ℕ} {images : Images} → images ≡ File table → ImageHeld file v images → 4 * (table + v) < length file
+in-file {file} {v} e h = held-inside (subst (λ (i : Images). ImageHeld file v i) e h)
 
 -- a table: over a lower wire, with images below the modulus of the wire that it makes
 pub record TableFits (file : List ℕ) (wires : List Wire) (w : ℕ) (g : Lookup) : Type 0 where
@@ -44,17 +63,31 @@ inside : (i n : ℕ) → i < n / 4 → 4 * i < n
 inside i n l = omega arith
 
 module _ {file : List ℕ} {wires : List Wire} {outputs : List ℕ} (accepted : AcceptedCircuit file wires outputs) (w : ℕ) (made : w < length wires) where
+  positive : 0 < modulusAt wires w
+  positive = omega (arith, isPrime→Prime (modulusAt wires w) (accepted .fits w made .prime) .two)
+
+  by-square : {g : Pair} (square : Bool) → isSquare g ≡ square → PairFits wires w g → RecipeFits file wires w (squareOrProduct g)
+  unfolding imageOf
+  by-square true e fits =
+      rw e
+      (table
+      (record {
+        lower = fits .a .lower;
+        images = record { held = λ v h. ImageHeld.computed; below = λ v h. mul-below positive _ _ };
+      }))
+  by-square false e fits = rw e (product fits)
+
   by-kind : {gate : Gate} → GateFits file wires w gate → isInput gate ≡ ltb w (inputsIn wires) → RecipeFits file wires w (recipeOf gate (modulusAt wires w))
   unfolding imageOf
   by-kind (GateFits.input fits) first = entered (ltb-true w (inputsIn wires) (sym first))
   by-kind (GateFits.add fits) first = sum fits
   by-kind (GateFits.scale fits) first = multiple fits
-  by-kind (GateFits.multiply fits) first = product fits
+  by-kind (GateFits.multiply {gate = g} fits) first = by-square (isSquare g) refl fits
   by-kind (GateFits.project fits) first =
       table
       (record {
         lower = fits .lower;
-        images = record { held = λ v h. record { inFile = inside _ _ (fits .entries v h .inside) }; below = λ v h. fits .entries v h .image };
+        images = record { held = λ v h. ImageHeld.inFile (inside _ _ (fits .entries v h .inside)); below = λ v h. fits .entries v h .image };
       })
   by-kind (GateFits.select fits) first = choice fits
 

@@ -1,5 +1,6 @@
--- A gate's kind, by document 01's table of kinds, and how many gates of a kind a circuit has.
+-- A gate's kind, by document 01's table of kinds, and how many gates of each sort a contribution's length counts.
 -- Assumes nothing.
+use mathlib.Core.Bool.{cond}
 use mathlib.Core.List.{List}
 use Prim.Native.Nat.{ℕ}
 use lib.Dec.{eqb}
@@ -9,6 +10,7 @@ use Rattle.words.specs.declared.gate.Gate.{Gate}
 use Rattle.words.specs.declared.gate.Gate.the-variants.{Input, Add, Scale, Multiply, Project, Select}
 use Rattle.words.specs.declared.gate.Wire.{Wire}
 use Rattle.circuit.specs.Wires.{wireAt}
+use Rattle.counts.specs.Recipe.{isSquare}
 use Rattle.counts.specs.Counts.{mark}
 
 -- that of its first word
@@ -20,18 +22,27 @@ kindOf (Multiply gate) = 5
 kindOf (Project gate) = 6
 kindOf (Select gate) = 8
 
-abbrev pub gatesOf : ℕ → List Wire → ℕ
-gatesOf kind wires = sumTo (length wires) (λ w. mark (eqb (kindOf (wireAt wires w .gate)) kind))
+-- the kind that a gate is counted with in "What a seat contributes": its own, but a square with the projections (document 02, order 4)
+abbrev pub countedWith : Gate → ℕ
+countedWith (Input gate) = 2
+countedWith (Add gate) = 3
+countedWith (Scale gate) = 4
+countedWith (Multiply gate) = cond (isSquare gate) 6 5
+countedWith (Project gate) = 6
+countedWith (Select gate) = 8
+
+abbrev pub gatesWith : ℕ → List Wire → ℕ
+gatesWith kind wires = sumTo (length wires) (λ w. mark (eqb (countedWith (wireAt wires w .gate)) kind))
 
 -- I, P, M and S of "What a seat contributes"
 abbrev pub inputs : List Wire → ℕ
-inputs = gatesOf 2
+inputs = gatesWith 2
 
 abbrev pub projects : List Wire → ℕ
-projects = gatesOf 6
+projects = gatesWith 6
 
 abbrev pub multiplies : List Wire → ℕ
-multiplies = gatesOf 5
+multiplies = gatesWith 5
 
 abbrev pub selects : List Wire → ℕ
-selects = gatesOf 8
+selects = gatesWith 8

@@ -1,16 +1,17 @@
 // How a wire's gate is garbled.
 ghost use mathlib.Core.Path.{_≡_};
-ghost use Rattle.counts.specs.Recipe.{recipe};
+ghost use Rattle.counts.specs.Recipe.{squareOrProduct, recipe};
 use words::Choice;
 use words::Gate;
 use words::Pair;
 use words::Scaling;
 use words::Wire;
 
-// Where the images of a table stand: in the words of the circuit file, from the index of the image of 0 on. (A struct, since nothing
-// can be read out of an enum of one variant; a second sort of table makes it an enum.)
-pub struct Images {
-    pub table: u32,
+// The images of a table. `File`: in the words of the circuit file, from the index of the image of 0 on. `Squares`: each value's
+// square, in no file.
+pub enum Images {
+    File(u32),
+    Squares,
 }
 
 // A table of the values of wire `a`.
@@ -30,6 +31,20 @@ pub enum Recipe {
     Choice(Choice),
 }
 
+// A product of two wires. One of a wire with itself is a table, at half the rows.
+fn square_or_product(g: Pair) -> Recipe
+    ensures { λ r. ⌜ r ≡ squareOrProduct g ⌝ }
+{
+    if g.a == g.b {
+        Recipe::Table(Lookup {
+            a: g.a,
+            images: Images::Squares,
+        })
+    } else {
+        Recipe::Product(g)
+    }
+}
+
 pub fn recipe_of(wire: Wire) -> Recipe
     ensures { λ r. ⌜ r ≡ recipe wire ⌝ }
 {
@@ -38,10 +53,10 @@ pub fn recipe_of(wire: Wire) -> Recipe
         Gate::Input(_) => Recipe::Entered,
         Gate::Add(g) => Recipe::Sum(g),
         Gate::Scale(g) => Recipe::Multiple(g),
-        Gate::Multiply(g) => Recipe::Product(g),
+        Gate::Multiply(g) => square_or_product(g),
         Gate::Project(g) => Recipe::Table(Lookup {
             a: g.a,
-            images: Images { table: g.table },
+            images: Images::File(g.table),
         }),
         Gate::Select(g) => Recipe::Choice(g),
     }

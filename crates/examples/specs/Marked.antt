@@ -142,7 +142,7 @@ input p = record { gate = Input (record { owner = 0 }); modulus = p }
 
 unfoldable pub counts : List ℕ
 counts =
-    rowsIn (input 251 ∷ record { gate = Multiply (record { a = 0; b = 0 }); modulus = 251 } ∷ [])
+    rowsIn (input 251 ∷ input 251 ∷ record { gate = Multiply (record { a = 0; b = 1 }); modulus = 251 } ∷ [])
     ∷ rowsIn (input 2 ∷ record { gate = Select (record { bit = 0; a = 0; b = 0 }); modulus = 2 } ∷ [])
     ∷ rowsIn (input 2 ∷ record { gate = Project (record { a = 0; table = 3 }); modulus = 2 } ∷ [])
     ∷ []

@@ -4,6 +4,7 @@ use mathlib.Core.List.{List, [], _∷_}
 use Prim.Native.Nat.{ℕ}
 use Rattle.words.specs.declared.gate.Wire.{Wire}
 use Rattle.circuit.specs.File.{readFile}
+use Rattle.counts.specs.declared.recipe.Images.the-variants.{File}
 use Rattle.counts.specs.Recipe.{imageOf}
 use Rattle.pads.specs.Pad.{shakePad}
 use Rattle.scheme.specs.Draw.{drawn}
@@ -24,7 +25,7 @@ unfoldable pub rowZero : List ℕ
 rowZero =
     let wires : List Wire = readFile circuit .wires in
     let from : Source = sourceOf wires (drawn 2 1 wires contributions) 1 in
-    tableRow (shakePad 0x0403_0201) 2 1 1 (imageOf circuit (record { table = 3 }) 251) 2 (from .wire 0) (from .offset 2) 251 (from .drawn 0) (from .offset 251) 0
+    tableRow (shakePad 0x0403_0201) 2 1 1 (imageOf circuit (File 3) 251) 2 (from .wire 0) (from .offset 2) 251 (from .drawn 0) (from .offset 251) 0
 
 -- the two bytes that an independent program gives: compare/row.py, with SHAKE256 of python's hashlib
 unfoldable pub computed : List ℕ

@@ -1,21 +1,25 @@
 -- The plain value of a wire by its recipe, from the values of lower wires: what a gate is garbled as computes what the gate does.
 -- Assumes nothing.
-use mathlib.Core.Path.{_≡_, refl, ap, ap₂, _∙_}
+use mathlib.Core.Path.{_≡_, refl, sym, ap, ap₂, _∙_}
+use mathlib.Core.Bool.{Bool, true, false}
 use mathlib.Core.List.{List}
 use Prim.Native.Nat.{ℕ, _<_}
 use native.Mathlib.Omega.{arith}
+use borrow.Author.Tests.{eqb-true}
 use lib.Dec.{eqb}
 use lib.ListN.{length, getD}
 use Rattle.lists.proofs.Grown.{getD-grown, getD-grown-below}
 use Rattle.residue.specs.Residue.{add, mul}
 use Rattle.words.specs.declared.gate.Gate.{Gate}
 use Rattle.words.specs.declared.gate.Gate.the-variants.{Input, Add, Scale, Multiply, Project, Select}
+use Rattle.words.specs.declared.gate.Pair.{Pair}
 use Rattle.words.specs.declared.gate.Wire.{Wire}
 use Rattle.circuit.specs.Wires.{wireAt, modulusAt}
 use Rattle.circuit.specs.Accepted.{GateFits, AcceptedCircuit}
+use Rattle.counts.specs.declared.recipe.Images.the-variants.{Squares}
 use Rattle.counts.specs.declared.recipe.Recipe.{Recipe}
 use Rattle.counts.specs.declared.recipe.Recipe.the-variants.{Entered, Sum, Multiple, Table, Product, Choice}
-use Rattle.counts.specs.Recipe.{recipeOf, recipe, imageOf}
+use Rattle.counts.specs.Recipe.{isSquare, squareOrProduct, recipeOf, recipe, imageOf}
 use Rattle.plain.specs.Plain.{chosenBy, plainBy, plainTo, plainValues}
 
 -- the value of wire w, of modulus p, by its recipe
@@ -27,6 +31,17 @@ valueBy file inputs w p (Table g) value = imageOf file (g .images) p (value (g .
 valueBy file inputs w p (Product g) value = mul p (value (g .a)) (value (g .b))
 valueBy file inputs w p (Choice g) value = chosenBy (eqb (value (g .bit)) 0) (value (g .a)) (value (g .b))
 
+-- a square's image is its plain value
+square-image : (file : List ℕ) (p : ℕ) (g : Pair) (value : ℕ → ℕ) → isSquare g ≡ true → mul p (value (g .a)) (value (g .b)) ≡ imageOf file Squares p (value (g .a))
+unfolding imageOf
+square-image file p g value e = ap (λ (b : ℕ). mul p (value (g .a)) (value b)) (sym (eqb-true (g .a) (g .b) e))
+
+multiply-value : (file inputs : List ℕ) (w p : ℕ) (g : Pair) (value : ℕ → ℕ) (square : Bool) → isSquare g ≡ square
+    → mul p (value (g .a)) (value (g .b)) ≡ valueBy file inputs w p (squareOrProduct g) value
+unfolding valueBy
+multiply-value file inputs w p g value true e = square-image file p g value e ∙ rw e
+multiply-value file inputs w p g value false e = rw e
+
 -- it is that of the gate
 same-value : (file inputs : List ℕ) (w p : ℕ) (gate : Gate) (value : ℕ → ℕ)
     → plainBy file inputs w p gate value ≡ valueBy file inputs w p (recipeOf gate p) value
@@ -34,7 +49,7 @@ unfolding plainBy valueBy imageOf
 same-value file inputs w p (Input g) value = refl
 same-value file inputs w p (Add g) value = refl
 same-value file inputs w p (Scale g) value = refl
-same-value file inputs w p (Multiply g) value = refl
+same-value file inputs w p (Multiply g) value = multiply-value file inputs w p g value (isSquare g) refl
 same-value file inputs w p (Project g) value = refl
 same-value file inputs w p (Select g) value = refl
 

@@ -32,14 +32,19 @@ pub fn linear_factors(p: u8, start: u8, step: u8) -> [u8; 256]
     factors
 }
 
-// The image of `v` by a table: in the file, bits 7 to 0 of its word, so the first of its bytes.
+// The image of `v` by a table: in the file, bits 7 to 0 of its word, so the first of its bytes; or the square, modulo `q`.
 pub fn image_of(file: &[u8], images: Images, q: u8, v: u8) -> u8
-    requires { ⌜ ImageHeld (now file) v images ⌝ }
+    requires { ⌜ ImageHeld (now file) v images × (0 < q) ⌝ }
     ensures { λ r. ⌜ r ≡ imageOf (now (file .entry)) images q v ⌝ }
 {
-    let entry = images.table as usize + v as usize;
-    let at = 4 * entry;
-    file[at]
+    match images {
+        Images::File(table) => {
+            let entry = table as usize + v as usize;
+            let at = 4 * entry;
+            file[at]
+        }
+        Images::Squares => mul(q, v, v),
+    }
 }
 
 // The image of alpha - mask, by a table of the values below `p`, plus the share, modulo `q`.

@@ -45,7 +45,7 @@ fn row_of(made: Made, q: u8, component: u8) -> Row
     }
 }
 
-// A projection from modulus `q`: `a` and `offset` are those of the wire that is projected, `z` is the record's, and `given` the offsets of the gate's modulus.
+// A table over a wire of modulus `q`: `a` and `offset` are those of that wire, `z` is the record's, and `given` the offsets of the gate's modulus.
 pub fn table_rows(
     made: Made,
     file: &[u8],

@@ -67,7 +67,7 @@ pub record Source : Type 0 where
   pub wire : ℕ → Keyed
   pub drawn : ℕ → Keyed
 
--- the rows of wire w, of modulus p, by its recipe; the file has the tables
+-- the rows of wire w, of modulus p, by its recipe; the file has the projections' tables
 module _ (pad : Pad) (n K w p : ℕ) (file : List ℕ) (from : Source) where
   unfoldable pub rowsFrom : Recipe → List ℕ
   rowsFrom Entered = []

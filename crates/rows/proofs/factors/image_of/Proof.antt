@@ -1,9 +1,12 @@
--- `rows::factors::image_of` meets its contract: the byte that is read is the image.
+-- `rows::factors::image_of` meets its contract: the byte that is read is the image, or the product that is made.
 -- Assumes nothing.
+use mathlib.Core.Path.{sym, ap, _∙_}
 use Prim.Native.Nat.{_+_, _*_}
 use native.Mathlib.Omega.{arith}
 use Rattle.plain.proofs.Arms.{image-byte}
 use Rattle.counts.specs.Recipe.{imageOf}
+use Rattle.counts.specs.declared.recipe.Images.{Images}
+use Rattle.counts.proofs.Recipes.{in-file}
 use borrow.Author.Needs.{needs}
 use Rattle.rows.proofs.factors.image_of.Statement.{statement}
 use Rattle.rows.proofs.factors.image_of.Tie as tie
@@ -17,4 +20,11 @@ image-of-spec =
     (λ c. search needs)
     (λ c. search needs)
     (λ c. search needs)
-    (λ c. image-byte (c .before .before .args .file .now) (c .before .before .args .images .table + c .before .before .args .v) (c .shared-slice-known .given (4 * (c .before .before .args .images .table + c .before .before .args .v)) .fits)))
+    (λ c. omega (arith, in-file (c .before .before .images .given .1) (c .before .before .before .before .before .pre .0)))
+    (λ c. search needs)
+    (λ c κs. c .before .before .before .pre .1)
+    (λ c. let a = c .before .before .before .before .before .args in
+    image-byte (a .file .now) (c .before .before .images .given .0 .0 + a .v) (c .shared-slice-known2 .given (4 * (c .before .before .images .given .0 .0 + a .v)) .fits)
+    ∙ ap (λ (i : Images). imageOf (a .file .now) i (a .q) (a .v)) (sym (c .before .before .images .given .1)))
+    (λ c. let a = c .before .before .before .before .args in
+    c .mul .ensures ∙ ap (λ (i : Images). imageOf (a .file .now) i (a .q) (a .v)) (sym (c .before .enum-told .given .1))))

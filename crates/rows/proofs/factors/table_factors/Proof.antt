@@ -27,7 +27,7 @@ table-factors-spec =
     (λ c. none-stand _ _ (c .no-factors .ensures) (c .before .before .fits .p .fits))
     (λ c. search needs)
     (λ c κs. (c .loop-test .taken, c .before .before .before .before .pre .1 .0))
-    (λ c κs. c .before .before .before .before .before .pre .0 .held (c .sub .result) (sub-small _ _ (omega (arith, c .before .loop-test .taken)) (c .sub .ensures)))
+    (λ c κs. (c .before .before .before .before .before .pre .0 .held (c .sub .result) (sub-small _ _ (omega (arith, c .before .loop-test .taken)) (c .sub .ensures)), omega (arith, c .before .before .before .before .before .pre .1 .1)))
     (λ c κs. (below-as (c .image-of .ensures) (c .before .before .before .before .before .before .pre .0 .below (c .before .sub .result) (sub-small _ _ (omega (arith, c .before .before .loop-test .taken)) (c .before .sub .ensures))), c .before .before .before .before .before .before .pre .1 .1))
     (λ c. omega (arith, c .before .before .before .loop-test .taken, c .before .before .before .before .before .before .before .fits .p .fits, c .before .before .before .before .loop .inv .kept, c .before .before .before .before .before .no-factors .ensures))
     (λ c. omega (arith, c .before .before .before .loop-test .taken))

@@ -1,0 +1,12 @@
+-- `counts::square_or_product` meets its contract: a square or a product, by the test of the `if`. Assumes nothing.
+use mathlib.Core.Path.{sym}
+use Rattle.counts.proofs.Recipes.{a-square, a-product}
+use Rattle.counts.proofs.recipe.square_or_product.Statement.{statement}
+use Rattle.counts.proofs.recipe.square_or_product.Tie as tie
+
+pub square-or-product-spec : {M : Type 1} → statement M
+square-or-product-spec =
+    tie.close
+    (tie.spec
+    (λ c. sym (a-square (c .before .before .args .g) (c .if1 .taken)))
+    (λ c. sym (a-product (c .before .before .args .g) (c .if1 .left))))
