@@ -16,7 +16,7 @@ use Rattle.words.specs.declared.gate.Scaling.{Scaling}
 use Rattle.words.specs.declared.gate.Choice.{Choice as Chosen}
 use Rattle.circuit.specs.Wires.{wireAt, modulusAt, isInput, inputsIn}
 use Rattle.circuit.specs.Accepted.{GateFits, PairFits, ScalingFits, ChoiceFits, AcceptedCircuit}
-use Rattle.residue.proofs.Moduli.{isPrime→Prime}
+use Rattle.circuit.proofs.Moduli.{wire-positive}
 use Rattle.residue.proofs.Vectors.{mul-below}
 use Rattle.counts.specs.declared.recipe.Images.{Images}
 use Rattle.counts.specs.declared.recipe.Images.the-variants.{File, Squares}
@@ -63,9 +63,6 @@ inside : (i n : ℕ) → i < n / 4 → 4 * i < n
 inside i n l = omega arith
 
 module _ {file : List ℕ} {wires : List Wire} {outputs : List ℕ} (accepted : AcceptedCircuit file wires outputs) (w : ℕ) (made : w < length wires) where
-  positive : 0 < modulusAt wires w
-  positive = omega (arith, isPrime→Prime (modulusAt wires w) (accepted .fits w made .prime) .two)
-
   by-square : {g : Pair} (square : Bool) → isSquare g ≡ square → PairFits wires w g → RecipeFits file wires w (squareOrProduct g)
   unfolding imageOf
   by-square true e fits =
@@ -73,7 +70,7 @@ module _ {file : List ℕ} {wires : List Wire} {outputs : List ℕ} (accepted : 
       (table
       (record {
         lower = fits .a .lower;
-        images = record { held = λ v h. ImageHeld.computed; below = λ v h. mul-below positive _ _ };
+        images = record { held = λ v h. ImageHeld.computed; below = λ v h. mul-below (wire-positive accepted w made) _ _ };
       }))
   by-square false e fits = rw e (product fits)
 

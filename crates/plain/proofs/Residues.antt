@@ -11,7 +11,6 @@ use borrow.Author.Tests.{ltb-true}
 use lib.Dec.{ltb, eqb}
 use lib.ListN.{length, getD, set, length-set, List·getD-append}
 use lib.Seq.{getD-take, getD-at, take-suc-set}
-use Rattle.residue.proofs.Moduli.{isPrime→Prime}
 use Rattle.residue.proofs.Vectors.{add-below, mul-below}
 use Rattle.residue.specs.Residue.{add, mul}
 use Rattle.words.specs.Bits.{image, wordAt}
@@ -19,6 +18,7 @@ use Rattle.words.specs.declared.gate.Gate.{Gate}
 use Rattle.words.specs.declared.gate.Wire.{Wire}
 use Rattle.circuit.specs.Wires.{wireAt, modulusAt, inputsIn, isInput}
 use Rattle.circuit.specs.Accepted.{GateFits, Alike}
+use Rattle.circuit.proofs.Moduli.{wire-positive}
 use Rattle.lists.specs.Grown.{grown, extended}
 use Rattle.lists.proofs.Grown.{length-grown}
 use Rattle.plain.specs.Plain.{chosenBy, plainBy, plainTo}
@@ -48,7 +48,7 @@ module _ {file : List ℕ} {wires : List Wire} {outputs values : List ℕ} (fed 
   p = modulusAt wires w
 
   positive : 0 < p
-  positive = omega (arith, isPrime→Prime p (fed .accepted .fits w h .prime) .two)
+  positive = wire-positive (fed .accepted) w h
 
   module _ (look : ℕ → ℕ) (lower : (a : ℕ) → a < w → look a < modulusAt wires a) where
     alike : {a : ℕ} → Alike wires w a → look a < p

@@ -33,6 +33,10 @@ abbrev pub ownAfter : List ℕ → ℕ → List Wire → List ℕ → List ℕ �
 ownAfter file n wires values masks party =
     externalsAfter file n party (ownOf wires values party) (ownOf wires masks party) (replicate (length (ownInputs party wires)) 0)
 
+-- and that at the wires of the party's inputs
+abbrev pub ownScattered : List ℕ → ℕ → List Wire → List ℕ → List ℕ → ℕ → List ℕ → List ℕ
+ownScattered file n wires values masks party before = scattered party wires (ownAfter file n wires values masks party) before
+
 -- the promise of that call
 abbrev pub OwnCall : List ℕ → ℕ → List Wire → List ℕ → List ℕ → ℕ → ℕ → ℕ → Type 0
 OwnCall file n wires values masks party number place =
@@ -43,7 +47,7 @@ OwnCall file n wires values masks party number place =
 unfoldable pub gathered : List ℕ → ℕ → List Wire → List ℕ → List ℕ → List ℕ → ℕ → List ℕ
 gathered file n wires values masks before zero = before
 gathered file n wires values masks before (suc party) =
-    scattered party wires (ownAfter file n wires values masks party) (gathered file n wires values masks before party)
+    ownScattered file n wires values masks party (gathered file n wires values masks before party)
 
 -- each party's call was made, and what they wrote stands at their inputs' wires
 pub record Masked (file : List ℕ) (n : ℕ) (wires : List Wire) (values masks before after : List ℕ) : Type 0 where

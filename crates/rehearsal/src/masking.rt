@@ -6,7 +6,7 @@ ghost use Rattle.circuit.specs.Wires.{inputsIn};
 ghost use Rattle.circuit.specs.File.{readFile};
 ghost use Rattle.circuit.specs.Held.{wiresIn, Held};
 ghost use Rattle.calls.specs.Externals.{ExternalsCall};
-ghost use Rattle.rehearsal.specs.Hosts.{scattered, ownAfter, OwnCall, Masked};
+ghost use Rattle.rehearsal.specs.Hosts.{ownScattered, OwnCall, Masked};
 use super::hosts::blank;
 use super::hosts::picked;
 use super::hosts::scatter;
@@ -49,7 +49,7 @@ pub fn party_externals(
 ) -> Reported
     requires { ⌜ Held circuit × (length (now externals) ≡ circuit .inputs) ⌝ }
     ensures { λ r. ⌜ OwnCall (now (file .entry)) n (wiresIn circuit) (now (values .entry)) (now (masks .entry)) party (r .number) (r .place)
-        × (now (externals .exit) ≡ scattered party (wiresIn circuit) (ownAfter (now (file .entry)) n (wiresIn circuit) (now (values .entry)) (now (masks .entry)) party) (now (externals .entry))) ⌝ }
+        × (now (externals .exit) ≡ ownScattered (now (file .entry)) n (wiresIn circuit) (now (values .entry)) (now (masks .entry)) party (now (externals .entry))) ⌝ }
 {
     let count = counted(inputs_of(circuit, party));
     let own = picked(circuit, party, values);

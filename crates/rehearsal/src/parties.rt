@@ -66,8 +66,8 @@ pub fn open_all(
 )
     requires { ⌜ (length (now contributions) ≡ shares .n * shares .size) × ((length (now wkeys) ≡ shares .n * shares .wide)
         × ((length (now wexternals) ≡ shares .n * shares .long) × (shares .n ≤ 8))) ⌝ }
-    ensures { λ _. ⌜ OpenedByAll (now (file .entry)) (shares .n) (shares .k) (shares .round) (now (contributions .entry)) (shares .size) (now (externals .entry)) (now (keys .entry)) (now (rows .entry))
-        (shares .wide) (now (wkeys .entry)) (shares .long) (now (wexternals .entry)) (now (wkeys .exit)) (now (wexternals .exit)) ⌝ }
+    ensures { λ _. ⌜ OpenedByAll (now (file .entry)) (shares .n) (shares .k) (shares .round) (now (contributions .entry)) (shares .size) (now (externals .entry)) (now (keys .entry))
+        (now (rows .entry)) (shares .wide) (now (wkeys .entry)) (shares .long) (now (wexternals .entry)) (now (wkeys .exit)) (now (wexternals .exit)) ⌝ }
 {
     let n = shares.n;
     let k = shares.k;
