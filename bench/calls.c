@@ -1,8 +1,11 @@
-// Times the writing of a file, and garbling and one party's opening. A call and what it is set against are timed in turn, and medians of
-// many runs are taken, so that a busy machine slows both alike.
+// Times the calls of bundles, the writing of a file, and garbling and one party's opening. A call and what it is set against are timed in
+// turn, and medians of many runs are taken, so that a busy machine slows both alike.
 //
-// First, on the first file, `write-usual` and `records-usual`: `name ratio=R ns=T`, where T is the time of one call and R that time divided
-// by the time of reading the file.
+// First the calls of bundles, which need no file: `name ratio=R ns=T`, where T is the time of one call and R that time divided by that of a
+// loop in C that does the same and checks nothing. That is a hard measure: joining has its weights reckoned beforehand, and since the compiler
+// sees the primes, it makes multiplications of splitting's remainders (not of scaling's).
+//
+// Then, on the first file, `write-usual` and `records-usual`: the same line, where R is the time divided by the time of reading the file.
 //
 // Of garbling and opening, each line is `name ratio=R ns=T rows=N`: R is the time divided by that of as many of the baseline's Keccak
 // permutations as the call's pads need, N the number of rows garbled or opened.
@@ -18,7 +21,7 @@
 #include <string.h>
 #include <time.h>
 
-enum { MOST_RUNS = 31, LEAST_RUNS = 5, SHORT_RUNS = 41, SHORT_CALLS = 200 };
+enum { MOST_RUNS = 31, LEAST_RUNS = 5, SHORT_RUNS = 41, SHORT_CALLS = 200, BUNDLE_CALLS = 20000 };
 
 // a circuit, and a round on it
 static struct {
@@ -229,18 +232,18 @@ static void write_records(void) {
 }
 
 // the time of one of many calls, each too short for the clock
-static double time_of(void (*call)(void)) {
+static double time_of(void (*call)(void), int calls) {
     double start = now();
-    for (int i = 0; i < SHORT_CALLS; i++)
+    for (int i = 0; i < calls; i++)
         call();
-    return (now() - start) / SHORT_CALLS;
+    return (now() - start) / calls;
 }
 
-static void beside_reading(const char *name, void (*call)(void)) {
+static void beside(const char *name, void (*call)(void), void (*other)(void), int calls) {
     double times[SHORT_RUNS], ratios[SHORT_RUNS];
     for (int run = 0; run < SHORT_RUNS; run++) {
-        times[run] = time_of(call);
-        ratios[run] = times[run] / time_of(read_again);
+        times[run] = time_of(call, calls);
+        ratios[run] = times[run] / time_of(other, calls);
     }
     printf("%s ratio=%.2f ns=%.0f\n", name, median(ratios, SHORT_RUNS), median(times, SHORT_RUNS));
     fflush(stdout);
@@ -258,8 +261,124 @@ static void writing(void) {
         puts("a file's records are not written as the same bytes");
         exit(1);
     }
-    beside_reading("write-usual", write_records);
-    beside_reading("records-usual", load_records);
+    beside("write-usual", write_records, read_again, SHORT_CALLS);
+    beside("records-usual", load_records, read_again, SHORT_CALLS);
+}
+
+// ---- bundles; what the engine writes, and what a loop in C writes in its place
+
+static const uint64_t primes[10] = {2, 3, 5, 7, 11, 13, 17, 19, 23, 29};
+
+static struct {
+    uint32_t r, words, words_in_c;
+    uint64_t product, constant, integer, joined, joined_in_c;
+    uint64_t weights[10]; // 1 modulo the prime of the same place, 0 modulo the others
+    uint8_t residues[10], residues_in_c[10], part[4 * 139], part_in_c[4 * 139];
+} b;
+
+static void split(void) {
+    must(lupiknam_bundle_split(b.r, b.integer, b.residues, b.r), "bundle_split");
+}
+
+__attribute__((noinline)) static void split_in_c(void) {
+    for (uint32_t i = 0; i < b.r; i++)
+        b.residues_in_c[i] = (uint8_t)(b.integer % primes[i]);
+}
+
+static void join(void) {
+    must(lupiknam_bundle_join(b.r, b.residues, b.r, &b.joined), "bundle_join");
+}
+
+__attribute__((noinline)) static void join_in_c(void) {
+    uint64_t sum = 0;
+    for (uint32_t i = 0; i < b.r; i++)
+        sum += b.residues[i] * b.weights[i];
+    b.joined_in_c = sum % b.product;
+}
+
+static uint8_t *lay(uint8_t *at, uint32_t laid) {
+    for (int byte = 0; byte < 4; byte++)
+        *at++ = (uint8_t)(laid >> 8 * byte);
+    return at;
+}
+
+// bundles at wires 0 and 100, the part at 200
+static void add(void) {
+    must(lupiknam_bundle_add(b.r, 200, 0, 100, b.part, sizeof b.part, &b.words), "bundle_add");
+}
+
+static void multiply(void) {
+    must(lupiknam_bundle_multiply(b.r, 200, 0, 100, b.part, sizeof b.part, &b.words), "bundle_multiply");
+}
+
+static void scale(void) {
+    must(lupiknam_bundle_scale(b.r, 200, b.constant, 0, b.part, sizeof b.part, &b.words), "bundle_scale");
+}
+
+static void pairs_in_c(uint32_t kind) {
+    uint8_t *at = b.part_in_c;
+    for (uint32_t i = 0; i < b.r; i++)
+        at = lay(at, kind << 28 | i << 10 | (100 + i));
+    b.words_in_c = b.r;
+}
+
+__attribute__((noinline)) static void add_in_c(void) {
+    pairs_in_c(3);
+}
+
+__attribute__((noinline)) static void multiply_in_c(void) {
+    pairs_in_c(5);
+}
+
+__attribute__((noinline)) static void scale_in_c(void) {
+    uint8_t *at = b.part_in_c;
+    for (uint32_t i = 0; i < b.r; i++) {
+        uint32_t p = (uint32_t)primes[i], constant = (uint32_t)(b.constant % primes[i]);
+        at = lay(at, constant ? 4u << 28 | constant << 10 | i : 6u << 28 | p << 10 | i);
+        for (uint32_t value = 0; constant == 0 && value < p; value++)
+            at = lay(at, 7u << 28);
+    }
+    b.words_in_c = (uint32_t)(at - b.part_in_c) / 4;
+}
+
+// both must have written the same before they are timed
+static void beside_c(const char *name, void (*call)(void), void (*in_c)(void)) {
+    call();
+    in_c();
+    if (memcmp(b.residues, b.residues_in_c, b.r) != 0 || b.joined != b.joined_in_c || b.words != b.words_in_c
+        || memcmp(b.part, b.part_in_c, 4 * (size_t)b.words) != 0) {
+        printf("%s: the engine writes something else than C\n", name);
+        exit(1);
+    }
+    beside(name, call, in_c, BUNDLE_CALLS);
+}
+
+static void take_primes(uint32_t r) {
+    b.r = r;
+    b.product = 1;
+    for (uint32_t i = 0; i < r; i++)
+        b.product *= primes[i];
+    for (uint32_t i = 0; i < r; i++)
+        for (b.weights[i] = b.product / primes[i]; b.weights[i] % primes[i] != 1;)
+            b.weights[i] += b.product / primes[i];
+    b.integer = b.product - 1 - b.product / 7;
+}
+
+static void bundles(void) {
+    char name[60];
+    for (size_t at = 0; at < 3; at++) {
+        take_primes((uint32_t[]){2, 5, 10}[at]);
+        snprintf(name, sizeof name, "split-r%u", (unsigned)b.r);
+        beside_c(name, split, split_in_c);
+        snprintf(name, sizeof name, "join-r%u", (unsigned)b.r);
+        beside_c(name, join, join_in_c);
+    }
+    beside_c("part-add-r10", add, add_in_c);
+    beside_c("part-multiply-r10", multiply, multiply_in_c);
+    b.constant = 15; // 18 words, two projects among them
+    beside_c("part-scale15-r10", scale, scale_in_c);
+    b.constant = 0; // 139 words
+    beside_c("part-scale0-r10", scale, scale_in_c);
 }
 
 static void both(const char *what, uint32_t n, uint32_t k) {
@@ -275,6 +394,7 @@ static void both(const char *what, uint32_t n, uint32_t k) {
 int main(int count, char **files) {
     if (count < 2)
         return 2;
+    bundles();
     read_file(files[1]);
     writing();
     for (size_t at = 0; at < 6; at++)

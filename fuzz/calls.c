@@ -1,11 +1,13 @@
 /*
- * Fuzzing of the C face: a libFuzzer harness over the ten calls of lupiknam.h. fuzz/run builds and runs it; docs/ROBUSTNESS.md says what
- * it can see and what it cannot.
+ * Fuzzing of the C face: a libFuzzer harness over the fifteen calls of lupiknam.h. fuzz/run builds and runs it; docs/ROBUSTNESS.md says
+ * what it can see and what it cannot.
  *
  * An input is a head, `struct head`, and a circuit file. The file is lent as it stands, or mended into one that the reader must accept, or
  * mended and then damaged in one place. Each call is made once with loose lengths and contents. The file's words are written again from
- * their records, as they are and with one fault each. Where the circuit is accepted and n, K and party are in range, a whole round is
- * played, and then some of its calls again with one fault each, or two bytes too large, whose answer is known.
+ * their records, as they are and with one fault each. The calls of bundles, which read no file, are made with the head's numbers as they
+ * stand, mended, and with one fault or two; their whole answer is known. A part is also set into a circuit of its own, which is evaluated.
+ * Where the circuit is accepted and n, K and party are in range, a whole round is played, and then some of its calls again with one fault
+ * each, or two bytes too large, whose answer is known.
  *
  * Every buffer lies against a page that faults when it is touched; what a call only reads is lent by a mapping that faults when it is
  * written. What a call writes is filled first with 255, which is below no modulus: so a byte that an accepted call leaves out shows, and so
@@ -19,9 +21,10 @@
 #include <sys/mman.h>
 #include <unistd.h>
 
-enum { MOST_WIRES = 1024, MOST_OUTPUTS = 256, MOST_WORDS = 1 << 16, MOST_ROWS = 1 << 19, PRIMES = 54, NUMBERS = 23 };
+enum { MOST_WIRES = 1024, MOST_OUTPUTS = 256, MOST_WORDS = 1 << 16, MOST_ROWS = 1 << 19, PRIMES = 54, NUMBERS = 25 };
 enum { FILL = 255, SLACK = 256 };   /* what written buffers hold before a call, and how far around them it is looked at afterwards */
 enum { MOST_PERMUTATIONS = 60000 }; /* of a round: about 20 ms; a dearer one is not played */
+enum { MOST_R = 10, MOST_PART = 139 }; /* primes of a bundle, and words of a part */
 
 static void fail(const char *what) {
     fprintf(stderr, "property broken: %s\n", what);
@@ -49,10 +52,12 @@ struct head {
     uint8_t loose; /* what loose calls are filled with */
     uint32_t n, k, party, meter, seed, damage, round;
     struct fault faults[FAULTS];
+    uint32_t r, first, a, b; /* of the calls of bundles */
+    uint64_t integer;
 };
 
 static struct head head;
-_Static_assert(sizeof head == 48, "fuzz/run writes heads of 48 bytes");
+_Static_assert(sizeof head == 72, "fuzz/run writes heads of 72 bytes");
 
 static uint64_t random_state;
 
@@ -79,11 +84,11 @@ static struct buffer own_values = ROOM(4096), own_masks = ROOM(4096), own_extern
 static struct buffer contributions = ROOM(1 << 22), contribution = ROOM(1 << 20), rows = ROOM(1 << 21);
 static struct buffer own_keys = ROOM(1 << 18), keys = ROOM(1 << 21), wire_keys = ROOM(1 << 21), wire_externals = ROOM(4096);
 static struct buffer decoded = ROOM(4096), records = ROOM(1 << 21), tables = ROOM(1 << 17), written_file = ROOM(1 << 19);
-static struct buffer written_words = ROOM(4096);
+static struct buffer written_words = ROOM(4096), residues = ROOM(4096), integer = ROOM(4096), part = ROOM(4096), part_words = ROOM(4096);
 
 static struct buffer *const all[] = {&file, &numbers, &count, &meter, &values, &figures, &input_masks, &output_masks, &own_values,
     &own_masks, &own_externals, &externals, &contributions, &contribution, &rows, &own_keys, &keys, &wire_keys, &wire_externals, &decoded,
-    &records, &tables, &written_file, &written_words};
+    &records, &tables, &written_file, &written_words, &residues, &integer, &part, &part_words};
 enum { BUFFERS = sizeof all / sizeof all[0] };
 
 /* Room bytes of a shared object, with a page before and after that faults. */
@@ -276,10 +281,17 @@ static void list_own(void) {
             own_wire[own++] = (uint16_t)w;
 }
 
-/* The length that a buffer must have, and below what each of its bytes must be. */
+/* What the calls of bundles are given; the integer is also a scale's constant. */
+static struct {
+    uint32_t r, first, a, b;
+    uint64_t integer;
+} bundle;
+
+/* The length that a buffer must have, and below what each of its bytes must be. A part's depends on the call; here it is that of a sum. */
 static size_t exact(const struct buffer *b) {
     const size_t row = (size_t)n * k;
-    return b == &numbers ? 24 : b == &count || b == &meter || b == &written_words ? 4
+    return b == &numbers ? 24 : b == &count || b == &meter || b == &written_words || b == &part_words ? 4 : b == &integer ? 8
+        : b == &residues ? bundle.r % (MOST_R + 1) : b == &part ? 4 * (bundle.r % (MOST_R + 1))
         : b == &records ? (counts.wires + counts.outputs) * sizeof(lupiknam_record) : b == &tables ? entries
         : b == &written_file ? file.length
         : b == &contributions ? n * contribution_size() : b == &contribution ? contribution_size()
@@ -293,17 +305,17 @@ static unsigned modulus_at(const struct buffer *b, size_t i) {
     const size_t row = (size_t)n * k;
     return b == &contributions || b == &contribution ? contribution_modulus[i % contribution_size()]
         : b == &rows ? row_modulus[i / row] : b == &keys || b == &wire_keys ? modulus[i / row] : b == &own_keys ? modulus[i / k]
-        : b == &own_values || b == &own_masks || b == &own_externals ? modulus[own_wire[i]]
+        : b == &own_values || b == &own_masks || b == &own_externals ? modulus[own_wire[i]] : b == &residues ? primes[i]
         : b == &figures || b == &output_masks || b == &decoded ? modulus[output_wire[i]] : modulus[i];
 }
 
 /* ---- one call, and what holds of every call */
 
-enum call { READ, INPUTS_OF, PLAIN, GARBLE, EXTERNALS, INPUT_KEYS, OPEN, DECODE, RECORDS, WRITE, CALLS };
+enum call { READ, INPUTS_OF, PLAIN, GARBLE, EXTERNALS, INPUT_KEYS, OPEN, DECODE, RECORDS, WRITE, SPLIT, JOIN, ADD, MULTIPLY, SCALE, CALLS };
 enum { TAKES_N = 1, TAKES_K = 2, TAKES_PARTY = 4 };
 #define BITS(from, to) ((2u << (to)) - (1u << (from)))
 
-/* What each call is given besides the file, what it writes, and with which numbers it may refuse. WRITE alone is given no file. */
+/* What each call is given besides the file, what it writes, and with which numbers it may refuse. From WRITE on none is given a file. */
 static const struct {
     const char *name;
     uint32_t given, refusals;
@@ -320,6 +332,11 @@ static const struct {
     {"decode", 0, BITS(1, 10) | BITS(14, 15), {&wire_externals, &output_masks}, {&decoded}},
     {"records", 0, BITS(1, 10) | BITS(14, 14), {0}, {&records, &tables}},
     {"write", 0, BITS(2, 9) | BITS(14, 14) | BITS(22, 22), {&records, &tables}, {&written_file, &written_words}},
+    {"bundle_split", 0, BITS(14, 14) | BITS(23, 24), {0}, {&residues}},
+    {"bundle_join", 0, BITS(14, 14) | BITS(23, 24), {&residues}, {&integer}},
+    {"bundle_add", 0, BITS(5, 5) | BITS(8, 8) | BITS(22, 23), {0}, {&part, &part_words}},
+    {"bundle_multiply", 0, BITS(5, 5) | BITS(8, 8) | BITS(22, 23), {0}, {&part, &part_words}},
+    {"bundle_scale", 0, BITS(5, 5) | BITS(8, 8) | BITS(22, 24), {0}, {&part, &part_words}},
 };
 
 /* What libFuzzer is told besides its own coverage of this file: which call gave which answer, which word or record met which refusal. */
@@ -361,9 +378,19 @@ static lupiknam_answer call(enum call c) {
         return lupiknam_decode(f, file.length, IN(wire_externals), IN(output_masks), OUT(decoded));
     case RECORDS:
         return lupiknam_records(f, file.length, (lupiknam_record *)(void *)lent(&records), record_count(), OUT(tables));
-    default:
+    case WRITE:
         return lupiknam_write((const lupiknam_record *)(const void *)shown(&records), record_count(), IN(tables), OUT(written_file),
             (uint32_t *)(void *)bytes(&written_words));
+    case SPLIT:
+        return lupiknam_bundle_split(bundle.r, bundle.integer, OUT(residues));
+    case JOIN:
+        return lupiknam_bundle_join(bundle.r, IN(residues), (uint64_t *)(void *)bytes(&integer));
+    case ADD:
+        return lupiknam_bundle_add(bundle.r, bundle.first, bundle.a, bundle.b, OUT(part), (uint32_t *)(void *)bytes(&part_words));
+    case MULTIPLY:
+        return lupiknam_bundle_multiply(bundle.r, bundle.first, bundle.a, bundle.b, OUT(part), (uint32_t *)(void *)bytes(&part_words));
+    default:
+        return lupiknam_bundle_scale(bundle.r, bundle.first, bundle.integer, bundle.a, OUT(part), (uint32_t *)(void *)bytes(&part_words));
     }
 }
 
@@ -371,6 +398,8 @@ static lupiknam_answer call(enum call c) {
 static int place_fits(enum call c, lupiknam_answer a) {
     const size_t words = file.length / 4;
     size_t longest = 0;
+    if (c > WRITE) /* no circuit, no place */
+        return a.place == 0;
     if (c == WRITE) /* 0 and 22 name no place */
         return a.number == 0 || a.number == 22 ? a.place == 0 : a.number == 9 ? a.place == record_count()
             : a.place < record_count() + (a.number == 14);
@@ -411,6 +440,83 @@ static void judge_file(void) {
         "what was written reads back as it was lent");
 }
 
+static uint64_t product(void) {
+    uint64_t all_of_them = 1;
+    for (uint32_t i = 0; i < bundle.r; i++)
+        all_of_them *= primes[i];
+    return all_of_them;
+}
+
+/* The words of a part, as the header tells them. */
+static uint32_t due_words[MOST_PART], due_count;
+
+static void list_part(enum call c) {
+    due_count = 0;
+    for (uint32_t i = 0; bundle.r <= MOST_R && i < bundle.r; i++) {
+        const uint32_t p = primes[i], constant = (uint32_t)(bundle.integer % p), a = bundle.a + i, b = bundle.b + i;
+        due_words[due_count++] = c == ADD ? 3u << 28 | a << 10 | b : c == MULTIPLY ? 5u << 28 | a << 10 | b
+            : constant > 0 ? 4u << 28 | constant << 10 | a : 6u << 28 | p << 10 | a;
+        for (uint32_t value = 0; c == SCALE && constant == 0 && value < p; value++)
+            due_words[due_count++] = 7u << 28;
+    }
+}
+
+static int residues_fit(void) {
+    for (uint32_t i = 0; i < bundle.r; i++)
+        if (bytes(&residues)[i] >= primes[i])
+            return 0;
+    return 1;
+}
+
+/* What a call of bundles must answer: its checks in their order. */
+static uint32_t bundle_refusal(enum call c) {
+    const uint64_t r = bundle.r;
+    if (r < 2 || r > MOST_R)
+        return 23;
+    if ((c == SPLIT || c == JOIN) && residues.length != r)
+        return 14;
+    if (c == JOIN ? !residues_fit() : (c == SPLIT || c == SCALE) && bundle.integer >= product())
+        return 24;
+    if (c == SPLIT || c == JOIN)
+        return 0;
+    if (bundle.a + r > bundle.first || (c != SCALE && bundle.b + r > bundle.first))
+        return 5;
+    return bundle.first + r > MOST_WIRES ? 8 : part.length < 4 * (size_t)due_count ? 22 : 0;
+}
+
+/* An accepted part: its words are those listed, and the buffer is as it was past them. */
+static void judge_part(void) {
+    const uint8_t *from = bytes(&part);
+    check(word_at(bytes(&part_words), 0) == due_count, "a part has as many words as are due");
+    for (size_t i = 0; i < due_count; i++)
+        check(word_at(from, i) == due_words[i], "a part has the words that are due");
+    check(all_are(from + 4 * (size_t)due_count, from + part.length, FILL), "nothing is written past a part's words");
+}
+
+/* An accepted split or join: the residues are those of the integer, which is below the product. */
+static void judge_residues(uint64_t of) {
+    check(of < product(), "an integer is below the product");
+    for (uint32_t i = 0; i < bundle.r; i++)
+        check(bytes(&residues)[i] == of % primes[i], "residues are those of the integer");
+}
+
+static uint64_t joined(void) {
+    uint64_t found;
+    memcpy(&found, bytes(&integer), sizeof found);
+    return found;
+}
+
+static void judge_bundle(enum call c, uint32_t number) {
+    const uint32_t due = bundle_refusal(c);
+    if (number != due)
+        fprintf(stderr, "%s: %u where %u is due\n", calls[c].name, (unsigned)number, (unsigned)due);
+    check(number == due, "a call of bundles answers as its checks say");
+    if (number == 0 && (c == SPLIT || c == JOIN))
+        judge_residues(c == SPLIT ? bundle.integer : joined());
+    else if (number == 0)
+        judge_part();
+}
+
 /* A written buffer after a call: nothing around it is changed, and its bytes are as the answer says. */
 static void judge_written(const struct buffer *b, uint32_t number, uint32_t meter_before) {
     const uint8_t *from = bytes(b), *to = from + b->length;
@@ -419,7 +525,8 @@ static void judge_written(const struct buffer *b, uint32_t number, uint32_t mete
         check((uint64_t)word_at(from, 0) == meter_before + (number == 0 ? (uint64_t)counts.rows : 0), "the meter counts accepted rows");
     else if (number != 0)
         check(all_are(from, to, number == 20 ? 0 : FILL), "a refused call leaves written buffers as they were, or zero after 20");
-    else if (b == &numbers || b == &count || b == &records || b == &tables || b == &written_words)
+    else if (b == &numbers || b == &count || b == &records || b == &tables || b == &written_words || b == &integer || b == &part
+        || b == &part_words)
         return; /* looked at where they are read */
     else if (b == &written_file)
         judge_file();
@@ -434,6 +541,7 @@ static lupiknam_answer make(enum call c) {
     for (int i = 0; i < 4 && written[i]; i++)
         memset(slack_start(written[i]), FILL, (size_t)(slack_end(written[i]) - slack_start(written[i])));
     memcpy(bytes(&meter), &before, 4);
+    list_part(c);
     lupiknam_answer a = call(c);
     check(a.number == 0 || (a.number < NUMBERS && calls[c].refusals >> a.number & 1), "a call answers with one of its own numbers");
     check(place_fits(c, a), "the place of an answer is one that there is");
@@ -441,6 +549,8 @@ static lupiknam_answer make(enum call c) {
         reading = a;
     if (c == WRITE)
         met_record[a.number][a.place < record_count() ? record(a.place)->kind % 16 : 0] = 1;
+    else if (c > WRITE)
+        judge_bundle(c, a.number);
     else if (reading.number != 0)
         check(a.number == reading.number && a.place == reading.place, "every call refuses a bad file alike");
     else
@@ -448,7 +558,7 @@ static lupiknam_answer make(enum call c) {
     met_answer[c][a.number] = 1;
     met[c][a.number]++;
     made_calls++;
-    if (c != WRITE && a.number > 0 && a.number <= 10 && a.place < file.length / 4)
+    if (c < WRITE && a.number > 0 && a.number <= 10 && a.place < file.length / 4)
         met_word[a.number][word_at(bytes(&file), a.place) >> 28] = 1;
     if (c == READ && a.number == 0)
         list_circuit();
@@ -645,7 +755,8 @@ static void loosen(struct buffer *b) {
 
 static void call_loosely(void) {
     for (size_t i = 1; i < BUFFERS; i++)
-        if (all[i] != &numbers && all[i] != &count && all[i] != &meter && all[i] != &written_words)
+        if (all[i] != &numbers && all[i] != &count && all[i] != &meter && all[i] != &written_words && all[i] != &integer
+            && all[i] != &part_words)
             loosen(all[i]);
     for (enum call c = INPUTS_OF; c < CALLS; c++) {
         memcpy(bytes(&meter), &head.meter, 4);
@@ -859,6 +970,164 @@ static void write_again(void) {
         for (int i = 0; i < FAULTS; i++)
             spoil_writing(head.faults[i]);
     }
+}
+
+/* ---- whole numbers: the calls of bundles, then with one fault or two each; make() judges every answer */
+
+/* The head's numbers, brought into range of a bundle of r. */
+static void mend_bundle(uint32_t r) {
+    bundle.r = r;
+    bundle.first = r + head.first % (MOST_WIRES - 2 * r + 1);
+    bundle.a = head.a % (bundle.first - r + 1);
+    bundle.b = head.b % (bundle.first - r + 1);
+    bundle.integer = head.integer % product();
+    set_length(&residues, r);
+    set_length(&part, 4 * MOST_PART);
+}
+
+enum { BUNDLE_TRIALS = 24 };
+enum { ODD_R, OTHER_RESIDUES, LARGE_INTEGER, LARGE_RESIDUE, HIGH_BUNDLE, LATE_PART, SHORT_PART, BUNDLE_FAULTS };
+COUNTERS static uint8_t met_bundle[CALLS][BUNDLE_FAULTS][NUMBERS];
+
+static void spoil_bundle(enum call c, unsigned kind, unsigned where) {
+    static const uint32_t odd[] = {0, 1, 11, 12, 255, 256 + 2, 1 << 16 | 5, 1u << 31 | 10};
+    const uint32_t r = bundle.r, high = bundle.first - r + 1;
+    list_part(c);
+    if (kind == ODD_R)
+        bundle.r = odd[where % 8];
+    else if (kind == OTHER_RESIDUES)
+        set_length(&residues, where % 2 ? r + 1 + where / 2 % 64 : where / 2 % r);
+    else if (kind == LARGE_INTEGER)
+        bundle.integer = where % 3 == 0 ? product() + where / 3 % 4 : where % 3 == 1 ? bundle.integer | 1ull << (33 + where / 3 % 31)
+            : UINT64_MAX - where / 3 % 4;
+    else if (kind == LARGE_RESIDUE && residues.length == r) /* every other time the prime itself */
+        bytes(&residues)[where % r] = (uint8_t)(primes[where % r] + where / 16 % 2 * (where / 32 % (256u - primes[where % r])));
+    else if (kind == HIGH_BUNDLE)
+        *(where & 1 ? &bundle.a : &bundle.b) = where & 2 ? UINT32_MAX - where / 4 % 16 : high + where / 4 % 16;
+    else if (kind == LATE_PART)
+        bundle.first = where & 1 ? UINT32_MAX - where / 2 % 16 : MOST_WIRES - r + where / 2 % 4;
+    else if (kind == SHORT_PART)
+        set_length(&part, where & 1 ? 4 * (size_t)due_count - 1 - where / 2 % 4 : where / 2 % (4 * (size_t)due_count + 8));
+}
+
+/* A call with one fault, and every other time with another before it: the first check that fails decides. An r that is out of range comes
+   last, since other faults go by r. */
+static void try_fault(enum call c, unsigned kind, unsigned where) {
+    mend_bundle(2 + drawn(MOST_R - 1));
+    must(SPLIT, 0, 0);
+    if (drawn(2))
+        spoil_bundle(c, 1 + drawn(BUNDLE_FAULTS - 1), drawn(1 << 16));
+    spoil_bundle(c, kind, where);
+    lupiknam_answer a = make(c);
+    met_bundle[c][kind][a.number] = 1;
+    faulty++;
+}
+
+/* A circuit with two bundles and a part, and the values of its inputs. */
+static struct {
+    uint8_t words[4 * (MOST_PART + 128)];
+    size_t length;
+    uint8_t values[128];
+    uint32_t wires, inputs;
+} small;
+
+static void put_small(uint32_t w) {
+    for (int i = 0; i < 4; i++)
+        small.words[small.length++] = (uint8_t)(w >> 8 * i);
+}
+
+static void small_input(uint8_t p, uint8_t value) {
+    put_small(2u << 28 | drawn(8) << 16 | p);
+    small.values[small.wires++] = value;
+}
+
+/* Inputs that are no part of a bundle. */
+static void small_filling(void) {
+    for (uint32_t i = drawn(4); i > 0; i--) {
+        const uint8_t p = primes[drawn(PRIMES)];
+        small_input(p, (uint8_t)drawn(p));
+    }
+}
+
+/* Inputs with an integer, as splitting has it; returns the first wire. */
+static uint32_t small_bundle(uint64_t of) {
+    const uint32_t first = small.wires;
+    bundle.integer = of;
+    must(SPLIT, 0, 0);
+    for (uint32_t i = 0; i < bundle.r; i++)
+        small_input(primes[i], bytes(&residues)[i]);
+    return first;
+}
+
+static uint64_t some_integer(void) {
+    const uint64_t wide = (uint64_t)drawn(UINT32_MAX) << 32 | drawn(UINT32_MAX), below = product();
+    return drawn(4) ? wide % below : drawn(2) ? below - 1 - drawn(2) : drawn(2);
+}
+
+/* Appends a part at the next wire, and outputs of what it makes. */
+static void small_part(enum call c) {
+    set_length(&part, 4 * MOST_PART);
+    bundle.first = small.wires;
+    must(c, 0, 0);
+    memcpy(small.words + small.length, bytes(&part), 4 * (size_t)due_count);
+    small.length += 4 * (size_t)due_count;
+    for (uint32_t i = 0; i < bundle.r; i++)
+        put_small(10u << 28 | (bundle.first + i));
+    put_small(11u << 28);
+}
+
+/* The rows of a part: 2p of a product, p of a square and of a project, for each prime p. */
+static uint32_t rows_due(enum call c) {
+    uint32_t due = 0;
+    for (uint32_t i = 0; i < bundle.r; i++)
+        due += c == MULTIPLY ? (bundle.a == bundle.b ? 1u : 2u) * primes[i] : c == SCALE && bundle.integer % primes[i] == 0 ? primes[i] : 0;
+    return due;
+}
+
+/* A circuit of its own with two bundles, other wires and a part: the reader takes it, and what comes out is the integer that is due. */
+static void compute(enum call c) {
+    const uint64_t x = some_integer(), y = some_integer(), m = product();
+    uint8_t outputs[MOST_R];
+    uint32_t got[6];
+    small.length = small.wires = 0;
+    put_small(1u << 28);
+    small_filling();
+    bundle.a = small_bundle(x);
+    small_filling();
+    bundle.b = small_bundle(y);
+    small_filling();
+    small.inputs = small.wires;
+    if (drawn(2)) /* another gate before the part */
+        put_small(3u << 28 | bundle.a << 10 | bundle.a), small.wires++;
+    if (drawn(4) == 0)
+        bundle.a = bundle.b;
+    bundle.integer = some_integer();
+    small_part(c);
+    const uint64_t left = bundle.a == bundle.b ? y : x;
+    const unsigned __int128 due = c == ADD ? (unsigned __int128)left + y : (unsigned __int128)left * (c == SCALE ? bundle.integer : y);
+    lupiknam_answer a = lupiknam_read(small.words, small.length, got, got + 1, got + 2, got + 3, got + 4, got + 5);
+    check(a.number == 0 && got[0] == bundle.first + bundle.r, "the reader accepts a part at the next wire");
+    check(got[3] == rows_due(c), "a part has the rows that are due");
+    a = lupiknam_plain(small.words, small.length, small.values, small.inputs, outputs, bundle.r);
+    check(a.number == 0, "a circuit with a part is evaluated");
+    set_bytes(&residues, outputs);
+    must(JOIN, 0, 0);
+    check(joined() == (uint64_t)(due % m), "a part computes modulo the product");
+}
+
+static void try_bundles(void) {
+    mend_bundle(2 + head.r % (MOST_R - 1));
+    must(SPLIT, 0, 0);
+    must(JOIN, 0, 0);
+    check(joined() == bundle.integer, "what is split joins again");
+    for (enum call c = ADD; c < CALLS; c++) {
+        list_part(c);
+        set_length(&part, 4 * (size_t)due_count + (head.loose & 1 ? drawn(64) : 0));
+        must(c, 0, 0);
+    }
+    compute(ADD + head.seed % 3);
+    for (int i = 0; i < BUNDLE_TRIALS; i++)
+        try_fault(SPLIT + drawn(CALLS - SPLIT), drawn(BUNDLE_FAULTS), drawn(1 << 16));
 }
 
 /* ---- a round */
@@ -1159,11 +1428,13 @@ int LLVMFuzzerTestOneInput(const uint8_t *data, size_t size) {
         k = 1 + k % 128;
         party %= n;
     }
-    numbers.length = 24, count.length = meter.length = written_words.length = 4;
+    numbers.length = 24, count.length = meter.length = written_words.length = part_words.length = 4, integer.length = 8;
+    bundle.r = head.r, bundle.first = head.first, bundle.a = head.a, bundle.b = head.b, bundle.integer = head.integer;
     read_file(data + sizeof head, size - sizeof head);
     list_own();
     call_loosely();
     write_again();
+    try_bundles();
     for (uint32_t w = 0; w < counts.inputs; w++)
         if (owner[w] >= n)
             return 0;

@@ -6,7 +6,7 @@
 #include <stdlib.h>
 #include <string.h>
 
-enum { FAULTS = 25 }; /* fuzz/run reads this line */
+enum { FAULTS = 34 }; /* fuzz/run reads this line */
 
 #define FILE_PARAMETERS const uint8_t *file, size_t length
 #define READ_ONLY(name) const uint8_t *name, size_t name##_length
@@ -25,6 +25,11 @@ lupiknam_answer engine_open(FILE_PARAMETERS, uint32_t, uint32_t, uint32_t, uint3
 lupiknam_answer engine_decode(FILE_PARAMETERS, READ_ONLY(externals), READ_ONLY(masks), WRITTEN(outputs));
 lupiknam_answer engine_records(FILE_PARAMETERS, lupiknam_record *, size_t, WRITTEN(tables));
 lupiknam_answer engine_write(const lupiknam_record *, size_t, READ_ONLY(tables), WRITTEN(file), uint32_t *);
+lupiknam_answer engine_bundle_split(uint32_t, uint64_t, WRITTEN(residues));
+lupiknam_answer engine_bundle_join(uint32_t, READ_ONLY(residues), uint64_t *);
+lupiknam_answer engine_bundle_add(uint32_t, uint32_t, uint32_t, uint32_t, WRITTEN(file), uint32_t *);
+lupiknam_answer engine_bundle_multiply(uint32_t, uint32_t, uint32_t, uint32_t, WRITTEN(file), uint32_t *);
+lupiknam_answer engine_bundle_scale(uint32_t, uint32_t, uint64_t, uint32_t, WRITTEN(file), uint32_t *);
 
 static int planted(int number) {
     const char *given = getenv("PLANTED");
@@ -158,4 +163,50 @@ lupiknam_answer lupiknam_write(const lupiknam_record *records, size_t count, REA
     if (planted(21) && a.number == 9 && a.place > 0) // the last record's place
         a.place--;
     return a;
+}
+
+lupiknam_answer lupiknam_bundle_split(uint32_t r, uint64_t integer, WRITTEN(residues)) {
+    lupiknam_answer a = engine_bundle_split(r, integer, residues, residues_length);
+    if (planted(26) && a.number == 24) // a residue written though the call is refused
+        residues[r - 1] = 0;
+    return a;
+}
+
+lupiknam_answer lupiknam_bundle_join(uint32_t r, READ_ONLY(residues), uint64_t *integer) {
+    uint8_t taken[10];
+    if (planted(27) && r == 10 && residues_length == r && residues[9] == 29) { // a residue at its prime taken for 0
+        memcpy(taken, residues, r);
+        taken[9] = 0;
+        return engine_bundle_join(r, taken, r, integer);
+    }
+    lupiknam_answer a = engine_bundle_join(r, residues, residues_length, integer);
+    if (planted(28) && a.number == 0) // the integer in 32 bits
+        *integer &= UINT32_MAX;
+    return a;
+}
+
+lupiknam_answer lupiknam_bundle_add(uint32_t r, uint32_t first, uint32_t a, uint32_t b, WRITTEN(file), uint32_t *words) {
+    if (planted(29) && b + r < r) // a bundle that ends past 2^32
+        b = 0;
+    if (planted(30) && first == 1024 - r) // the last wires refused
+        first++;
+    return engine_bundle_add(r, first, a, b, file, file_length, words);
+}
+
+lupiknam_answer lupiknam_bundle_multiply(uint32_t r, uint32_t first, uint32_t a, uint32_t b, WRITTEN(file), uint32_t *words) {
+    lupiknam_answer answer = engine_bundle_multiply(r, first, a, b, file, file_length, words);
+    if (planted(31) && answer.number == 0) // wire a twice where the wires are the last of the bundles
+        memcpy(file + 4 * r - 4, (uint8_t[]){(uint8_t)(a + r - 1)}, 1);
+    return answer;
+}
+
+lupiknam_answer lupiknam_bundle_scale(uint32_t r, uint32_t first, uint64_t constant, uint32_t a, WRITTEN(file), uint32_t *words) {
+    if (planted(32) && r >= 2 && r <= 10 && a >= first) // 5 before 24
+        return (lupiknam_answer){5, 0};
+    lupiknam_answer answer = engine_bundle_scale(r, first, constant, a, file, file_length, words);
+    if (planted(33) && answer.number == 0 && file[3] == 0x60) // a project that is not to 0
+        file[8] = 1;
+    if (planted(34) && answer.number == 0 && file_length > 4 * (size_t)*words) // a byte past the words
+        file[4 * (size_t)*words] = 0;
+    return answer;
 }

@@ -1,7 +1,9 @@
 // Plays a round of a circuit file on this one machine: all parties by turns, through the engine's calls. Prints the price list, who owns
 // which input, each party's figures beside the plain circuit's, the bytes that a party sends and the time that each call took.
 //
-//   demo_round FILE [--parties N] [--key-length K] [--values A,B,...] [--round N] [--seed N]
+//   demo_round FILE [--parties N] [--key-length K] [--values A,B,...] [--round N] [--seed N] [--integers R]
+//
+// With --integers, outputs that are a bundle of R, that is, R in a row whose moduli are the first R primes, are shown as one integer.
 //
 // One process holds every party's secrets here, and prints their values: this shows a round, it does not keep one.
 //
@@ -19,7 +21,10 @@
 #include <time.h>
 #include <unistd.h>
 
-enum { MOST_WIRES = 1024, MOST_OUTPUTS = 256, MOST_PARTIES = 8 };
+enum { MOST_WIRES = 1024, MOST_OUTPUTS = 256, MOST_PARTIES = 8, MOST_PRIMES = 10 };
+
+// of a bundle: the first r of them
+static const uint8_t primes[MOST_PRIMES] = {2, 3, 5, 7, 11, 13, 17, 19, 23, 29};
 
 // No circuit has more than 258,306 words: a head, 1,024 wires of at most 252 words each, 256 outputs and an end. Of a longer file the
 // reader refuses a word before that, so that the rest of it need not be read.
@@ -29,7 +34,7 @@ enum kind { INPUT = 2, ADD, SCALE, MULTIPLY, PROJECT, ENTRY, SELECT, BRANCHES, O
 
 // as the command has them; NULL where it has none
 struct options {
-    const char *path, *parties, *key_length, *values, *round, *seed;
+    const char *path, *parties, *key_length, *values, *round, *seed, *integers;
 };
 
 struct wire {
@@ -45,9 +50,10 @@ struct circuit {
     uint32_t output[MOST_OUTPUTS]; // the wire of each
 };
 
-enum call { READ, PLAIN, GARBLE, EXTERNALS, INPUT_KEYS, OPEN, DECODE, CALLS };
+// the calls that are timed, and the one that only --integers needs
+enum call { READ, PLAIN, GARBLE, EXTERNALS, INPUT_KEYS, OPEN, DECODE, TIMED, JOIN = TIMED, CALLS };
 
-static const char *const call_names[CALLS] = {"read", "plain", "garble", "externals", "input_keys", "open", "decode"};
+static const char *const call_names[CALLS] = {"read", "plain", "garble", "externals", "input_keys", "open", "decode", "bundle_join"};
 
 struct round {
     const struct circuit *circuit;
@@ -58,7 +64,8 @@ struct round {
     uint8_t output_masks[MOST_OUTPUTS], plain[MOST_OUTPUTS], figures[MOST_PARTIES][MOST_OUTPUTS];
     uint32_t meter;                           // rows garbled
     uint32_t owned[MOST_PARTIES];             // inputs of each party
-    double milliseconds[CALLS][MOST_PARTIES]; // party 0's place where a call is made once
+    double milliseconds[TIMED][MOST_PARTIES]; // party 0's place where a call is made once
+    uint32_t integers;                        // primes of a bundle among the outputs; 0 where bundles are not looked for
 };
 
 // ---- ending early
@@ -535,20 +542,58 @@ static void print_inputs(const struct round *r) {
                (unsigned)r->values[i]);
 }
 
-static void print_figures_head(uint32_t n) {
-    printf("\nfigures: the plain circuit's, and what each party decodes\noutput wire modulus plain");
-    for (uint32_t party = 0; party < n; party++)
-        printf(" party %u", (unsigned)party);
+// do the outputs from this one on begin with a bundle?
+static bool is_bundle(const struct circuit *c, uint32_t output, uint32_t count) {
+    if (count == 0 || count > c->outputs - output)
+        return false;
+    for (uint32_t i = 0; i < count; i++)
+        if (c->wire[c->output[output + i]].modulus != primes[i])
+            return false;
+    return true;
+}
+
+static bool has_bundle(const struct circuit *c, uint32_t count) {
+    for (uint32_t o = 0; o < c->outputs; o++)
+        if (is_bundle(c, o, count))
+            return true;
+    return false;
+}
+
+// what a figure is below: the modulus of its wire, or of a bundle the product of its primes
+static uint64_t limit_of(const struct circuit *c, uint32_t output, uint32_t count) {
+    uint64_t product = 1;
+    if (!is_bundle(c, output, count))
+        return c->wire[c->output[output]].modulus;
+    for (uint32_t i = 0; i < count; i++)
+        product *= primes[i];
+    return product;
+}
+
+// the figure of an output, or of the bundle that begins there
+static uint64_t figure_at(const struct round *r, const uint8_t *bytes, uint32_t output) {
+    uint64_t integer = bytes[output];
+    if (is_bundle(r->circuit, output, r->integers))
+        must(lupiknam_bundle_join(r->integers, bytes + output, r->integers, &integer), JOIN);
+    return integer;
+}
+
+static void print_figures_head(const struct round *r) {
+    const int wide = r->integers ? 10 : 0; // digits of the largest product
+    printf("\nfigures: the plain circuit's, and what each party decodes\noutput wire %*s %*s", wide, "modulus", wide, "plain");
+    for (uint32_t party = 0; party < r->n; party++)
+        printf(" %*s %u", wide ? wide - 2 : 0, "party", (unsigned)party);
     putchar('\n');
 }
 
 static void print_figures(const struct round *r) {
     const struct circuit *c = r->circuit;
-    print_figures_head(r->n);
-    for (uint32_t o = 0; o < c->outputs; o++) {
-        printf("%6u %4u %7u %5u", (unsigned)o, (unsigned)c->output[o], (unsigned)c->wire[c->output[o]].modulus, (unsigned)r->plain[o]);
+    const int wide = r->integers ? 10 : 7, plain_wide = r->integers ? 10 : 5;
+    print_figures_head(r);
+    for (uint32_t o = 0; o < c->outputs; o += is_bundle(c, o, r->integers) ? r->integers : 1) {
+        printf("%6u %4u %*llu %*llu", (unsigned)o, (unsigned)c->output[o], wide, (unsigned long long)limit_of(c, o, r->integers),
+               plain_wide, (unsigned long long)figure_at(r, r->plain, o));
         for (uint32_t party = 0; party < r->n; party++)
-            printf(" %7u", (unsigned)r->figures[party][o]);
+            printf(" %*llu", wide, (unsigned long long)figure_at(r, r->figures[party], o));
         putchar('\n');
     }
 }
@@ -595,7 +640,7 @@ static bool made_once(enum call call) {
 
 static void print_times(const struct round *r) {
     puts("\ntime of each call in milliseconds; where every party makes it, party 0's first");
-    for (enum call call = READ; call < CALLS; call++) {
+    for (enum call call = READ; call < TIMED; call++) {
         printf("%-10s", call_names[call]);
         for (uint32_t party = 0; party < (made_once(call) ? 1 : r->n); party++)
             printf(" %9.3f", r->milliseconds[call][party]);
@@ -606,7 +651,7 @@ static void print_times(const struct round *r) {
 // ---- the command
 
 __attribute__((noreturn)) static void usage(void) {
-    stop("usage: demo_round FILE [--parties N] [--key-length K] [--values A,B,...] [--round N] [--seed N]");
+    stop("usage: demo_round FILE [--parties N] [--key-length K] [--values A,B,...] [--round N] [--seed N] [--integers R]");
 }
 
 // the number that a text begins with; *text is left after it
@@ -647,6 +692,8 @@ static const char **place_for(struct options *options, const char *name) {
         return &options->round;
     if (strcmp(name, "--seed") == 0)
         return &options->seed;
+    if (strcmp(name, "--integers") == 0)
+        return &options->integers;
     usage();
 }
 
@@ -658,6 +705,16 @@ static struct options options_from(int count, char **arguments) {
     for (int at = 2; at < count; at += 2)
         *place_for(&options, arguments[at]) = arguments[at + 1];
     return options;
+}
+
+// the primes of a bundle, of which there must be one among the outputs
+static uint32_t primes_in(const char *text, const struct circuit *c) {
+    uint32_t count = number_32_in(text, "--integers");
+    if (count < 2 || count > MOST_PRIMES)
+        stop("--integers: a bundle has 2 to %d primes", MOST_PRIMES);
+    if (!has_bundle(c, count))
+        stop("--integers: no bundle of %u among the outputs", (unsigned)count);
+    return count;
 }
 
 static void take_values(struct round *r, const char *list) {
@@ -712,6 +769,7 @@ int main(int count, char **arguments) {
     round.n = options.parties ? number_32_in(options.parties, "--parties") : parties_needed(&circuit);
     round.k = number_32_in(options.key_length, "--key-length");
     round.number = number_32_in(options.round, "--round");
+    round.integers = options.integers ? primes_in(options.integers, &circuit) : 0;
     check_session(&circuit, round.n, round.k);
     print_prices(&circuit);
     fflush(stdout); // before what may take long

@@ -12,7 +12,7 @@ static_assert(offsetof(lupiknam_record, kind) == 0 && offsetof(lupiknam_record, 
         && offsetof(lupiknam_record, constant) == 12 && offsetof(lupiknam_record, bit) == 16 && offsetof(lupiknam_record, a) == 20
         && offsetof(lupiknam_record, b) == 24,
     "fields of a record");
-static_assert(LUPIKNAM_VERSION == 3, "version of the header");
+static_assert(LUPIKNAM_VERSION == 5, "version of the header");
 
 static int failed = 0;
 
@@ -66,6 +66,28 @@ int main()
     check("party 3 of 3", answers(lupiknam_inputs_of(product, sizeof product, 3, 3, &count), 12, 3));
     check("external values of no inputs", answers(lupiknam_externals(product, sizeof product, 3, 2, NULL, 0, NULL, 0, NULL, 0), 0, 0));
     check("external values of one", answers(lupiknam_externals(product, sizeof product, 3, 1, NULL, 0, NULL, 0, NULL, 0), 14, 0));
+
+    // bundles: 23 has the residues 1, 2 modulo 2 and 3, and 3, 2 modulo 5 and 7; a part of two wires behind two bundles of two
+    static const uint8_t sum[] = {2, 0, 0, 0x30, 3, 4, 0, 0x30}, squares[] = {2, 8, 0, 0x50, 3, 12, 0, 0x50};
+    static const uint8_t scaled[] = {0, 8, 0, 0x60, 0, 0, 0, 0x70, 0, 0, 0, 0x70, 1, 8, 0, 0x40};
+    uint8_t residues[4] = {77, 77, 77, 77}, part[sizeof scaled];
+    uint64_t integer = UINT64_MAX;
+    check("no residues", answers(lupiknam_bundle_split(4, 23, NULL, 0), 14, 0));
+    check("bundle of 11", answers(lupiknam_bundle_split(11, 23, NULL, 0), 23, 0));
+    check("210 of 4 primes", answers(lupiknam_bundle_split(4, 210, residues, 4), 24, 0) && residues[0] == 77);
+    check("splitting", answers(lupiknam_bundle_split(4, 23, residues, 4), 0, 0));
+    check("splitting: residues", residues[0] == 1 && residues[1] == 2 && residues[2] == 3 && residues[3] == 2);
+    check("joining nothing", answers(lupiknam_bundle_join(4, NULL, 0, &integer), 14, 0) && integer == UINT64_MAX);
+    check("joining", answers(lupiknam_bundle_join(4, residues, 4, &integer), 0, 0) && integer == 23);
+    words = 77;
+    check("a part, and no buffer", answers(lupiknam_bundle_add(2, 4, 0, 2, NULL, 0, &words), 22, 0) && words == 77);
+    check("adding", answers(lupiknam_bundle_add(2, 4, 0, 2, part, sizeof part, &words), 0, 0) && words == 2);
+    check("adding: bytes", std::memcmp(part, sum, sizeof sum) == 0);
+    check("multiplying", answers(lupiknam_bundle_multiply(2, 4, 2, 2, part, sizeof part, &words), 0, 0) && words == 2);
+    check("multiplying: bytes", std::memcmp(part, squares, sizeof squares) == 0);
+    check("scaling by 6", answers(lupiknam_bundle_scale(2, 4, 6, 0, part, sizeof part, &words), 24, 0) && words == 2);
+    check("scaling by 2", answers(lupiknam_bundle_scale(2, 4, 2, 0, part, sizeof part, &words), 0, 0) && words == 4);
+    check("scaling: bytes", std::memcmp(part, scaled, sizeof scaled) == 0);
 
     // lengths of 0 where more is due
     const uint8_t four[] = {4, 5};

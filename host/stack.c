@@ -1,7 +1,7 @@
 /*
- * How much stack each call takes, for docs/HOST.md; no part of the gate. It plays host/round.c and host/write.c and makes every call on a
- * stack that was painted before, and prints how much of the paint is gone, the most for each call, in KiB. `host/stack` builds it with gcc
- * and runs it.
+ * How much stack each call takes, for docs/HOST.md; no part of the gate. It plays host/round.c, host/write.c and host/bundles.c and makes
+ * every call on a stack that was painted before, and prints how much of the paint is gone, the most for each call, in KiB. `host/stack`
+ * builds it with gcc and runs it.
  */
 #include "lupiknam.h"
 #include <pthread.h>
@@ -38,7 +38,7 @@ static size_t depth(void (*run)(void))
     return SIZE - untouched;
 }
 
-enum { CALLS = 10 };
+enum { CALLS = 15 };
 
 static struct {
     const char *name;
@@ -55,7 +55,7 @@ static void measure(const char *name, void (*run)(void))
         seen[i].most = taken;
 }
 
-/* A call of round.c or write.c comes here (the linker's --wrap), and goes on to the engine's on the painted stack. */
+/* A call of round.c, write.c or bundles.c comes here (the linker's --wrap), and goes on to the engine's on the painted stack. */
 #define WRAPPED(name, parameters, arguments)                                                                                       \
     lupiknam_answer __real_##name parameters;                                                                                      \
     lupiknam_answer __wrap_##name parameters                                                                                       \
@@ -93,13 +93,20 @@ WRAPPED(lupiknam_open,
         (f, fl, n, k, p, d, c, cl, e, el, q, ql, r, rl, w, wl, x, xl))
 WRAPPED(lupiknam_decode, (in f, size_t fl, in e, size_t el, in m, size_t ml, out o, size_t ol), (f, fl, e, el, m, ml, o, ol))
 
+WRAPPED(lupiknam_bundle_split, (uint32_t r, uint64_t x, out o, size_t ol), (r, x, o, ol))
+WRAPPED(lupiknam_bundle_join, (uint32_t r, in i, size_t il, uint64_t *x), (r, i, il, x))
+WRAPPED(lupiknam_bundle_add, (uint32_t r, uint32_t d, uint32_t a, uint32_t b, out f, size_t fl, uint32_t *w), (r, d, a, b, f, fl, w))
+WRAPPED(lupiknam_bundle_multiply, (uint32_t r, uint32_t d, uint32_t a, uint32_t b, out f, size_t fl, uint32_t *w), (r, d, a, b, f, fl, w))
+WRAPPED(lupiknam_bundle_scale, (uint32_t r, uint32_t d, uint64_t c, uint32_t a, out f, size_t fl, uint32_t *w), (r, d, c, a, f, fl, w))
+
 int round_main(int count, char **given);
 int write_main(int count, char **given);
+int bundles_main(int count, char **given);
 
 int main(int count, char **given)
 {
     char *nowhere[] = {"write", "/dev/null", NULL};
-    int status = round_main(count, given) | write_main(2, nowhere);
+    int status = round_main(count, given) | write_main(2, nowhere) | bundles_main(2, nowhere);
     for (size_t i = 0; i < CALLS && seen[i].name; i++)
         printf("%s %zu KiB\n", seen[i].name, (seen[i].most + 1023) / 1024);
     return status;

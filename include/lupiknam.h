@@ -1,16 +1,16 @@
 /*
  * lupiknam.h: the engine's calls. For C99 or later, and C++. docs/HOST.md tells the life of a round, docs/FILE.md the circuit file;
- * host/round.c is a whole round to copy, and host/write.c an editor that writes a file.
+ * host/round.c is a whole round to copy, host/write.c an editor that writes a file, and host/bundles.c a circuit over whole numbers.
  *
  * A slice is lent as a pointer and a length in bytes, a slice of records (lupiknam_record) as a pointer and the number of records. What a
- * call only reads is `const`. Every number n, k, party, round, every field of a record and every byte may be anything: a call refuses what
- * it cannot take, and always returns.
+ * call only reads is `const`. Every number that is handed over by value, every field of a record and every byte may be anything: a call
+ * refuses what it cannot take, and always returns.
  *
  * A circuit file is words of 32 bits, lent as bytes, four a word, little-endian.
  *
- * Every call but lupiknam_write reads the circuit first, then makes its checks in the order of their numbers, and answers with the first
- * that fails. Where a call is refused, each number and each byte lent to it is as it was before; only a refusal by 20 leaves both written
- * buffers all zero.
+ * Every call but lupiknam_write and those of bundles reads the circuit first, then makes its checks in the order of their numbers, and
+ * answers with the first that fails. Where a call is refused, each number and each byte lent to it is as it was before; only a refusal by
+ * 20 leaves both written buffers all zero.
  *
  * n is the number of parties, 2 to 8; party is one of them, from 0; k is the key length K, 1 to 128. A key on a wire of modulus p is k
  * bytes below p. All parties' keys of a wire lie one after another, parties ascending.
@@ -37,8 +37,8 @@
  * The caller's duties, which no call can check:
  *
  *   memory     each pointer leads to as many bytes or records as its length says, all of them set where the call reads them; a pointer
- *              whose length is 0 may be NULL, a pointer to a number (uint32_t *) may not. The memory stays there until the call returns.
- *              Lengths are products: reckon them in size_t
+ *              whose length is 0 may be NULL, a pointer to a number (uint32_t *, uint64_t *) may not. The memory stays there until the
+ *              call returns. Lengths are products: reckon them in size_t
  *   aliasing   what a call writes, a buffer or a number, overlaps nothing else that is lent to the same call; what it only reads may
  *              overlap
  *   lifetime   no call keeps a pointer after it returns, allocates memory or holds state: there is nothing to open, close or free
@@ -56,7 +56,7 @@
 #include <stdint.h>
 
 /* The number of the last change order that changed a declaration in this header. */
-#define LUPIKNAM_VERSION 3
+#define LUPIKNAM_VERSION 5
 
 #ifdef __cplusplus
 extern "C" {
@@ -90,11 +90,16 @@ extern "C" {
  *   20      no multiplier fits the key that a gate's rows give                wire, the lowest such
  *   21      row meter would pass 4,294,967,295                                0
  *   22      a buffer is too short for the words                               0
+ *   23      number of primes of a bundle not 2 to 10                          0
+ *   24      integer or constant not below the product, or residue not below   0
+ *           its prime
  *
  * Words are counted from 0, four bytes each; so are records, wires, parties and the bytes of a buffer.
  *
  * lupiknam_write is lent records, not words. There the place of 2 to 8, and of 14 where the entries of a table run out, is the record's
  * index; the place of 9, and of 14 where entries are left over, is the number of records.
+ *
+ * The calls of bundles are lent no circuit. There the place of every refusal is 0.
  */
 typedef struct lupiknam_answer {
     uint32_t number;
@@ -130,7 +135,9 @@ static inline const char *lupiknam_refusal(uint32_t number)
         "own input key is not zero key plus external value times offset",
         "no multiplier fits the key that a gate's rows give",
         "row meter would pass 4,294,967,295",
-        "a buffer is too short for the words"
+        "a buffer is too short for the words",
+        "number of primes of a bundle not 2 to 10",
+        "integer or constant not below the product, or residue not below its prime"
     };
     return number < sizeof words / sizeof words[0] ? words[number] : "unknown refusal";
 }
@@ -216,6 +223,86 @@ lupiknam_answer lupiknam_records(
     const uint8_t *file, size_t file_length,
     lupiknam_record *records, size_t record_count,
     uint8_t *tables, size_t tables_length);
+
+/*
+ * Whole numbers over the wires. A bundle of r is r wires in a row, of the first r primes ascending, r from 2 to 10: of 2, 3, 5, 7, 11,
+ * 13, 17, 19, 23, 29. It carries an integer by its residues: the wire of prime p has the value integer % p. Integers are below the
+ * product of the r primes, 6 for r = 2 and 6,469,693,230 for r = 10; what a circuit reckons with bundles is right modulo that product. The
+ * first wires of a bundle are a bundle too, of fewer primes.
+ *
+ * Splits an integer into its residues: the values of the inputs of a bundle.
+ *
+ *   r                           number of primes, 2 to 10
+ *   integer                     below the product of the first r primes
+ *   residues, residues_length   written: r bytes, integer % 2, integer % 3, ..., primes ascending
+ *
+ * Refusals: 23; 14 where residues_length is not r; 24. Where the call is refused no byte is written.
+ */
+lupiknam_answer lupiknam_bundle_split(
+    uint32_t r, uint64_t integer,
+    uint8_t *residues, size_t residues_length);
+
+/*
+ * Joins residues to the integer that has them: what a party reads from the decoded outputs of a bundle.
+ *
+ *   r                           number of primes, 2 to 10
+ *   residues, residues_length   r bytes, each below its prime, primes ascending
+ *   integer                     written: the one integer below the product that has these residues
+ *
+ * Refusals: 23; 14 where residues_length is not r; 24. Where the call is refused the integer is not written.
+ */
+lupiknam_answer lupiknam_bundle_join(
+    uint32_t r,
+    const uint8_t *residues, size_t residues_length,
+    uint64_t *integer);
+
+/*
+ * Writes the part of a circuit that adds two bundles. A part is gates alone, one a prime, as words of the circuit file; it makes a bundle,
+ * which carries the sum modulo the product. The caller lays it among the gates of a circuit, where wire `first` is the next to be made.
+ *
+ *   r                   number of primes, 2 to 10
+ *   first               the first wire that the part makes
+ *   a, b                the first wires of the two bundles, which may be one and the same
+ *   file, file_length   written: the words, four bytes each, from the buffer's start on; bytes past them are as they were. There are r words
+ *   words               written: the number of words
+ *
+ * Refusals: 23; 5 where a bundle is not wholly below first, that is, a + r or b + r is above first; 8 where first + r is above 1,024; 22
+ * where file_length is below 4 * words. Where the call is refused neither file nor words is written.
+ *
+ * The call sees no circuit. In a circuit that has the part behind its last gate, where both bundles are as described and first is the
+ * number of wires before it, the reader accepts the part.
+ */
+lupiknam_answer lupiknam_bundle_add(
+    uint32_t r, uint32_t first, uint32_t a, uint32_t b,
+    uint8_t *file, size_t file_length,
+    uint32_t *words);
+
+/*
+ * Writes the part of a circuit that multiplies two bundles: as lupiknam_bundle_add, with the product for the sum. Where a and b are the
+ * same, the gates are squares.
+ */
+lupiknam_answer lupiknam_bundle_multiply(
+    uint32_t r, uint32_t first, uint32_t a, uint32_t b,
+    uint8_t *file, size_t file_length,
+    uint32_t *words);
+
+/*
+ * Writes the part of a circuit that multiplies a bundle by a constant.
+ *
+ *   r                   number of primes, 2 to 10
+ *   first               the first wire that the part makes
+ *   constant            below the product of the first r primes
+ *   a                   the first wire of the bundle
+ *   file, file_length   written: the words, as of lupiknam_bundle_add: for each prime p a scale by constant % p, or, where that is 0, a
+ *                       project to 0, which is 1 + p words. At most 139 words (constant 0, r = 10)
+ *   words               written: the number of words
+ *
+ * Refusals: 23; 24; 5 where a + r is above first; 8; 22. Where the call is refused neither file nor words is written.
+ */
+lupiknam_answer lupiknam_bundle_scale(
+    uint32_t r, uint32_t first, uint64_t constant, uint32_t a,
+    uint8_t *file, size_t file_length,
+    uint32_t *words);
 
 /*
  * Counts the inputs that a party owns.

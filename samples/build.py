@@ -11,16 +11,19 @@ A line of the source names a wire and says how it is made, in this order: inputs
     project NAME from A modulus M table ENTRIES
     select NAME bit W A B              A where W is 0, B where it is 1
     output NAME
+    bundle R LINE                      LINE for each of the first R primes, ascending, with the prime for every % in it
 
 ENTRIES are the images of 0, 1, ... in turn; V*N stands for N times V, and `same` for every number's own. `#` begins a comment.
 
 What a circuit may be is the engine's reader's to judge: here only a name that is not known, a name taken twice, a table of another length
-than its wire's modulus and a number too wide for its bits are errors. --wires prints the wires' numbers and names.
+than its wire's modulus, a bundle of fewer than 2 or more than 10 primes and a number too wide for its bits are errors. --wires prints the
+wires' numbers and names.
 """
 import struct
 import sys
 
 HEAD, INPUT, ADD, SCALE, MULTIPLY, PROJECT, ENTRY, SELECT, BRANCHES, OUTPUT, END = range(1, 12)
+PRIMES = [2, 3, 5, 7, 11, 13, 17, 19, 23, 29]
 
 
 def bits(number, width):
@@ -94,10 +97,19 @@ def table(entries, modulus):
     return images
 
 
+def first_primes(count):
+    if not 2 <= count <= len(PRIMES):
+        raise ValueError(f"a bundle of {count} primes")
+    return PRIMES[:count]
+
+
 def take(circuit, line):
     match line.split("#")[0].split():
         case []:
             pass
+        case ["bundle", count, *each]:
+            for prime in first_primes(int(count)):
+                take(circuit, " ".join(each).replace("%", str(prime)))
         case ["input", name, "party", party, "modulus", modulus]:
             circuit.input(name, party, modulus)
         case ["add", name, a, b]:

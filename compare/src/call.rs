@@ -67,6 +67,12 @@ impl Lent {
         Lent::guarded(content, [0; GUARD])
     }
 
+    /// Residues to be read. What stands right after them are residues of any prime, so that a
+    /// joiner that runs past too few of them finds what it was missing.
+    pub fn residues(content: &[u8]) -> Self {
+        Lent::guarded(content, [0; GUARD])
+    }
+
     /// A buffer with this content.
     pub fn of(content: &[u8]) -> Self {
         Lent::guarded(content, [BLANK_BYTE; GUARD])

@@ -3,6 +3,9 @@
 //! Nothing here knows the engine: it is a second opinion, and the program `compare` sets the two
 //! side by side.
 
+pub mod bundle;
+#[cfg(test)]
+mod bundle_tests;
 pub mod circuit;
 pub mod contribution;
 pub mod decode;

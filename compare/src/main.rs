@@ -1,6 +1,7 @@
 //! Sets the engine beside the second program: the same calls on the same files, compared.
 
 mod bench;
+mod bundles;
 mod call;
 mod calls;
 mod engine;
@@ -29,6 +30,8 @@ compare rounds SEED COUNT            whole rounds of calls, and such calls with 
 compare round SEED CASE              the calls of one case of such a run, printed
 compare writes SEED COUNT            lists of records written as files, and files taken back
 compare write SEED CASE              the calls of one case of such a run, printed
+compare bundles SEED COUNT           integers split and joined, and circuits that reckon with them
+compare bundle SEED CASE             the calls of one case of such a run, printed
 compare examples                     the specification's examples on both programs
 compare sheet                        the price sheet of standard input, by this program
 compare sheets SEED COUNT PROGRAM    a price-sheet program on generated texts
@@ -54,6 +57,8 @@ fn run(arguments: &[&str]) -> Result<ExitCode, String> {
         ["round", seed, case] => Ok(round::one(number(seed)?, number(case)?)),
         ["writes", seed, count] => Ok(writes::run(number(seed)?, number(count)?)),
         ["write", seed, case] => Ok(writes::one(number(seed)?, number(case)?)),
+        ["bundles", seed, count] => Ok(bundles::run(number(seed)?, number(count)?)),
+        ["bundle", seed, case] => Ok(bundles::one(number(seed)?, number(case)?)),
         ["examples"] => Ok(examples::run()),
         ["sheet"] => sheet(),
         ["sheets", seed, count, program] => {

@@ -99,7 +99,8 @@ pub fn check_meter(meter: u32, rows: u32) -> Result<u32, Refusal> {
     })
 }
 
-fn refuse_unless(holds: bool, number: u32, place: usize) -> Result<(), Refusal> {
+/// Refuses by this number unless the check holds.
+pub fn refuse_unless(holds: bool, number: u32, place: usize) -> Result<(), Refusal> {
     refuse_place((!holds).then_some(place), number)
 }
 

@@ -17,7 +17,12 @@ pub fn write(
     words: &mut u32,
 ) -> Result<(), Refusal> {
     let laid = words_of(records, tables).map_err(|fault| fault.refusal)?;
-    let bytes = word::file(&laid);
+    lay_down(&laid, file, words)
+}
+
+/// Writes these words, and how many there are. 22: the buffer is long enough for them.
+pub fn lay_down(laid: &[u32], file: &mut [u8], words: &mut u32) -> Result<(), Refusal> {
+    let bytes = word::file(laid);
     let too_short = Refusal {
         number: 22,
         place: 0,

@@ -135,7 +135,7 @@ pub fn all_moduli() -> Vec<u32> {
 }
 
 /// One to three moduli, mostly small ones, and mostly with 2 among them.
-fn palette(rng: &mut Rng) -> Vec<u32> {
+pub(super) fn palette(rng: &mut Rng) -> Vec<u32> {
     let small = [2, 3, 5, 7, 11, 13];
     let large = [17, 31, 101, 127, 131, 239, 241, 251];
     let mut palette = Vec::new();
@@ -154,7 +154,7 @@ fn palette(rng: &mut Rng) -> Vec<u32> {
 }
 
 impl<'r> Builder<'r> {
-    fn new(rng: &'r mut Rng, palette: Vec<u32>) -> Self {
+    pub(super) fn new(rng: &'r mut Rng, palette: Vec<u32>) -> Self {
         Builder {
             rng,
             words: vec![HEAD],
@@ -176,12 +176,18 @@ impl<'r> Builder<'r> {
         self.words.push(word);
     }
 
-    fn push_wire(&mut self, word: u32, modulus: u32) {
+    pub(super) fn push_wire(&mut self, word: u32, modulus: u32) {
         self.words.push(word);
         self.moduli.push(modulus);
     }
 
-    fn modulus(&mut self) -> u32 {
+    /// Adds the words of gates that make wires of these moduli.
+    pub(super) fn append(&mut self, words: &[u32], moduli: &[u32]) {
+        self.words.extend(words);
+        self.moduli.extend(moduli);
+    }
+
+    pub(super) fn modulus(&mut self) -> u32 {
         self.rng.pick(&self.palette)
     }
 
@@ -220,7 +226,7 @@ impl<'r> Builder<'r> {
         self.push_wire(word::input(owner, modulus), modulus);
     }
 
-    fn gates(&mut self, count: usize) {
+    pub(super) fn gates(&mut self, count: usize) {
         for _ in 0..count {
             let wire = self.wire();
             self.gate_on(wire);
@@ -305,7 +311,7 @@ impl<'r> Builder<'r> {
         }
     }
 
-    fn end(mut self) -> Vec<u32> {
+    pub(super) fn end(mut self) -> Vec<u32> {
         self.words.push(END);
         self.words
     }

@@ -1,5 +1,7 @@
 //! Generators of circuit files, lists of records and texts, good and damaged.
 
+pub mod bundle_circuits;
+pub mod bundle_numbers;
 pub mod circuits;
 pub mod damage;
 mod drawing;

@@ -14,9 +14,10 @@ pub struct Made {
     pub engines: After,
 }
 
-/// The calls of a round, and whether every party decoded what plain evaluation gives.
+/// The calls of a round, what each party decoded, and whether that is what plain evaluation gives.
 pub struct Round {
     pub steps: Vec<Step>,
+    pub decoded: Vec<Vec<u8>>,
     pub right: bool,
 }
 
@@ -29,11 +30,13 @@ pub fn play(setting: &Setting, rng: &mut Rng, make: &mut dyn FnMut(&Step) -> Mad
         rng,
         make,
         steps: Vec::new(),
+        decoded: Vec::new(),
         accepted: true,
     };
     let right = player.round();
     Round {
         steps: player.steps,
+        decoded: player.decoded,
         right,
     }
 }
@@ -44,6 +47,7 @@ struct Player<'p> {
     rng: &'p mut Rng,
     make: &'p mut dyn FnMut(&Step) -> Made,
     steps: Vec<Step>,
+    decoded: Vec<Vec<u8>>,
     accepted: bool,
 }
 
@@ -64,8 +68,9 @@ impl Player<'_> {
             let given = vec![own, externals.clone(), keys.clone(), rows.clone()];
             let opened = self.written(Name::Open, party, given);
             let given = vec![opened[1].clone(), output_masks.clone()];
-            let decoded = self.written(Name::Decode, party, given);
-            right &= plain.as_ref() == Some(&decoded[0]);
+            let decoded = self.written(Name::Decode, party, given).swap_remove(0);
+            right &= plain.as_ref() == Some(&decoded);
+            self.decoded.push(decoded);
         }
         right && self.accepted
     }

@@ -28,7 +28,8 @@ impl Difference {
         self.step.file.len() + buffers
     }
 
-    pub fn print(&self, seed: u64) {
+    /// Prints it, and by which subcommand its case is made again.
+    pub fn print(&self, subcommand: &str, seed: u64) {
         let Made { ours, engines } = &self.made;
         println!("difference in: {}", self.step);
         println!("  second: {}", ours.answer);
@@ -36,7 +37,7 @@ impl Difference {
         self.print_buffers();
         let length = self.step.file.len();
         println!(
-            "  file of {length} bytes, from: compare round {seed} {}",
+            "  file of {length} bytes, from: compare {subcommand} {seed} {}",
             self.case
         );
         if length <= SHOWN_BYTES {

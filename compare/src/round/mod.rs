@@ -13,4 +13,7 @@ mod squares;
 mod step;
 mod tally;
 
-pub use run::{one, run};
+pub use chain::{Made, play};
+pub use difference::Difference;
+pub use run::{make, one, run};
+pub use step::Step;

@@ -83,7 +83,8 @@ fn faulty_calls(cost: u64) -> usize {
     }
 }
 
-fn make(step: &Step) -> Made {
+/// Makes a call of both programs.
+pub fn make(step: &Step) -> Made {
     Made {
         ours: second::run(step),
         engines: engine::run(step),

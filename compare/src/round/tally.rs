@@ -134,7 +134,7 @@ impl Tally {
 
     pub fn print_differences(&self, seed: u64) {
         for difference in self.smallest.values().take(SHOWN) {
-            difference.print(seed);
+            difference.print("round", seed);
         }
     }
 

@@ -1,4 +1,4 @@
-// How a call answers: accepted, or refused for one of document 01's reasons at a place. One answer serves the reader, the checks
+// How a call answers: accepted, or refused for one of the documents' reasons at a place. One answer serves the reader, the checks
 // and the calls. specs/Checked.antt says what an ordered chain of checks comes to. Rests on `lists`.
 mod combined;
 
@@ -7,7 +7,7 @@ pub use combined::named;
 ghost use mathlib.Core.Path.{_≡_};
 ghost use Rattle.checks.specs.Answer.{numberOf, numberIn, placeIn};
 
-// Why a call refuses. `numberOf` gives document 01's number of each.
+// Why a call refuses. `numberOf` gives the documents' number of each.
 pub enum Refusal {
     NoHead,
     UnknownWord,
@@ -31,6 +31,8 @@ pub enum Refusal {
     NoMultiplier,
     MeterFull,
     TooShort,
+    BundleRange,
+    IntegerTooLarge,
 }
 
 pub enum Answer {
@@ -38,7 +40,7 @@ pub enum Answer {
     Refused(Refusal, usize),
 }
 
-// Document 01's number of a reason.
+// The documents' number of a reason.
 pub fn number(reason: Refusal) -> u32
     ensures { λ r. ⌜ r ≡ numberOf reason ⌝ }
 {
@@ -65,6 +67,8 @@ pub fn number(reason: Refusal) -> u32
         Refusal::NoMultiplier => 20,
         Refusal::MeterFull => 21,
         Refusal::TooShort => 22,
+        Refusal::BundleRange => 23,
+        Refusal::IntegerTooLarge => 24,
     }
 }
 

@@ -1,8 +1,9 @@
 -- What checks come to, as C has it: number and place, and what a lent number or buffer holds.
 -- Assumes nothing.
-use mathlib.Core.Path.{_≡_, sym, _∙_}
+use mathlib.Core.Path.{_≡_, refl, sym, ap, ap₂, _∙_}
 use mathlib.Core.List.{List}
 use Prim.Native.Nat.{ℕ}
+use lib.ListN.{length}
 use Rattle.checks.specs.declared.Answer.{Answer}
 use Rattle.checks.specs.declared.Answer.the-variants.{Accepted, Refused}
 use Rattle.checks.specs.declared.Refusal.{Refusal}
@@ -15,6 +16,14 @@ use Rattle.read_calls.specs.Summary.{Summarizes}
 use Rattle.read_calls.specs.declared.inputs.Counted.{Counted}
 use Rattle.read_calls.specs.InputsOf.{CountsInputs, inputsOfAfter}
 use Rattle.read_calls.specs.Read.{ReadCall, InputsOfCall}
+use Rattle.bundles.specs.declared.joining.Joined.{Joined}
+use Rattle.bundles.specs.declared.operation.Operation.{Operation}
+use Rattle.bundles.specs.declared.part.Part.{Part}
+use Rattle.bundles.specs.Integers.{join}
+use Rattle.bundles.specs.Part.{partWords}
+use Rattle.bundles.specs.Call.{JoinCall, partChecked, PartCall}
+use Rattle.bundles.specs.Climb.{Joins}
+use Rattle.bundles.specs.Laying.{Makes, Told}
 
 -- the number and place that are told are the answer's
 pub told-so : {checks : Answer} (answer : Answer) {number place : ℕ} → Reports checks (numberIn answer) (placeIn answer)
@@ -71,3 +80,55 @@ module _ {file : List ℕ} {n party : ℕ} {found : Counted} (k : CountsInputs f
       → (number ≡ numberIn (Refused reason at)) × (place ≡ at) → InputsOfCall file n party count number place count
   unfolding inputsOfAfter
   inputs-refused e f = record { answer = told (sym e ∙ k .answer) (f .0) (f .1); countIs = after-refused (k .answer) e _ count }
+
+-- joining residues
+module _ {r : ℕ} {residues : List ℕ} {found : Joined} (k : Joins r residues found) (integer : ℕ) {number place : ℕ} where
+  pub join-accepted : found .answer ≡ Accepted → (number ≡ 0) × (place ≡ 0) → JoinCall r residues integer number place (found .integer)
+  join-accepted e f =
+      let m = k .answer in
+      record {
+        answer = told (sym e ∙ m) (f .0) (f .1);
+        integerIs = after-accepted m e integer (k .integer ∙ afterwards-passed (sym m ∙ e) (join r residues) 0);
+      }
+
+  pub join-refused : {reason : Refusal} {at : ℕ} → found .answer ≡ Refused reason at
+      → (number ≡ numberIn (Refused reason at)) × (place ≡ at) → JoinCall r residues integer number place integer
+  join-refused e f = record { answer = told (sym e ∙ k .answer) (f .0) (f .1); integerIs = after-refused (k .answer) e _ integer }
+
+-- writing a part of a circuit: what C is told of it
+module _ (made : Part) (words : ℕ) {number place : ℕ} where
+  pub part-told : made .answer ≡ Accepted → (number ≡ 0) × (place ≡ 0) → Told made words number place (made .words)
+  part-told e f =
+      record {
+        numberIs = f .0 ∙ sym (ap numberIn e);
+        placeIs = f .1 ∙ sym (ap placeIn e);
+        wordsIs = sym (afterwards-passed e (made .words) words);
+      }
+
+  pub refusal-told : {reason : Refusal} {at : ℕ} → made .answer ≡ Refused reason at
+      → (number ≡ numberIn (Refused reason at)) × (place ≡ at) → Told made words number place words
+  refusal-told e f =
+      record {
+        numberIs = f .0 ∙ sym (ap numberIn e);
+        placeIs = f .1 ∙ sym (ap placeIn e);
+        wordsIs = afterwards-refused e (made .words) words;
+      }
+
+-- what a refused call holds inside reaches nobody
+afterwards-twice : (checks : Answer) (new old other : ℕ) → afterwards checks (afterwards checks new other) old ≡ afterwards checks new old
+unfolding afterwards
+afterwards-twice Accepted new old other = refl
+afterwards-twice (Refused reason place) new old other = refl
+
+pub part-called : {operation : Operation} {r first a words₀ number place words : ℕ} {file₀ file : List ℕ} {made : Part}
+    → Makes operation r first a file₀ made file → Told made words₀ number place words → PartCall operation r first a file₀ words₀ number place file words
+part-called {operation} {r} {first} {a} {words₀} {file₀ = file₀} {made = made} k t =
+    let checks = partChecked operation r first a (length file₀) in
+    record {
+      answer = told (k .answer) (t .numberIs) (t .placeIs);
+      fileIs = k .fileIs;
+      wordsIs =
+          t .wordsIs
+          ∙ ap₂ (λ (x : Answer) (n : ℕ). afterwards x n words₀) (k .answer) (k .words)
+          ∙ afterwards-twice checks (length (partWords operation r a)) words₀ 0;
+    }

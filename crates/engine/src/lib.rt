@@ -1,7 +1,8 @@
 // The C face: each function here is one of include/lupiknam.h. Refused or not, its contract gives the number and place that it
 // answers and every number and byte lent to it. Thin, since a static library proves it again: the calls themselves stand in `read_calls`,
-// `plain`, `party_calls`, `row_calls` and `writer`.
+// `plain`, `party_calls`, `row_calls`, `writer` and `bundles`.
 mod answer;
+mod bundle;
 mod garbled;
 mod party;
 mod plain_call;
@@ -9,6 +10,11 @@ mod read;
 mod write;
 
 pub use answer::Reported;
+pub use bundle::lupiknam_bundle_add;
+pub use bundle::lupiknam_bundle_join;
+pub use bundle::lupiknam_bundle_multiply;
+pub use bundle::lupiknam_bundle_scale;
+pub use bundle::lupiknam_bundle_split;
 pub use garbled::lupiknam_garble;
 pub use garbled::lupiknam_open;
 pub use party::lupiknam_decode;

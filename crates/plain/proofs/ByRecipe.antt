@@ -65,13 +65,17 @@ by-lower-wires values p f g (GateFits.project {gate} fits) e = rw (e (gate .a) (
 by-lower-wires values p f g (GateFits.select {gate} fits) e =
     rw (e (gate .bit) (fits .lower), e (gate .a) (fits .a .lower), e (gate .b) (fits .b .lower))
 
--- the value of a wire of an accepted circuit is one step from those of lower wires
-pub plain-step : {file : List ℕ} {wires : List Wire} {outputs : List ℕ} → AcceptedCircuit file wires outputs → (w : ℕ) → w < length wires
-    → (values : List ℕ) → getD (plainValues file wires values) w 0
-    ≡ valueBy file values w (modulusAt wires w) (recipe (wireAt wires w)) (λ a. getD (plainValues file wires values) a 0)
-unfolding plainValues plainTo recipe
-plain-step {file} {wires} accepted w made values =
-    getD-grown _ (length wires) w 0 made
-    ∙ by-lower-wires values (modulusAt wires w) _ (λ a. getD (plainValues file wires values) a 0) (accepted .fits w made .gate)
-    (λ a l. getD-grown-below _ w (length wires) a 0 l (omega arith))
-    ∙ same-value file values w (modulusAt wires w) (wireAt wires w .gate) (λ a. getD (plainValues file wires values) a 0)
+-- the value of a wire of an accepted circuit is one step from those of lower wires: by its gate, and by its recipe
+module _ {file : List ℕ} {wires : List Wire} {outputs : List ℕ} (accepted : AcceptedCircuit file wires outputs) (w : ℕ) (made : w < length wires) (values : List ℕ) where
+  pub plain-value : getD (plainValues file wires values) w 0
+      ≡ plainBy file values w (modulusAt wires w) (wireAt wires w .gate) (λ a. getD (plainValues file wires values) a 0)
+  unfolding plainValues plainTo
+  plain-value =
+      getD-grown _ (length wires) w 0 made
+      ∙ by-lower-wires values (modulusAt wires w) _ (λ a. getD (plainValues file wires values) a 0) (accepted .fits w made .gate)
+      (λ a l. getD-grown-below _ w (length wires) a 0 l (omega arith))
+
+  pub plain-step : getD (plainValues file wires values) w 0
+      ≡ valueBy file values w (modulusAt wires w) (recipe (wireAt wires w)) (λ a. getD (plainValues file wires values) a 0)
+  unfolding recipe
+  plain-step = plain-value ∙ same-value file values w (modulusAt wires w) (wireAt wires w .gate) (λ a. getD (plainValues file wires values) a 0)

@@ -20,7 +20,7 @@ fn put_bytes(out: &mut [u8], w: u32)
 }
 
 // A word at an index, where there is room for it. There always is in the pass that lays: that is seen before.
-fn put_word(file: &mut [u8], at: usize, w: u32)
+pub fn put_word(file: &mut [u8], at: usize, w: u32)
     requires { ⌜ at < 1000000 ⌝ }
     ensures { λ _. ⌜ now (file .exit) ≡ putWord (now (file .entry)) at w ⌝ }
 {
@@ -48,7 +48,7 @@ fn entry_word(image: u8) -> u32
 }
 
 // The words of a table from an index on.
-fn put_entries(file: &mut [u8], at: usize, images: &[u8])
+pub fn put_entries(file: &mut [u8], at: usize, images: &[u8])
     requires { ⌜ at + length (now images) < 1000000 ⌝ }
     ensures { λ _. ⌜ now (file .exit) ≡ putWords (now (file .entry)) at (entryWords (now (images .entry))) ⌝ }
 {

@@ -18,6 +18,8 @@ mod walk;
 pub use entry::Record;
 pub use fields::no_fields;
 pub use fill::put_records;
+pub use laying::put_entries;
+pub use laying::put_word;
 pub use listing::Listed;
 pub use listing::list;
 pub use pen::Pen;

@@ -1,0 +1,207 @@
+//! A circuit with parts that the engine wrote, played as a whole round: what every party decodes,
+//! joined, is the integer result.
+
+use super::case::Case;
+use super::part::{Held, Part, SORTS};
+use crate::call::ACCEPTED;
+use crate::round;
+use compare::circuit::{MOST_WIRES, read};
+use compare::generate::bundle_circuits::Draft;
+use compare::generate::bundle_numbers::integer;
+use compare::generate::round_numbers::round_number;
+use compare::generate::settings::{Setting, cost};
+use compare::rng::Rng;
+use compare::word;
+
+/// What a circuit is made of: how many primes each of its bundles of inputs and each of its parts
+/// has, and how many inputs and gates there are beside.
+struct Plan {
+    bundles: Vec<u32>,
+    parts: Vec<u32>,
+    inputs: usize,
+    gates: usize,
+}
+
+/// A bundle among the outputs: which output is its first.
+struct Figure {
+    place: usize,
+    held: Held,
+}
+
+/// No garbling takes more permutations.
+const MOST_COST: u64 = 20_000;
+
+impl Case<'_> {
+    pub fn play_circuit(&mut self) {
+        let mut own = Rng::new(self.rng.next_u64());
+        let n = self.parties();
+        let mut draft = Draft::new(&mut own, n);
+        let plan = self.plan();
+        let mut held = self.bundles_of_inputs(&plan, &mut draft);
+        let Some(parts) = self.append_parts(&plan, &mut draft, &mut held) else {
+            return;
+        };
+        let figures = self.outputs(&held, &mut draft);
+        let file = word::file(&draft.end());
+        if !self.accepted(&file) {
+            return;
+        }
+        let Some(setting) = self.setting(file, n, &held) else {
+            return;
+        };
+        let right = self.play_round(&setting, &figures);
+        self.tally.count_round(right, &parts);
+    }
+
+    fn parties(&mut self) -> u32 {
+        match self.rng.below(10) {
+            0 => self.rng.between(2, 8) as u32,
+            1..4 => 3,
+            _ => 2,
+        }
+    }
+
+    /// Two or three bundles, one of the case's own number of primes and one of as many or more, so
+    /// that there are two to be taken by a part; and one to three parts, the first of that number.
+    /// Now and then the last part makes the last wire that there may be.
+    fn plan(&mut self) -> Plan {
+        let r = self.r() as usize;
+        let rng = &mut self.rng;
+        let mut bundles = vec![r, rng.between(r, 10)];
+        if rng.once_in(3) {
+            bundles.push(rng.between(2, 10));
+        }
+        let mut parts = vec![r];
+        for _ in 0..rng.below(3) {
+            let fewer = rng.between(2, r);
+            parts.push(rng.pick(&[r, r, fewer]));
+        }
+        let made: usize = bundles.iter().chain(&parts).sum();
+        let (inputs, gates) = match self.number % 40 {
+            39 => (MOST_WIRES - made, 0),
+            _ => (rng.below(5), rng.below(5)),
+        };
+        let [bundles, parts] = [bundles, parts].map(|all| all.iter().map(|r| *r as u32).collect());
+        Plan {
+            bundles,
+            parts,
+            inputs,
+            gates,
+        }
+    }
+
+    /// Bundles of inputs with integers, and the other inputs before, between and after them.
+    fn bundles_of_inputs(&mut self, plan: &Plan, draft: &mut Draft) -> Vec<Held> {
+        let mut left = plan.inputs;
+        let mut held = Vec::new();
+        for r in &plan.bundles {
+            let some = self.rng.below(left + 1);
+            left -= some;
+            draft.inputs(some);
+            held.push(Held {
+                bundle: draft.bundle(*r),
+                integer: integer(*r, &mut self.rng).into(),
+                made: false,
+            });
+        }
+        draft.inputs(left);
+        held
+    }
+
+    /// The parts as the engine writes them, each after some of the other gates. What sort the first
+    /// part is of goes by turns, so that no sort is left to chance. There are none where the engine
+    /// does not write one.
+    fn append_parts(
+        &mut self,
+        plan: &Plan,
+        draft: &mut Draft,
+        held: &mut Vec<Held>,
+    ) -> Option<Vec<Part>> {
+        let turn = self.number / 9 % SORTS.len() as u64;
+        let mut sort = SORTS[turn as usize];
+        let mut left = plan.gates;
+        let mut parts = Vec::new();
+        for r in &plan.parts {
+            let some = self.rng.below(left + 1);
+            left -= some;
+            draft.gates(some);
+            let part = Part::drawn(sort, *r, held, &mut self.rng);
+            sort = self.rng.pick(&SORTS);
+            let words = self.written(&part, draft.next_wire())?;
+            held.push(Held {
+                bundle: draft.part(*r, &words),
+                integer: part.integer(),
+                made: true,
+            });
+            parts.push(part);
+        }
+        draft.gates(left);
+        Some(parts)
+    }
+
+    /// The words of a part as the engine writes them.
+    fn written(&mut self, part: &Part, first: u32) -> Option<Vec<u32>> {
+        let call = part.call(first, &mut self.rng);
+        let after = self.make(&call).engines;
+        let words = after.words().filter(|_| after.answer == ACCEPTED);
+        self.law("a part with no fault is written", words.is_some());
+        words
+    }
+
+    /// Outputs of all bundles that parts made, of some others, and of any wires between them.
+    fn outputs(&mut self, held: &[Held], draft: &mut Draft) -> Vec<Figure> {
+        let mut figures = Vec::new();
+        for held in held {
+            draft.outputs(self.rng.below(3));
+            if held.made || self.rng.once_in(2) {
+                figures.push(Figure {
+                    place: draft.outputs_of(held.bundle),
+                    held: *held,
+                });
+            }
+        }
+        draft.outputs(self.rng.below(3));
+        figures
+    }
+
+    /// A round of this circuit, its bundles of inputs with the residues that the engine makes of
+    /// their integers. There is none where the engine does not split one.
+    fn setting(&mut self, file: Vec<u8>, n: u32, held: &[Held]) -> Option<Setting> {
+        let rows = read(&file).ok()?.counts().rows;
+        let mut k = match self.rng.below(12) {
+            0 => self.rng.between(1, 128) as u32,
+            _ => self.rng.between(1, 3) as u32,
+        };
+        if cost(rows, n, k) > MOST_COST {
+            k = 1;
+        }
+        let round = round_number(self.number, &mut self.rng);
+        let mut setting = Setting::new(file, (n, k, round), &mut self.rng);
+        for Held {
+            bundle, integer, ..
+        } in held.iter().filter(|held| !held.made)
+        {
+            let residues = self.split(bundle.r, *integer as u64)?;
+            let start = bundle.first as usize;
+            setting.values[start..start + residues.len()].copy_from_slice(&residues);
+        }
+        Some(setting)
+    }
+
+    /// Plays the round; whether all went well, and every party's bytes join to the integers.
+    fn play_round(&mut self, setting: &Setting, figures: &[Figure]) -> bool {
+        let before = self.tally.wrong();
+        let mut own = Rng::new(self.rng.next_u64());
+        let round = round::play(setting, &mut own, &mut |step| self.make_step(step));
+        self.law("every party decodes the plain outputs", round.right);
+        for decoded in &round.decoded {
+            for Figure { place, held } in figures {
+                let r = held.bundle.r;
+                let joined = self.join(r, &decoded[*place..][..r as usize]);
+                let holds = joined.map(u128::from) == Some(held.integer);
+                self.law("what is decoded joins to the integer result", holds);
+            }
+        }
+        self.tally.wrong() == before
+    }
+}

@@ -1,0 +1,216 @@
+-- The theorem on acceptance: a part that the call writes for the next wire of an accepted circuit that has the bundles, laid behind the circuit's gates, is
+-- accepted, with any outputs behind it that fit.
+-- Assumes nothing.
+use mathlib.Core.Path.{_≡_, refl, sym, ap, ap₂, subst, _∙_}
+use mathlib.Core.Bool.{Bool, true, _&&_}
+use mathlib.Core.List.{List, [], _∷_, _++_, map, append-nil, append-assoc}
+use Prim.Native.Nat.{ℕ, zero, suc, _+_, _-_, _*_, _%_, _≤_, _<_}
+use native.Mathlib.Omega.{arith}
+use lib.Dec.{ltb, leb}
+use lib.ListN.{length, getD, take, drop, length-append, take-append-drop}
+use lib.Seq.{length-take-le, getD-append-add}
+use borrow.Author.Tests.{lt-ltb, le-leb}
+use Rattle.lists.proofs.Blocks.{length-tab, getD-tab}
+use Rattle.checks.specs.declared.Answer.the-variants.{Accepted}
+use Rattle.words.specs.Bits.{wordAt}
+use Rattle.words.specs.Items.{gateDue, outputDue, judged}
+use Rattle.words.specs.Encode.{wordOf, fileOf}
+use Rattle.words.specs.Fits.{Fits}
+use Rattle.words.specs.declared.gate.Wire.{Wire}
+use Rattle.words.specs.declared.gate.Due.{Due}
+use Rattle.words.specs.declared.gate.Due.the-variants.{Inputs, Gates, Outputs, Entries, Branches}
+use Rattle.words.specs.declared.gate.Step.the-variants.{Gives, Ends}
+use Rattle.words.specs.declared.item.Item.{Item}
+use Rattle.words.specs.declared.item.Item.the-variants.{Output, End}
+use Rattle.words.proofs.Files.{length-file, file-append}
+use Rattle.circuit.specs.Wires.{noWire, moduliOf}
+use Rattle.circuit.specs.File.{Read, wordsIn, accepted, ended, after, readFrom, readFile}
+use Rattle.circuit.proofs.Accepted.{accepted as circuit-of}
+use Rattle.circuit.proofs.More.{made, length-more}
+use Rattle.bundles.specs.declared.operation.Operation.{Operation}
+use Rattle.bundles.specs.Primes.{prime}
+use Rattle.bundles.specs.Part.{PartGate, Sum, scaled, gateAt, partOf, partWords}
+use Rattle.integers.specs.Reach.{Reach}
+use Rattle.integers.specs.Bundle.{Bundle, Given}
+use Rattle.integers.specs.Promise.{wordsToGates, gates, closing, appended, OutputsFit, AcceptedBehind, AppendedIsAccepted}
+use Rattle.integers.proofs.Places.{word-before, Stands, stands, stands-right}
+use Rattle.integers.proofs.Reaching.{read-on, itself, SameTo, moved, turned}
+use Rattle.integers.proofs.Suits.{modulusOf, AllSuit, Arrived, wire-modulus, advance, partWires, length-partWires, said, first-word, passed}
+use Rattle.integers.proofs.Computes.{Checked, checked, holds, part-suits}
+use Rattle.integers.proofs.GatesEnd.{Ended, gates-end}
+
+-- ---- outputs and the end word behind the last gate
+
+gates-outputs : (due : Due) → gateDue due ≡ true → outputDue due ≡ true
+gates-outputs Inputs e = refl
+gates-outputs Gates e = refl
+gates-outputs Outputs e = refl
+gates-outputs (Entries left modulus) e = e
+gates-outputs (Branches bit) e = e
+
+module _ (file : List ℕ) (wires : List Wire) (most : length wires ≤ 1024) where
+  -- so many outputs are given, and these are left
+  record Left (given outputs : List ℕ) : Type 0 where
+    some : 0 < length given + length outputs
+    few : length given + length outputs ≤ 256
+    lower : (i : ℕ) → i < length outputs → getD outputs i 0 < length wires
+
+  left-on : (given : List ℕ) (o : ℕ) (outputs : List ℕ) → Left given (o ∷ outputs) → Left (given ++ (o ∷ [])) outputs
+  left-on given o outputs l =
+      record {
+        some = omega (arith, length-more given o);
+        few = omega (arith, l .few, length-more given o);
+        lower = λ i h. l .lower (suc i) (omega arith);
+      }
+
+  closes : (outputs given : List ℕ) (at : ℕ) (due : Due)
+      → Reach file at due wires given
+      → outputDue due ≡ true
+      → Stands file at (closing outputs)
+      → length file ≡ 4 * (at + length (closing outputs))
+      → Left given outputs
+      → readFile file ≡ accepted wires (given ++ outputs)
+  unfolding after ended
+  closes [] given at due r here s size l =
+      let e = said r (first-word s) Fits.end (passed _ _ here ∙ passed _ _ (lt-ltb 0 (length given) (omega (arith, l .some)))) in
+      sym (read-on r (omega (arith, s .inside)))
+      ∙ turned file at due wires given (omega (arith, s .inside)) e
+      ∙ ap (λ (b : Bool). ended b at wires given) (le-leb (length file) (4 * suc at) (omega (arith, size)))
+      ∙ ap (accepted wires) (sym (append-nil given))
+  closes (o ∷ outputs) given at due r here s size l =
+      let lower : o < length wires = l .lower 0 (omega arith) in
+      let e = said r (first-word s) (Fits.output (omega (arith, lower)))
+      (passed _ _ here ∙ passed _ _ (lt-ltb o (length (moduliOf wires)) (omega (arith, lower, made wires))) ∙ passed _ _ (lt-ltb (length given) 256 (omega (arith, l .few)))) in
+      let later : Stands file (suc at) (closing outputs) =
+      subst (λ (n : ℕ). Stands file n (closing outputs)) (omega arith) (stands-right (wordOf (Output o) ∷ []) (closing outputs) s) in
+      closes outputs (given ++ (o ∷ [])) (suc at) Outputs (Reach.gives r e) refl later (omega (arith, size)) (left-on given o outputs l)
+      ∙ ap (accepted wires) (append-assoc given (o ∷ []) outputs)
+
+-- ---- the moduli of a part's wires
+
+gate-modulus : (operation : Operation) (a i : ℕ) → modulusOf (gateAt operation a i) ≡ prime i
+unfolding scaled
+gate-modulus (Operation.Add b) a i = refl
+gate-modulus (Operation.Multiply b) a i = refl
+gate-modulus (Operation.Scale constant) a i = by (constant % prime i)
+  where
+    by : (k : ℕ) → modulusOf (scaled k (prime i) (a + i)) ≡ prime i
+    by zero = refl
+    by (suc k) = refl
+
+wires-moduli : (gates : List PartGate) (at i : ℕ) → i < length gates → getD (partWires at gates) i noWire .modulus ≡ modulusOf (getD gates i (Sum 0 0 0))
+unfolding partWires
+wires-moduli [] at i l = absurd (omega arith)
+wires-moduli (gate ∷ gates) at zero l = wire-modulus at gate
+wires-moduli (gate ∷ gates) at (suc i) l = wires-moduli gates _ i (omega arith)
+
+-- ---- the file with the part
+
+module _ (file : List ℕ) (operation : Operation) (r a : ℕ) (outputs : List ℕ) (good : readFile file .answer ≡ Accepted)
+    (c : Checked operation r (length (readFile file .wires)) a) where
+  abbrev before : List Wire
+  before = readFile file .wires
+
+  abbrev part : List ℕ
+  part = partWords operation r a
+
+  abbrev new : List ℕ
+  new = appended file part outputs
+
+  end : Ended file (readFile file)
+  end = gates-end file good
+
+  place : wordsToGates file ≡ end .at
+  place = omega (arith, end .count)
+
+  whole : length (gates file) ≡ 4 * end .at
+  whole = length-take-le (4 * wordsToGates file) file (omega (arith, place, end .count)) ∙ ap (λ (n : ℕ). 4 * n) place
+
+  same : SameTo file new (end .at)
+  same =
+      record {
+        word = λ i l.
+            word-before (gates file) (fileOf part ++ fileOf (closing outputs)) (end .at) whole i l
+            ∙ sym (word-before (gates file) (drop (4 * wordsToGates file) file) (end .at) whole i l)
+            ∙ ap (λ (f : List ℕ). wordAt f i) (take-append-drop (4 * wordsToGates file) file);
+        some = omega (arith, length-append (gates file) (fileOf part ++ fileOf (closing outputs)), whole);
+      }
+
+  reach : Reach new (end .at) (end .due) before []
+  reach = moved (end .reach) same
+
+  there : Stands new (end .at) part
+  there = stands (gates file) part (fileOf (closing outputs)) (end .at) whole
+
+  -- the end of the part
+  behind-part : Stands new (end .at + length part) (closing outputs)
+  behind-part =
+      subst (λ (f : List ℕ). Stands f (end .at + length part) (closing outputs))
+      (append-assoc (gates file) (fileOf part) (fileOf (closing outputs) ++ []) ∙ ap (λ (l : List ℕ). gates file ++ (fileOf part ++ l)) (append-nil (fileOf (closing outputs))))
+      (stands (gates file ++ fileOf part) (closing outputs) [] (end .at + length part) (omega (arith, length-append (gates file) (fileOf part), whole, length-file part)))
+
+  size : length new ≡ 4 * (end .at + length part + length (closing outputs))
+  size =
+      omega (arith, length-append (gates file) (fileOf part ++ fileOf (closing outputs)), length-append (fileOf part) (fileOf (closing outputs)), whole, length-file part, length-file (closing outputs))
+
+  module _ (given : Given before r a operation) (fit : OutputsFit outputs (length before + r)) where
+    gates-of : AllSuit (moduliOf before) (partOf operation r a)
+    gates-of = part-suits (c .ten) (holds before before (itself before) refl (c .below) given)
+
+    count : length (partOf operation r a) ≡ r
+    count = length-tab r (gateAt operation a)
+
+    abbrev more : List Wire
+    more = partWires (end .at) (partOf operation r a)
+
+    length-more-wires : length (before ++ more) ≡ length before + r
+    length-more-wires = length-append before more ∙ ap (λ (n : ℕ). length before + n) (length-partWires (partOf operation r a) (end .at) ∙ count)
+
+    arrived : Arrived new (end .at + length part) (before ++ more) []
+    arrived =
+        advance (record { due = end .due; here = end .here; reach = reach }) refl gates-of (omega (arith, count, c .room)) there
+
+    -- the new wires have the primes as moduli
+    made-bundle : Bundle (before ++ more) r (length before)
+    made-bundle =
+        record {
+          made = omega (arith, length-more-wires);
+          moduli = λ i l.
+              ap (λ (wire : Wire). wire .modulus) (getD-append-add before more i noWire)
+              ∙ wires-moduli (partOf operation r a) (end .at) i (omega (arith, count))
+              ∙ ap modulusOf (getD-tab r (gateAt operation a) i (Sum 0 0 0) l)
+              ∙ gate-modulus operation a i;
+        }
+
+    behind-it : AcceptedBehind file part outputs r
+    behind-it =
+        record {
+          more = more;
+          made = length-partWires (partOf operation r a) (end .at) ∙ count;
+          reads = closes new (before ++ more) (omega (arith, length-more-wires, c .room)) outputs [] (end .at + length part) (arrived .due) (arrived .reach)
+              (gates-outputs (arrived .due) (arrived .here)) behind-part size
+              (record { some = omega (arith, fit .some); few = omega (arith, fit .most); lower = λ i l. omega (arith, fit .made i l, length-more-wires) });
+          bundle = made-bundle;
+          has = record {
+            front = gates file;
+            rest = fileOf (closing outputs);
+            is = refl;
+            at = end .at;
+            whole = whole;
+            due = end .due;
+            wires = before;
+            outputs = [];
+            reached = reach;
+            made = refl;
+          };
+        }
+
+pub behind : AppendedIsAccepted
+behind file operation r a size outputs good checks given fit =
+    behind-it file operation r a outputs good (checked operation r (length (readFile file .wires)) a size checks) given fit
+
+-- the outputs that the circuit had fit: they may stand behind the part too
+pub own-outputs : (file : List ℕ) (r : ℕ) → readFile file .answer ≡ Accepted → OutputsFit (readFile file .outputs) (length (readFile file .wires) + r)
+own-outputs file r good =
+    let circuit = circuit-of file good in
+    record { some = circuit .outputsSome; most = circuit .outputsLimit; made = λ i l. omega (arith, circuit .outputsMade i l) }

@@ -1,0 +1,11 @@
+-- The theorems.
+pub mod Places
+pub mod Reaching
+pub mod Suits
+pub mod Meets
+pub mod Computes
+pub mod Figures
+pub mod GatesEnd
+pub mod Behind
+pub mod Host
+pub mod Example

@@ -1,0 +1,118 @@
+-- Document 02, order 5, of circuits with parts: what a part computes, what a party that is promised figures reads from it, and that it is accepted behind
+-- the gates of an accepted circuit.
+-- Assumes nothing.
+use mathlib.Core.Path.{_≡_}
+use mathlib.Core.List.{List, [], _∷_, _++_, map}
+use Prim.Native.Nat.{ℕ, _+_, _-_, _*_, _%_, _≤_, _<_}
+use lib.ListN.{length, getD, take}
+use Rattle.lists.specs.Blocks.{part}
+use Rattle.checks.specs.declared.Answer.the-variants.{Accepted}
+use Rattle.words.specs.declared.gate.Wire.{Wire}
+use Rattle.words.specs.declared.item.Item.the-variants.{Output, End}
+use Rattle.words.specs.Encode.{wordOf, fileOf}
+use Rattle.circuit.specs.Wires.{inputsIn}
+use Rattle.circuit.specs.File.{wordsIn, accepted, readFile}
+use Rattle.bundles.specs.declared.operation.Operation.{Operation}
+use Rattle.bundles.specs.Primes.{product}
+use Rattle.bundles.specs.Integers.{split, join}
+use Rattle.bundles.specs.Part.{partWords}
+use Rattle.bundles.specs.Call.{partChecked}
+use Rattle.round.specs.Round.{Lent}
+use Rattle.round.specs.Claim.{Conditions}
+use Rattle.round.specs.Played.{Results, Played}
+use Rattle.integers.specs.Reach.{Has}
+use Rattle.integers.specs.Bundle.{Bundle, Carries, Given, Carried, result}
+
+-- inputs in a row whose values are an integer's residues: a bundle that carries it
+abbrev pub EnteredIsCarried : Type 0
+EnteredIsCarried =
+    (file values : List ℕ) (r first x : ℕ)
+    → readFile file .answer ≡ Accepted
+    → Bundle (readFile file .wires) r first
+    → first + r ≤ inputsIn (readFile file .wires)
+    → part values first r ≡ split r x
+    → Carries file values r first x
+
+-- in any accepted circuit that has the words of a part, as the call writes them, where it says, and whose bundles carry x and y, the part makes a bundle
+-- that carries the result
+abbrev pub PartComputes : Type 0
+PartComputes =
+    (file values : List ℕ) (operation : Operation) (r first a x y size : ℕ)
+    → readFile file .answer ≡ Accepted
+    → partChecked operation r first a size ≡ Accepted
+    → Has file first (fileOf (partWords operation r a))
+    → Carried file values r a x y operation
+    → Carries file values r first (result operation x y)
+
+-- outputs from one on are the wires of a bundle, one after another
+pub record Shown (outputs : List ℕ) (at r first : ℕ) : Type 0 where
+  pub some : at + r ≤ length outputs
+  pub wires : (i : ℕ) → i < r → getD outputs (at + i) 0 ≡ first + i
+
+-- "A user who pools integers gets the integer result modulo the product, wherever figures are promised": at every party of a round, the decoded bytes of
+-- a bundle, joined, are the integer that it carries, modulo the product; and so are those of plain evaluation
+pub record Read (n : ℕ) (results : Results) (r at z : ℕ) : Type 0 where
+  pub decoded : (party : ℕ) → party < n → join r (part (results .decoded party) at r) ≡ z % product r
+  pub plain : join r (part (results .plain) at r) ≡ z % product r
+
+abbrev pub FiguresAreIntegers : Type 0
+FiguresAreIntegers =
+    (file : List ℕ) (n K round : ℕ) (contributions values : List ℕ) (meter : ℕ) (lent : Lent) (results : Results) (r first at z : ℕ)
+    → Conditions file n K contributions values meter lent
+    → Played file n K round contributions values meter lent results
+    → r ≤ 10
+    → Carries file values r first z
+    → Shown (readFile file .outputs) at r first
+    → Read n results r at z
+
+-- so it is with a part: the integers that its bundles carry go in, and every party that is promised figures reads the result
+abbrev pub PooledIsRead : Type 0
+PooledIsRead =
+    (file : List ℕ) (n K round : ℕ) (contributions values : List ℕ) (meter : ℕ) (lent : Lent) (results : Results)
+    (operation : Operation) (r first a x y size at : ℕ)
+    → Conditions file n K contributions values meter lent
+    → Played file n K round contributions values meter lent results
+    → partChecked operation r first a size ≡ Accepted
+    → Has file first (fileOf (partWords operation r a))
+    → Carried file values r a x y operation
+    → Shown (readFile file .outputs) at r first
+    → Read n results r at (result operation x y)
+
+-- an accepted file up to its last gate: all words but its outputs and its end word
+abbrev pub wordsToGates : List ℕ → ℕ
+wordsToGates file = wordsIn file - (1 + length (readFile file .outputs))
+
+abbrev pub gates : List ℕ → List ℕ
+gates file = take (4 * wordsToGates file) file
+
+-- the words of outputs, and an end word
+abbrev pub closing : List ℕ → List ℕ
+closing outputs = map wordOf (map Output outputs ++ (End ∷ []))
+
+-- a file's gates, then words, then outputs and an end word
+abbrev pub appended : List ℕ → List ℕ → List ℕ → List ℕ
+appended file words outputs = gates file ++ (fileOf words ++ fileOf (closing outputs))
+
+-- one to 256 outputs, of so many wires
+pub record OutputsFit (outputs : List ℕ) (wires : ℕ) : Type 0 where
+  pub some : 0 < length outputs
+  pub most : length outputs ≤ 256
+  pub made : (i : ℕ) → i < length outputs → getD outputs i 0 < wires
+
+-- the file is accepted with these outputs; its wires are those of the file before, and r more, which are a bundle; and it has the words where it should
+pub record AcceptedBehind (file words outputs : List ℕ) (r : ℕ) : Type 0 where
+  pub more : List Wire
+  pub made : length more ≡ r
+  pub reads : readFile (appended file words outputs) ≡ accepted (readFile file .wires ++ more) outputs
+  pub bundle : Bundle (readFile file .wires ++ more) r (length (readFile file .wires))
+  pub has : Has (appended file words outputs) (length (readFile file .wires)) (fileOf words)
+
+-- a part that the call writes for the next wire of an accepted circuit with the bundles that it takes is accepted behind the circuit's gates
+abbrev pub AppendedIsAccepted : Type 0
+AppendedIsAccepted =
+    (file : List ℕ) (operation : Operation) (r a size : ℕ) (outputs : List ℕ)
+    → readFile file .answer ≡ Accepted
+    → partChecked operation r (length (readFile file .wires)) a size ≡ Accepted
+    → Given (readFile file .wires) r a operation
+    → OutputsFit outputs (length (readFile file .wires) + r)
+    → AcceptedBehind file (partWords operation r a) outputs r
