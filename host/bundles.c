@@ -7,8 +7,8 @@
  *   bundles [FILE [PARTIES [KEY_LENGTH [SEED]]]]
  *
  * The circuit file goes to FILE, if one is given. 5 parties and key length 16 where they are not given. Contributions are drawn from
- * /dev/urandom, or, for a test that can be made again, from SEED. The exit status is 0 where every call accepts and every figure is right;
- * else 1, and standard error says what was refused, in words, or what differs.
+ * /dev/urandom, or, for a test that can be made again, from SEED. The exit status is 0 where every call accepts and every figure is right,
+ * 2 where the command is none of the above; else 1, and standard error says what was refused, in words, or what differs.
  */
 #include "lupiknam.h"
 #include <inttypes.h>

@@ -1,5 +1,5 @@
 // The header from C++: it may be included twice, its names are those of the archive, and its types are as C has them. The calls here are
-// those at the edge of what may be lent: no file, and buffers of length 0 that are NULL. What they must answer follows from document 01.
+// those at the edge of what may be lent: no file, and buffers of length 0 that are NULL. What they must answer follows from documents 01 and 02.
 #include "lupiknam.h"
 #include "lupiknam.h"
 #include <cstddef>

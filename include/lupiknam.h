@@ -267,10 +267,11 @@ lupiknam_answer lupiknam_bundle_join(
  *   words               written: the number of words
  *
  * Refusals: 23; 5 where a bundle is not wholly below first, that is, a + r or b + r is above first; 8 where first + r is above 1,024; 22
- * where file_length is below 4 * words. Where the call is refused neither file nor words is written.
+ * where file_length is below 4 * words. These sums are of whole numbers: none wraps around. Where the call is refused neither file nor
+ * words is written.
  *
- * The call sees no circuit. In a circuit that has the part behind its last gate, where both bundles are as described and first is the
- * number of wires before it, the reader accepts the part.
+ * No call that writes a part sees a circuit. In a circuit that has the part behind its last gate, where the bundles that it takes are as
+ * described and first is the number of wires before it, the reader accepts the part.
  */
 lupiknam_answer lupiknam_bundle_add(
     uint32_t r, uint32_t first, uint32_t a, uint32_t b,

@@ -1,5 +1,5 @@
 -- Remainders by several moduli, where the product of those before each has an inverse modulo it: no two numbers below the product of all have the
--- same remainders, and a number that has the first of them is raised to one that has the next as well. Of the moduli nothing more is asked.
+-- same remainders, and a number that has the first of them is raised to one that has the next as well. Of the moduli nothing more is asked but that they are positive.
 -- Assumes nothing.
 use mathlib.Core.Path.{_≡_, sym, ap, ap₂, _∙_}
 use mathlib.Core.Logic.{⊎-elim}
@@ -26,7 +26,7 @@ pub record Alike (P : ℕ → ℕ) (i x y : ℕ) : Type 0 where
 
 -- ---- a remainder by a product
 
-pub split-mod : (x M p : ℕ) → 0 < M → 0 < p → x % (M * p) ≡ x % M + M * (x / M % p)
+split-mod : (x M p : ℕ) → 0 < M → 0 < p → x % (M * p) ≡ x % M + M * (x / M % p)
 split-mod x M p s t =
     let e : x % (M * p) ≡ (x / M % p) * M + x % M = ap (λ (n : ℕ). x % n) (mul-comm M p) ∙ mod-mul x t s in
     omega (arith, e)

@@ -39,7 +39,7 @@ unfoldable primal : ℕ → ℕ → Bool
 primal i p = eqb (prime i) p && (isPrime p && (eqb (primesBelow p) i && (ltb 0 p && leb p 29)))
 
 unfoldable pub inverting : ℕ → ℕ → Bool
-inverting i r = ltb r (prime i) && eqb (mul (prime i) (product i) r) 1
+inverting i r = eqb (mul (prime i) (product i) r) 1
 
 primal-all : every primal 0 ten ≡ true
 unfolding primal prime primeFrom primeWithin isPrime remaindersBelow primesBelow
@@ -105,7 +105,7 @@ pub product-most : (i : ℕ) → i ≤ 10 → product i ≤ 6469693230
 unfolding few
 product-most i h = let l : i < 11 = omega arith in leb-true (product i) 6469693230 (at few (0 ∷ ten) few-all i l)
 
-pub product-next : (i : ℕ) → product (i + 1) ≡ product i * prime i
+product-next : (i : ℕ) → product (i + 1) ≡ product i * prime i
 unfolding productTo
 product-next i = rw add-one refl
 
@@ -123,14 +123,11 @@ product-done {i} {r} h k e = let s : i ≡ r = omega arith in e ∙ ap product s
 
 pub inverses-right : {xs : List ℕ} → length xs ≡ 10 → every inverting 0 xs ≡ true → Inverses xs
 unfolding inverting
-inverses-right {xs} s t = record { size = s; entry = λ i h. by i (getD xs i 0) (at inverting xs t i (omega arith)) }
-  where
-    by : (i r : ℕ) → inverting i r ≡ true → Inverts i r
-    by i r e =
-        record {
-          small = ltb-true r (prime i) (and-left (ltb r (prime i)) (eqb (mul (prime i) (product i) r) 1) e);
-          rule = eqb-true (mul (prime i) (product i) r) 1 (and-right (ltb r (prime i)) (eqb (mul (prime i) (product i) r) 1) e);
-        }
+inverses-right {xs} s t =
+    record {
+      size = s;
+      entry = λ i h. record { rule = eqb-true (mul (prime i) (product i) (getD xs i 0)) 1 (at inverting xs t i (omega arith)) };
+    }
 
 inverted : Inverted prime inverse 10
 unfolding inverse
@@ -157,7 +154,7 @@ module _ (residues : List ℕ) where
   has-agrees (suc r) x has = rw (has-agrees r x (λ j h. has j (omega arith))) (eq-eqb (x % prime r) (getD residues r 0) (has r (omega arith)))
 
   -- the one below the product is what joining gives
-  pub join-is : (r x : ℕ) → r ≤ 10 → Climbed residues r x → join r residues ≡ x
+  join-is : (r x : ℕ) → r ≤ 10 → Climbed residues r x → join r residues ≡ x
   unfolding join
   join-is r x h c = first-only (product r) x (agrees r residues) (c .below) (has-agrees r x (c .has)) only
     where

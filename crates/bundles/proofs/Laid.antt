@@ -8,11 +8,10 @@ use native.Mathlib.Nat.{mod-lt}
 use native.Mathlib.Numerals.{add-one}
 use native.Mathlib.Omega.{arith}
 use lib.Dec.{eqb, eqb·suc-zero}
-use lib.ListN.{length, replicate, take, length-append, length-map, length-replicate, getD-replicate}
-use lib.Seq.{ext-getD, length-take-le, getD-take}
+use lib.ListN.{length, replicate, take, length-append, length-map, length-replicate}
 use borrow.Author.Tests.{eq-eqb, ne-eqb}
 use Rattle.lists.specs.Blocks.{blocks, tab}
-use Rattle.lists.proofs.Blocks.{replicate-tab}
+use Rattle.lists.proofs.Blocks.{replicate-tab, take-replicate}
 use Rattle.words.specs.declared.item.Item.{Item}
 use Rattle.words.specs.declared.item.Item.the-variants.{Project, Entry}
 use Rattle.words.specs.Encode.{wordOf, fileOf}
@@ -20,18 +19,18 @@ use Rattle.words.specs.Cut.{cutWord}
 use Rattle.words.specs.Fits.{Fits}
 use Rattle.words.proofs.Fitting.{cut-fits}
 use Rattle.writer.specs.Desk.{putWord, putWords, entryWords}
+use Rattle.writer.specs.Call.{fileWith}
 use Rattle.writer.proofs.HoldingFiles.{Kept}
 use Rattle.writer.proofs.HoldingTables.{kept-many}
 use Rattle.bundles.specs.declared.operation.Operation.{Operation}
 use Rattle.bundles.specs.Primes.{prime}
 use Rattle.bundles.specs.Part.{PartGate, itemsOf, wordsOf, scaled, gateAt, partWords}
-use Rattle.bundles.specs.Call.{fileWith}
 use Rattle.bundles.specs.Laying.{scaledItem, firstItem, zerosAfter, gateWords, Counts, Placed}
 use Rattle.bundles.proofs.Joined.{prime-most, prime-positive}
 
 -- ---- gate by gate
 
-pub words-append : (xs ys : List PartGate) → wordsOf (xs ++ ys) ≡ wordsOf xs ++ wordsOf ys
+words-append : (xs ys : List PartGate) → wordsOf (xs ++ ys) ≡ wordsOf xs ++ wordsOf ys
 unfolding wordsOf
 words-append [] ys = refl
 words-append (x ∷ xs) ys =
@@ -58,7 +57,7 @@ scaled-words zero p a =
     ap (λ (l : List ℕ). wordOf (Project p a) ∷ l) (ap (λ (l : List Item). map wordOf l) (sym (replicate-tab p (Entry 0))) ∙ map-zeros p)
 scaled-words (suc c) p a = rw (eqb·suc-zero c) refl
 
-pub gate-words : (operation : Operation) (a i : ℕ) → gateWords operation a i ≡ wordOf (firstItem operation a i) ∷ entryWords (replicate (zerosAfter operation i) 0)
+gate-words : (operation : Operation) (a i : ℕ) → gateWords operation a i ≡ wordOf (firstItem operation a i) ∷ entryWords (replicate (zerosAfter operation i) 0)
 gate-words (Operation.Add b) a i = refl
 gate-words (Operation.Multiply b) a i = refl
 gate-words (Operation.Scale constant) a i = scaled-words (constant % prime i) (prime i) (a + i)
@@ -198,15 +197,8 @@ pub zeros-long : {images : List ℕ} → images ≡ replicate 32 0 → length im
 zeros-long e = ap length e
 
 -- images of a local array
-pub zeros-part : {images : List ℕ} (n : ℕ) → n ≤ 32 → images ≡ replicate 32 0 → take n images ≡ replicate n 0
-zeros-part {images} n h e =
-    ap (take n) e
-    ∙ ext-getD 0 (take n (replicate 32 0)) (replicate n 0) (size ∙ sym (length-replicate n 0))
-    (λ i l. (let k : i < n = omega (arith, size) in
-    getD-take n (replicate 32 0) i 0 k ∙ getD-replicate 32 i 0 0 (omega arith) ∙ sym (getD-replicate n i 0 0 k)))
-  where
-    size : length {A = ℕ} (take n (replicate 32 0)) ≡ n
-    size = length-take-le n (replicate 32 0) h
+zeros-part : {images : List ℕ} (n : ℕ) → n ≤ 32 → images ≡ replicate 32 0 → take n images ≡ replicate n 0
+zeros-part n h e = ap (take n) e ∙ take-replicate n 32 0 h
 
 pub part-long : {images : List ℕ} (n : ℕ) → n ≤ 29 → images ≡ replicate 32 0 → length (take n images) ≡ n
 part-long n h e = ap length (zeros-part n (omega arith) e) ∙ length-replicate n 0

@@ -5,9 +5,9 @@ use mathlib.Core.Bool.{Bool, true, false, _&&_}
 use mathlib.Core.List.{List}
 use Prim.Native.Nat.{ℕ, _+_, _*_, _≤_, _<_}
 use native.Mathlib.Omega.{arith}
-use lib.Dec.{eqb, leb}
+use lib.Dec.{eqb, leb, ltb}
 use lib.ListN.{length}
-use borrow.Author.Tests.{leb-true, eqb-true, le-ltb, lt-ltb, le-leb, lt-leb, eq-eqb, ne-eqb}
+use borrow.Author.Tests.{leb-true, ltb-true, eqb-true, le-ltb, lt-ltb, le-leb, lt-leb, eq-eqb, ne-eqb}
 use Rattle.residue.proofs.Table.{and-left, and-right}
 use Rattle.checks.specs.declared.Refusal.{Refusal}
 use Rattle.checks.specs.declared.Refusal.the-variants.{NotMade, TooMany, WrongLength, TooShort, BundleRange, IntegerTooLarge}
@@ -17,11 +17,12 @@ use Rattle.checks.specs.Answer.{numberOf}
 use Rattle.checks.specs.Checked.{andThen, unless}
 use Rattle.checks.proofs.Answers.{unless-refused, andThen-stop, andThen-next, afterwards-refused, told}
 use Rattle.checks.proofs.Passed.{andThen-left, andThen-right, unless-passed, unless-true, afterwards-passed}
+use Rattle.writer.specs.Call.{fileWith}
 use Rattle.bundles.specs.declared.operation.Operation.{Operation}
 use Rattle.bundles.specs.Primes.{product}
 use Rattle.bundles.specs.Part.{partWords}
 use Rattle.bundles.specs.Integers.{split, join, allBelow}
-use Rattle.bundles.specs.Call.{rangeChecked, sizeChecked, integerChecked, splitChecked, joinChecked, constantChecked, areBelow, placeChecked, partChecked, fileWith, SplitCall}
+use Rattle.bundles.specs.Call.{rangeChecked, sizeChecked, integerChecked, splitChecked, joinChecked, constantChecked, areBelow, placeChecked, partChecked, SplitCall}
 use Rattle.bundles.specs.Climb.{Joins}
 use Rattle.bundles.specs.Laying.{Counts, Placed, Makes}
 
@@ -42,10 +43,10 @@ module _ {t b : Bool} (reason : Refusal) (e : t ≡ b) where
   pub passed : t ≡ true → Accepted ≡ unless b reason 0
   passed f = sym (unless-passed reason 0 (sym e ∙ f))
 
-  pub refused-first : (next : Answer) → t ≡ false → Refused reason 0 ≡ andThen (unless b reason 0) next
+  refused-first : (next : Answer) → t ≡ false → Refused reason 0 ≡ andThen (unless b reason 0) next
   refused-first next f = andThen-stop next (unless-refused reason 0 (sym e ∙ f))
 
-  pub passed-first : {answer next : Answer} → t ≡ true → answer ≡ next → answer ≡ andThen (unless b reason 0) next
+  passed-first : {answer next : Answer} → t ≡ true → answer ≡ next → answer ≡ andThen (unless b reason 0) next
   passed-first {answer} {next} f g = g ∙ sym (andThen-next next (unless-passed reason 0 (sym e ∙ f)))
 
 pub below-by : {operation o : Operation} (r first a : ℕ) {x : Bool} → operation ≡ o → x ≡ areBelow o r first a → x ≡ areBelow operation r first a
@@ -154,39 +155,58 @@ module _ (operation : Operation) (r first a size : ℕ) {below : Bool} (e : belo
 
 -- ---- what acceptance gives
 
-pub range-passed : (r : ℕ) → rangeChecked r ≡ Accepted → r ≤ 10
-unfolding rangeChecked
-range-passed r e = leb-true r 10 (and-right (leb 2 r) (leb r 10) (unless-true (leb 2 r && leb r 10) BundleRange 0 e))
+pub record InRange (r : ℕ) : Type 0 where
+  pub two : 2 ≤ r
+  pub ten : r ≤ 10
 
-pub size-passed : (r size : ℕ) → sizeChecked r size ≡ Accepted → size ≡ r
+range-passed : (r : ℕ) → rangeChecked r ≡ Accepted → InRange r
+unfolding rangeChecked
+range-passed r e =
+    let both = unless-true (leb 2 r && leb r 10) BundleRange 0 e in
+    record { two = leb-true 2 r (and-left (leb 2 r) (leb r 10) both); ten = leb-true r 10 (and-right (leb 2 r) (leb r 10) both) }
+
+size-passed : (r size : ℕ) → sizeChecked r size ≡ Accepted → size ≡ r
 size-passed r size e = eqb-true size r (unless-true (eqb size r) WrongLength 0 e)
 
-pub split-passed : (r x size : ℕ) → splitChecked r x size ≡ Accepted → (r ≤ 10) × (size ≡ r)
+pub record SplitPassed (r x bytes : ℕ) : Type 0 where
+  pub range : InRange r
+  pub size : bytes ≡ r
+  pub below : x < product r
+
+pub split-passed : (r x bytes : ℕ) → splitChecked r x bytes ≡ Accepted → SplitPassed r x bytes
 unfolding splitChecked
-split-passed r x size e =
-    let rest = andThen-right (rangeChecked r) (andThen (sizeChecked r size) (integerChecked r x)) e in (
-      range-passed r (andThen-left (rangeChecked r) (andThen (sizeChecked r size) (integerChecked r x)) e),
-      size-passed r size (andThen-left (sizeChecked r size) (integerChecked r x) rest),
-    )
+split-passed r x bytes e =
+    let rest = andThen-right (rangeChecked r) (andThen (sizeChecked r bytes) (integerChecked r x)) e in
+    record {
+      range = range-passed r (andThen-left (rangeChecked r) (andThen (sizeChecked r bytes) (integerChecked r x)) e);
+      size = size-passed r bytes (andThen-left (sizeChecked r bytes) (integerChecked r x) rest);
+      below = ltb-true x (product r) (unless-true (ltb x (product r)) IntegerTooLarge 0 (andThen-right (sizeChecked r bytes) (integerChecked r x) rest));
+    }
 
 pub record JoinPassed (r : ℕ) (residues : List ℕ) : Type 0 where
-  pub range : length residues ≤ 10
+  pub range : InRange r
   pub size : length residues ≡ r
-  pub below : allBelow (length residues) residues ≡ true
+  pub below : allBelow r residues ≡ true
 
 pub join-passed : (r : ℕ) (residues : List ℕ) → joinChecked r residues ≡ Accepted → JoinPassed r residues
 unfolding joinChecked
 join-passed r residues e =
     let last = unless (allBelow r residues) IntegerTooLarge 0 in
     let rest = andThen-right (rangeChecked r) (andThen (sizeChecked r (length residues)) last) e in
-    let range = range-passed r (andThen-left (rangeChecked r) (andThen (sizeChecked r (length residues)) last) e) in
-    let size = size-passed r (length residues) (andThen-left (sizeChecked r (length residues)) last rest) in
-    let below = unless-true (allBelow r residues) IntegerTooLarge 0 (andThen-right (sizeChecked r (length residues)) last rest) in
-    record { range = omega (arith, range, size); size = size; below = rw size below }
+    record {
+      range = range-passed r (andThen-left (rangeChecked r) (andThen (sizeChecked r (length residues)) last) e);
+      size = size-passed r (length residues) (andThen-left (sizeChecked r (length residues)) last rest);
+      below = unless-true (allBelow r residues) IntegerTooLarge 0 (andThen-right (sizeChecked r (length residues)) last rest);
+    }
 
-pub record PartPassed (operation : Operation) (r a size : ℕ) : Type 0 where
-  pub range : r ≤ 10
-  pub placed : Placed r a operation
+-- as the code asks for it
+pub join-asks : {r : ℕ} {residues : List ℕ} → JoinPassed r residues → (length residues ≤ 10) × (allBelow (length residues) residues ≡ true)
+join-asks p = (omega (arith, p .range .ten, p .size), rw (p .size) (p .below))
+
+pub record PartPassed (operation : Operation) (r first a size : ℕ) : Type 0 where
+  pub range : InRange r
+  pub below : areBelow operation r first a ≡ true
+  pub wires : first + r ≤ 1024
   pub room : 4 * length (partWords operation r a) ≤ size
 
 placed-below : (operation : Operation) (r first a : ℕ) → first + r ≤ 1024 → areBelow operation r first a ≡ true → Placed r a operation
@@ -198,7 +218,8 @@ placed-below (Operation.Multiply b) r first a h e =
     (omega (arith, leb-true (b + r) first (and-right (leb (a + r) first) (leb (b + r) first) e)))
 placed-below (Operation.Scale constant) r first a h e = Placed.scale (omega (arith, leb-true (a + r) first e))
 
-pub part-passed : (operation : Operation) (r first a size : ℕ) {answer : Answer} → answer ≡ partChecked operation r first a size → answer ≡ Accepted → PartPassed operation r a size
+pub part-passed : (operation : Operation) (r first a size : ℕ) {answer : Answer} → answer ≡ partChecked operation r first a size → answer ≡ Accepted
+    → PartPassed operation r first a size
 unfolding partChecked
 part-passed operation r first a size m passes =
     let e : partChecked operation r first a size ≡ Accepted = sym m ∙ passes in
@@ -208,19 +229,19 @@ part-passed operation r first a size m passes =
     let last = unless (leb n size) TooShort 0 in
     let second = andThen (constantChecked operation r) (placeChecked operation r first a size) in
     let place = andThen-right (constantChecked operation r) (placeChecked operation r first a size) (andThen-right (rangeChecked r) second e) in
-    let below = unless-true (areBelow operation r first a) NotMade 0 (andThen-left fifth (andThen eighth last) place) in
     let rest = andThen-right fifth (andThen eighth last) place in
-    let few = leb-true (first + r) 1024 (unless-true (leb (first + r) 1024) TooMany 0 (andThen-left eighth last rest)) in
     record {
       range = range-passed r (andThen-left (rangeChecked r) second e);
-      placed = placed-below operation r first a few below;
+      below = unless-true (areBelow operation r first a) NotMade 0 (andThen-left fifth (andThen eighth last) place);
+      wires = leb-true (first + r) 1024 (unless-true (leb (first + r) 1024) TooMany 0 (andThen-left eighth last rest));
       room = leb-true n size (unless-true (leb n size) TooShort 0 (andThen-right eighth last rest));
     }
 
-pub part-lays : {operation : Operation} {r a size count : ℕ} → count ≡ r → PartPassed operation r a size
+pub part-lays : {operation : Operation} {r first a size count : ℕ} → count ≡ r → PartPassed operation r first a size
     → (count ≤ 10) × Placed count a operation × (4 * length (partWords operation count a) ≤ size)
-part-lays {operation} {r} {a} {size} {count} e p =
-    subst (λ (n : ℕ). (n ≤ 10) × Placed n a operation × (4 * length (partWords operation n a) ≤ size)) (sym e) (p .range, p .placed, p .room)
+part-lays {operation} {r} {first} {a} {size} {count} e p =
+    subst (λ (n : ℕ). (n ≤ 10) × Placed n a operation × (4 * length (partWords operation n a) ≤ size)) (sym e)
+    (p .range .ten, placed-below operation r first a (p .wires) (p .below), p .room)
 
 -- ---- what the calls promise, accepted and refused
 
@@ -238,7 +259,7 @@ pub joins-refused : {r place : ℕ} {residues : List ℕ} {answer : Answer} {rea
 joins-refused {r} {place} {residues} m e = record { answer = m; integer = afterwards-refused (sym m ∙ e) (join r residues) 0 }
 
 module _ {operation : Operation} {r first a : ℕ} {before : List ℕ} {answer : Answer} (m : answer ≡ partChecked operation r first a (length before)) where
-  pub makes-accepted : {n : ℕ} {after : List ℕ} → answer ≡ Accepted → n ≡ length (partWords operation r a) → after ≡ fileWith (partWords operation r a) before
+  makes-accepted : {n : ℕ} {after : List ℕ} → answer ≡ Accepted → n ≡ length (partWords operation r a) → after ≡ fileWith (partWords operation r a) before
       → Makes operation r first a before (record { answer = answer; words = n }) after
   makes-accepted e f g =
       record {
@@ -269,7 +290,7 @@ splits-accepted r x before m e f =
       answer = told (sym e ∙ m) refl refl;
       residuesAre =
           f
-          ∙ ap (λ (n : ℕ). split n x) (split-passed r x (length before) (sym m ∙ e) .1)
+          ∙ ap (λ (n : ℕ). split n x) (split-passed r x (length before) (sym m ∙ e) .size)
           ∙ sym (afterwards-passed (sym m ∙ e) (split r x) before);
     }
 

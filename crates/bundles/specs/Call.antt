@@ -3,15 +3,15 @@
 -- Assumes nothing.
 use mathlib.Core.Path.{_≡_}
 use mathlib.Core.Bool.{Bool, _&&_}
-use mathlib.Core.List.{List, _++_}
+use mathlib.Core.List.{List}
 use Prim.Native.Nat.{ℕ, _+_, _*_}
 use lib.Dec.{eqb, leb, ltb}
-use lib.ListN.{length, drop}
+use lib.ListN.{length}
 use Rattle.checks.specs.declared.Answer.{Answer}
 use Rattle.checks.specs.declared.Answer.the-variants.{Accepted}
 use Rattle.checks.specs.declared.Refusal.the-variants.{NotMade, TooMany, WrongLength, TooShort, BundleRange, IntegerTooLarge}
 use Rattle.checks.specs.Checked.{Reports, andThen, unless, afterwards}
-use Rattle.words.specs.Encode.{fileOf}
+use Rattle.writer.specs.Call.{fileWith}
 use Rattle.bundles.specs.declared.operation.Operation.{Operation}
 use Rattle.bundles.specs.Primes.{product}
 use Rattle.bundles.specs.Integers.{split, join, allBelow}
@@ -68,10 +68,7 @@ placeChecked operation r first a size =
 unfoldable pub partChecked : Operation → ℕ → ℕ → ℕ → ℕ → Answer
 partChecked operation r first a size = andThen (rangeChecked r) (andThen (constantChecked operation r) (placeChecked operation r first a size))
 
--- the words stand at the front of the buffer; what is behind them stays
-abbrev pub fileWith : List ℕ → List ℕ → List ℕ
-fileWith words file₀ = fileOf words ++ drop (4 * length words) file₀
-
+-- the words stand at the front of the buffer, as in order 1
 pub record PartCall (operation : Operation) (r first a : ℕ) (file₀ : List ℕ) (words₀ : ℕ) (number place : ℕ) (file : List ℕ) (words : ℕ) : Type 0 where
   pub answer : Reports (partChecked operation r first a (length file₀)) number place
   pub fileIs : file ≡ afterwards (partChecked operation r first a (length file₀)) (fileWith (partWords operation r a) file₀) file₀

@@ -13,7 +13,6 @@ use Rattle.bundles.specs.Call.{joinChecked}
 
 -- times the inverse, the product of the primes before prime i is 1 modulo it
 pub record Inverts (i inverse : ℕ) : Type 0 where
-  pub small : inverse < prime i
   pub rule : mul (prime i) (product i) inverse ≡ 1
 
 -- a list of one for each of ten primes

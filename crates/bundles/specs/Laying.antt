@@ -11,11 +11,12 @@ use Rattle.checks.specs.Checked.{afterwards}
 use Rattle.words.specs.declared.item.Item.{Item}
 use Rattle.words.specs.declared.item.Item.the-variants.{Add, Scale, Multiply, Project}
 use Rattle.words.specs.Encode.{wordOf}
+use Rattle.writer.specs.Call.{fileWith}
 use Rattle.bundles.specs.declared.operation.Operation.{Operation}
 use Rattle.bundles.specs.declared.part.Part.{Part}
 use Rattle.bundles.specs.Primes.{prime}
 use Rattle.bundles.specs.Part.{itemsOf, gateAt, partWords}
-use Rattle.bundles.specs.Call.{partChecked, fileWith}
+use Rattle.bundles.specs.Call.{partChecked}
 
 -- what the first word of a gate says
 unfoldable pub scaledItem : ℕ → ℕ → ℕ → Item

@@ -57,7 +57,7 @@ fn zeros_after(operation: Operation, i: usize) -> usize
     }
 }
 
-// How many words a part of r gates has. They are few, so that no index behind them comes near the limit of what lays a word.
+// How many words a part of r gates has: at most 1,000, far below the index up to which `put_word` can be called.
 pub fn word_count(operation: Operation, r: usize) -> usize
     requires { ⌜ r ≤ 10 ⌝ }
     ensures { λ n. ⌜ Counts operation r n × (n ≤ 1000) ⌝ }

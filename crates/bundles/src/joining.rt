@@ -97,7 +97,7 @@ fn join_checked(r: u32, residues: &[u8]) -> Answer
     Answer::Accepted
 }
 
-// An answer, and where it accepts the integer.
+// An answer and, where it accepts, the integer; else 0.
 pub struct Joined {
     pub answer: Answer,
     pub integer: u64,

@@ -3,7 +3,7 @@ ghost use mathlib.Core.Path.{_≡_};
 ghost use Prim.Native.Nat.{_*_, _≤_};
 ghost use lib.ListN.{length};
 ghost use Rattle.bundles.specs.Part.{partWords};
-ghost use Rattle.bundles.specs.Call.{fileWith};
+ghost use Rattle.writer.specs.Call.{fileWith};
 ghost use Rattle.bundles.specs.Laying.{Placed, Makes};
 use super::gates::lay_gate;
 use super::gates::word_count;
@@ -13,7 +13,7 @@ use checks::Answer;
 use lists::index_number;
 use lists::number_index;
 
-// An answer, and where it accepts the number of words.
+// An answer and, where it accepts, the number of words; else 0.
 pub struct Part {
     pub answer: Answer,
     pub words: u32,

@@ -15,6 +15,11 @@ use Rattle.checks.specs.declared.Answer.the-variants.{Accepted, Refused}
 use Rattle.checks.specs.Checked.{andThen, unless, noneBad, afterwards}
 use Rattle.checks.proofs.Answers.{named-past, andThen-next}
 
+-- ---- what was refused was not accepted
+
+pub never : {A : Type 0} {reason : Refusal} {place : ℕ} → Refused reason place ≡ Accepted → A
+never e = let z : _≡_ {A = ℕ} 0 1 = cc in absurd (omega arith)
+
 -- ---- one check after another
 
 pub andThen-passed : {a b : Answer} → a ≡ Accepted → b ≡ Accepted → andThen a b ≡ Accepted

@@ -10,8 +10,8 @@ use lib.Dec.{ltb}
 use lib.ListN.{length}
 use borrow.Author.Tests.{ltb-true}
 use Rattle.residue.proofs.Table.{and-left}
-use Rattle.checks.specs.declared.Refusal.{Refusal}
-use Rattle.checks.specs.declared.Answer.the-variants.{Accepted, Refused}
+use Rattle.checks.specs.declared.Answer.the-variants.{Accepted}
+use Rattle.checks.proofs.Passed.{never}
 use Rattle.words.specs.declared.gate.Wire.{Wire}
 use Rattle.words.specs.declared.gate.Due.{Due}
 use Rattle.words.specs.declared.gate.Due.the-variants.{Inputs}
@@ -23,9 +23,6 @@ use Rattle.circuit.proofs.State.{Sound, State, Next, next, nothing}
 -- what acceptance is to give
 abbrev Good : List ℕ → Read → Type 0
 Good file read = read .answer ≡ Accepted → AcceptedCircuit file (read .wires) (read .outputs)
-
-never : {A : Type 0} {reason : Refusal} {place : ℕ} → Refused reason place ≡ Accepted → A
-never e = let z : _≡_ {A = ℕ} 0 1 = cc in absurd (omega arith)
 
 finish :
     (b : Bool) (file : List ℕ) (at : ℕ) (wires : List Wire) (given : List ℕ)

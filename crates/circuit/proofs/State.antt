@@ -80,7 +80,7 @@ pub data State (file : List ℕ) (at : ℕ) : Due → List Wire → List ℕ →
       → Choosing wires bit
       → State file at (Branches bit) wires given
 
-not-true : {A : Type 0} → false ≡ true → A
+pub not-true : {A : Type 0} → false ≡ true → A
 not-true e = absurd (true≢false (sym e))
 
 -- a prime is not 0

@@ -10,8 +10,8 @@ use lib.Dec.{ltb, leb}
 use lib.ListN.{length}
 use borrow.Author.Tests.{leb-true, ltb-true, eqb-true}
 use Rattle.residue.proofs.Table.{and-left, and-right}
-use Rattle.checks.specs.declared.Refusal.{Refusal}
-use Rattle.checks.specs.declared.Answer.the-variants.{Accepted, Refused}
+use Rattle.checks.specs.declared.Answer.the-variants.{Accepted}
+use Rattle.checks.proofs.Passed.{never}
 use Rattle.lists.specs.Blocks.{blocks, tab}
 use Rattle.words.specs.Bits.{wordAt}
 use Rattle.words.specs.Items.{outputDue}
@@ -36,9 +36,6 @@ use Rattle.editor.proofs.BackwardsItems.{Does, did-so}
 use Rattle.editor.proofs.BackwardsLaid.{draftAt}
 use Rattle.editor.proofs.BackwardsAhead.{Ahead, Here, gates-on, make-one, begin-table, take-entry, begin-choice, take-branches, give-one, end-here}
 use Rattle.editor.proofs.BackwardsWrote.{Wrote}
-
-never : {A : Type 0} {reason : Refusal} {place : ℕ} → Refused reason place ≡ Accepted → A
-never e = let z : _≡_ {A = ℕ} 0 1 = cc in absurd (omega arith)
 
 -- in a table some entry is left
 some-left : {file : List ℕ} {at left q : ℕ} {wires : List Wire} {outputs : List ℕ} → State file at (Entries left q) wires outputs → 0 < left

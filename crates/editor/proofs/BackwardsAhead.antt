@@ -21,8 +21,9 @@ use Rattle.circuit.specs.Wires.{moduliOf, modulusAt}
 use Rattle.circuit.specs.File.{Read, accepted, wordsIn}
 use Rattle.circuit.proofs.More.{made, modulus-of, modulus-kept}
 use Rattle.editor.proofs.Decoded.{Spells, image-of}
+use Rattle.circuit.proofs.State.{not-true}
 use Rattle.editor.proofs.BackwardsTables.{images}
-use Rattle.editor.proofs.BackwardsItems.{not-true, gate-output, Single}
+use Rattle.editor.proofs.BackwardsItems.{gate-output, Single}
 use Rattle.editor.proofs.BackwardsWrote.{Wrote, WroteOn, wrote-one, wrote-table, wrote-entry, wrote-last, wrote-select, wrote-branches, wrote-output, wrote-end}
 
 -- what the writer still writes, by what is due: behind the first output no wire comes

@@ -1,8 +1,8 @@
 -- What an item that is not refused did, by what was due: the few things that can happen between a record and the next, told by the record that stands for
 -- it.
 -- Assumes nothing.
-use mathlib.Core.Path.{_≡_, refl, sym}
-use mathlib.Core.Bool.{Bool, true, false, true≢false}
+use mathlib.Core.Path.{_≡_, refl}
+use mathlib.Core.Bool.{Bool, true, false}
 use mathlib.Core.List.{List, [], _∷_}
 use Prim.Native.Nat.{ℕ, _+_, _<_}
 use lib.ListN.{length, getD}
@@ -16,6 +16,7 @@ use Rattle.words.specs.declared.gate.Due.the-variants.{Inputs, Gates, Outputs, 
 use Rattle.words.specs.declared.gate.Step.{Step}
 use Rattle.words.specs.declared.gate.Step.the-variants.{Refused, Makes, Goes, Gives, Ends}
 use Rattle.words.specs.declared.item.Item.{Item}
+use Rattle.circuit.proofs.State.{not-true}
 use Rattle.writer.specs.Says.{items, spoken, speechOf}
 use Rattle.writer.specs.Listed.{wireRecord, tableOf}
 
@@ -56,9 +57,6 @@ pub data Does (moduli : List ℕ) (at : ℕ) : Due → Item → Step → Type 0 
       {bit a b modulus : ℕ} → Does moduli at (Branches bit) (Item.Branches a b) (Makes (wireOf (Select (record { bit = bit; a = a; b = b })) modulus) Gates)
   gives : {due : Due} {a : ℕ} → outputDue due ≡ true → Does moduli at due (Item.Output a) (Gives a)
   ends : {due : Due} → outputDue due ≡ true → Does moduli at due Item.End Ends
-
-pub not-true : {A : Type 0} → false ≡ true → A
-not-true e = absurd (true≢false (sym e))
 
 -- where inputs are due, gates are; and where gates are, outputs are
 input-gate : (due : Due) → inputDue due ≡ true → gateDue due ≡ true

@@ -18,11 +18,11 @@ use Rattle.words.specs.declared.gate.Step.{Step}
 use Rattle.words.specs.declared.gate.Step.the-variants.{Makes, Goes, Gives, Ends}
 use Rattle.words.specs.declared.item.Item.{Item}
 use Rattle.circuit.specs.Wires.{moduliOf}
+use Rattle.circuit.proofs.State.{not-true}
 use Rattle.circuit.proofs.More.{length-more}
 use Rattle.writer.specs.declared.entry.Record.{Record}
 use Rattle.writer.specs.Says.{items, speechOf}
 use Rattle.writer.specs.Written.{Draft, Drafted, drafted, leaving, afterItem, laid, unlessStopped, laidAll, whole, saidTo, recorded}
-use Rattle.editor.proofs.BackwardsItems.{not-true}
 
 -- the draft where the reader stands at an index, with these wires and outputs so far and these table entries left
 abbrev pub draftAt : List ℕ → ℕ → Due → List Wire → List ℕ → List ℕ → Draft

@@ -1,42 +1,40 @@
 -- The theorem on acceptance: a part that the call writes for the next wire of an accepted circuit that has the bundles, laid behind the circuit's gates, is
--- accepted, with any outputs behind it that fit.
+-- accepted, with any outputs behind it that fit; and what stood among the gates stands there still.
 -- Assumes nothing.
 use mathlib.Core.Path.{_≡_, refl, sym, ap, ap₂, subst, _∙_}
-use mathlib.Core.Bool.{Bool, true, _&&_}
+use mathlib.Core.Bool.{Bool, true}
 use mathlib.Core.List.{List, [], _∷_, _++_, map, append-nil, append-assoc}
 use Prim.Native.Nat.{ℕ, zero, suc, _+_, _-_, _*_, _%_, _≤_, _<_}
 use native.Mathlib.Omega.{arith}
-use lib.Dec.{ltb, leb}
-use lib.ListN.{length, getD, take, drop, length-append, take-append-drop}
-use lib.Seq.{length-take-le, getD-append-add}
+use lib.ListN.{length, getD, take, drop, length-append, length-map, take-append-drop}
+use lib.Seq.{length-take-le, getD-append-add, take-append-add}
 use borrow.Author.Tests.{lt-ltb, le-leb}
 use Rattle.lists.proofs.Blocks.{length-tab, getD-tab}
 use Rattle.checks.specs.declared.Answer.the-variants.{Accepted}
 use Rattle.words.specs.Bits.{wordAt}
-use Rattle.words.specs.Items.{gateDue, outputDue, judged}
+use Rattle.words.specs.Items.{gateDue, outputDue}
 use Rattle.words.specs.Encode.{wordOf, fileOf}
 use Rattle.words.specs.Fits.{Fits}
 use Rattle.words.specs.declared.gate.Wire.{Wire}
 use Rattle.words.specs.declared.gate.Due.{Due}
 use Rattle.words.specs.declared.gate.Due.the-variants.{Inputs, Gates, Outputs, Entries, Branches}
-use Rattle.words.specs.declared.gate.Step.the-variants.{Gives, Ends}
-use Rattle.words.specs.declared.item.Item.{Item}
 use Rattle.words.specs.declared.item.Item.the-variants.{Output, End}
-use Rattle.words.proofs.Files.{length-file, file-append}
+use Rattle.words.proofs.Files.{length-file}
 use Rattle.circuit.specs.Wires.{noWire, moduliOf}
-use Rattle.circuit.specs.File.{Read, wordsIn, accepted, ended, after, readFrom, readFile}
+use Rattle.circuit.specs.File.{Read, accepted, ended, after, readFile}
 use Rattle.circuit.proofs.Accepted.{accepted as circuit-of}
 use Rattle.circuit.proofs.More.{made, length-more}
 use Rattle.bundles.specs.declared.operation.Operation.{Operation}
 use Rattle.bundles.specs.Primes.{prime}
 use Rattle.bundles.specs.Part.{PartGate, Sum, scaled, gateAt, partOf, partWords}
-use Rattle.integers.specs.Reach.{Reach}
+use Rattle.bundles.proofs.Verdicts.{PartPassed, part-passed}
+use Rattle.integers.specs.Reach.{Reach, Has}
 use Rattle.integers.specs.Bundle.{Bundle, Given}
-use Rattle.integers.specs.Promise.{wordsToGates, gates, closing, appended, OutputsFit, AcceptedBehind, AppendedIsAccepted}
+use Rattle.integers.specs.Promise.{wordsToGates, gates, closing, appended, OutputsFit, Among, AcceptedBehind, AppendedIsAccepted}
 use Rattle.integers.proofs.Places.{word-before, Stands, stands, stands-right}
-use Rattle.integers.proofs.Reaching.{read-on, itself, SameTo, moved, turned}
+use Rattle.integers.proofs.Reaching.{read-on, itself, SameTo, fewer, moved, turned}
 use Rattle.integers.proofs.Suits.{modulusOf, AllSuit, Arrived, wire-modulus, advance, partWires, length-partWires, said, first-word, passed}
-use Rattle.integers.proofs.Computes.{Checked, checked, holds, part-suits}
+use Rattle.integers.proofs.Computes.{holds, part-suits}
 use Rattle.integers.proofs.GatesEnd.{Ended, gates-end}
 
 -- ---- outputs and the end word behind the last gate
@@ -104,10 +102,53 @@ wires-moduli [] at i l = absurd (omega arith)
 wires-moduli (gate ∷ gates) at zero l = wire-modulus at gate
 wires-moduli (gate ∷ gates) at (suc i) l = wires-moduli gates _ i (omega arith)
 
+length-closing : (outputs : List ℕ) → length (closing outputs) ≡ suc (length outputs)
+length-closing outputs =
+    length-map (map Output outputs ++ (End ∷ [])) wordOf
+    ∙ length-more (map Output outputs) End
+    ∙ ap suc (length-map outputs Output)
+
+-- ---- what stands among the gates
+
+-- .. of a file that begins with the same gates
+module _ (file new rest : List ℕ) (is : new ≡ gates file ++ rest) {at : ℕ} (same : SameTo file new at) (place : wordsToGates file ≡ at) {next : ℕ} {bytes : List ℕ} (m : Among file next bytes) where
+  abbrev had : Has file next bytes
+  had = m .has
+
+  -- what is left of the gates behind the bytes
+  abbrev left : List ℕ
+  left = take (4 * wordsToGates file - (length (had .front) + length bytes)) (had .rest)
+
+  gates-are : gates file ≡ had .front ++ (bytes ++ left)
+  gates-are =
+      let n = 4 * wordsToGates file - (length (had .front) + length bytes) in
+      let count : 4 * wordsToGates file ≡ length (had .front) + (length bytes + n) = omega (arith, m .inside) in
+      ap₂ take count (had .is)
+      ∙ take-append-add (had .front) (bytes ++ had .rest) (length bytes + n)
+      ∙ ap (λ (l : List ℕ). had .front ++ l) (take-append-add bytes (had .rest) n)
+
+  still : wordsToGates file ≤ wordsToGates new → Among new next bytes
+  still more =
+      record {
+        has = record {
+          front = had .front;
+          rest = left ++ rest;
+          is = is ∙ ap (λ (l : List ℕ). l ++ rest) gates-are ∙ append-assoc (had .front) (bytes ++ left) rest ∙ ap (λ (l : List ℕ). had .front ++ l) (append-assoc bytes left rest);
+          at = had .at;
+          whole = had .whole;
+          due = had .due;
+          wires = had .wires;
+          outputs = had .outputs;
+          reached = moved (had .reached) (fewer same (omega (arith, m .inside, had .whole, place)));
+          made = had .made;
+        };
+        inside = omega (arith, m .inside, more);
+      }
+
 -- ---- the file with the part
 
 module _ (file : List ℕ) (operation : Operation) (r a : ℕ) (outputs : List ℕ) (good : readFile file .answer ≡ Accepted)
-    (c : Checked operation r (length (readFile file .wires)) a) where
+    {bytes : ℕ} (c : PartPassed operation r (length (readFile file .wires)) a bytes) where
   abbrev before : List Wire
   before = readFile file .wires
 
@@ -155,7 +196,7 @@ module _ (file : List ℕ) (operation : Operation) (r a : ℕ) (outputs : List �
 
   module _ (given : Given before r a operation) (fit : OutputsFit outputs (length before + r)) where
     gates-of : AllSuit (moduliOf before) (partOf operation r a)
-    gates-of = part-suits (c .ten) (holds before before (itself before) refl (c .below) given)
+    gates-of = part-suits (c .range .ten) (holds before before (itself before) refl (c .below) given)
 
     count : length (partOf operation r a) ≡ r
     count = length-tab r (gateAt operation a)
@@ -168,7 +209,7 @@ module _ (file : List ℕ) (operation : Operation) (r a : ℕ) (outputs : List �
 
     arrived : Arrived new (end .at + length part) (before ++ more) []
     arrived =
-        advance (record { due = end .due; here = end .here; reach = reach }) refl gates-of (omega (arith, count, c .room)) there
+        advance (record { due = end .due; here = end .here; reach = reach }) refl gates-of (omega (arith, count, c .wires)) there
 
     -- the new wires have the primes as moduli
     made-bundle : Bundle (before ++ more) r (length before)
@@ -182,15 +223,19 @@ module _ (file : List ℕ) (operation : Operation) (r a : ℕ) (outputs : List �
               ∙ gate-modulus operation a i;
         }
 
-    behind-it : AcceptedBehind file part outputs r
-    behind-it =
+    accepts : readFile new ≡ accepted (before ++ more) outputs
+    accepts =
+        closes new (before ++ more) (omega (arith, length-more-wires, c .wires)) outputs [] (end .at + length part) (arrived .due) (arrived .reach)
+        (gates-outputs (arrived .due) (arrived .here)) behind-part size
+        (record { some = omega (arith, fit .some); few = omega (arith, fit .most); lower = λ i l. omega (arith, fit .made i l, length-more-wires) })
+
+    -- the gates now end behind the part
+    gates-now : wordsToGates new ≡ end .at + length part
+    gates-now = omega (arith, size, length-closing outputs, ap (λ (read : Read). length (read .outputs)) accepts)
+
+    has-part : Among new (length before) (fileOf part)
+    has-part =
         record {
-          more = more;
-          made = length-partWires (partOf operation r a) (end .at) ∙ count;
-          reads = closes new (before ++ more) (omega (arith, length-more-wires, c .room)) outputs [] (end .at + length part) (arrived .due) (arrived .reach)
-              (gates-outputs (arrived .due) (arrived .here)) behind-part size
-              (record { some = omega (arith, fit .some); few = omega (arith, fit .most); lower = λ i l. omega (arith, fit .made i l, length-more-wires) });
-          bundle = made-bundle;
           has = record {
             front = gates file;
             rest = fileOf (closing outputs);
@@ -203,11 +248,26 @@ module _ (file : List ℕ) (operation : Operation) (r a : ℕ) (outputs : List �
             reached = reach;
             made = refl;
           };
+          inside = omega (arith, whole, length-file part, gates-now);
+        }
+
+    stay : (next : ℕ) (bytes : List ℕ) → Among file next bytes → Among new next bytes
+    stay next bytes m = still file new (fileOf part ++ fileOf (closing outputs)) refl same place m (omega (arith, place, gates-now))
+
+    behind-it : AcceptedBehind file part outputs r
+    behind-it =
+        record {
+          more = more;
+          made = length-partWires (partOf operation r a) (end .at) ∙ count;
+          reads = accepts;
+          bundle = made-bundle;
+          has = has-part;
+          stays = stay;
         }
 
 pub behind : AppendedIsAccepted
 behind file operation r a size outputs good checks given fit =
-    behind-it file operation r a outputs good (checked operation r (length (readFile file .wires)) a size checks) given fit
+    behind-it file operation r a outputs good (part-passed operation r (length (readFile file .wires)) a size refl checks) given fit
 
 -- the outputs that the circuit had fit: they may stand behind the part too
 pub own-outputs : (file : List ℕ) (r : ℕ) → readFile file .answer ≡ Accepted → OutputsFit (readFile file .outputs) (length (readFile file .wires) + r)

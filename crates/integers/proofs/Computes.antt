@@ -2,23 +2,20 @@
 -- carries the result.
 -- Assumes nothing.
 use mathlib.Core.Path.{_≡_, refl, sym, ap, ap₂, subst, _∙_}
-use mathlib.Core.Bool.{Bool, true, false, _&&_}
-use mathlib.Core.List.{List, [], _∷_, _++_, map}
+use mathlib.Core.Bool.{true, _&&_}
+use mathlib.Core.List.{List, _∷_, map}
 use Prim.Native.Nat.{ℕ, zero, suc, _+_, _-_, _*_, _%_, _≤_, _<_}
 use native.Mathlib.Nat.{mod-lt, add-mod, add-zero, zero-mul, zero-mod}
 use native.Mathlib.Omega.{arith}
 use lib.Dec.{leb}
-use lib.ListN.{length, getD, length-append, List·getD-append}
+use lib.ListN.{length, getD}
 use borrow.Author.Tests.{leb-true, lt-ltb}
-use Rattle.lists.specs.Blocks.{tab}
 use Rattle.lists.proofs.Blocks.{length-tab, getD-tab}
 use Rattle.residue.specs.Residue.{add, mul}
 use Rattle.residue.proofs.Table.{and-left, and-right}
 use Rattle.residue.proofs.Ring.{ring}
 use Rattle.residue.proofs.Ring.Expr.{var, _⊕_, _⊗_}
 use Rattle.checks.specs.declared.Answer.the-variants.{Accepted}
-use Rattle.checks.specs.Checked.{andThen, unless}
-use Rattle.checks.proofs.Passed.{andThen-left, andThen-right, unless-true}
 use Rattle.words.specs.Items.{gateDue, isModulus}
 use Rattle.words.specs.Encode.{wordOf, fileOf}
 use Rattle.words.specs.declared.gate.Wire.{Wire}
@@ -29,7 +26,8 @@ use Rattle.circuit.proofs.More.{made, modulus-of, modulus-kept}
 use Rattle.bundles.specs.declared.operation.Operation.{Operation}
 use Rattle.bundles.specs.Primes.{prime}
 use Rattle.bundles.specs.Part.{PartGate, Sum, itemsOf, wordsOf, scaled, gateAt, partOf, partWords}
-use Rattle.bundles.specs.Call.{rangeChecked, constantChecked, areBelow, placeChecked, partChecked}
+use Rattle.bundles.specs.Call.{areBelow}
+use Rattle.bundles.proofs.Verdicts.{PartPassed, part-passed}
 use Rattle.bundles.proofs.Joined.{prime-small, prime-positive, prime-is}
 use Rattle.integers.specs.Reach.{Reach, Has}
 use Rattle.integers.specs.Bundle.{Bundle, Carries, Given, Carried, result}
@@ -39,26 +37,6 @@ use Rattle.integers.proofs.Reaching.{wires-stay, Longer}
 use Rattle.integers.proofs.Suits as suit
 use Rattle.integers.proofs.Suits.{modulusOf, Suits, AllSuit, Arrived, apart, starts}
 use Rattle.integers.proofs.Meets.{Meets, valueAt, valueOf, Ranged, each-at, meets}
-
--- ---- what the checks of a part say
-
-pub record Checked (operation : Operation) (r first a : ℕ) : Type 0 where
-  pub two : 2 ≤ r
-  pub ten : r ≤ 10
-  pub below : areBelow operation r first a ≡ true
-  pub room : first + r ≤ 1024
-
-pub checked : (operation : Operation) (r first a size : ℕ) → partChecked operation r first a size ≡ Accepted → Checked operation r first a
-unfolding partChecked rangeChecked
-checked operation r first a size e =
-    let range = unless-true _ _ _ (andThen-left (rangeChecked r) _ e) in
-    let placed = andThen-right (constantChecked operation r) _ (andThen-right (rangeChecked r) _ e) in
-    record {
-      two = leb-true 2 r (and-left (leb 2 r) (leb r 10) range);
-      ten = leb-true r 10 (and-right (leb 2 r) (leb r 10) range);
-      below = unless-true _ _ _ (andThen-left _ _ placed);
-      room = leb-true (first + r) 1024 (unless-true _ _ _ (andThen-left _ _ (andThen-right _ _ placed)));
-    }
 
 -- ---- the gates suit a circuit that has the bundles
 
@@ -179,7 +157,7 @@ module _ (file : List ℕ) (good : readFile file .answer ≡ Accepted) {at : ℕ
   due-there {gates = gate ∷ gates} (AllSuit.more f fs) h most s = starts reach good most f (stands-left (map wordOf (itemsOf gate)) (wordsOf gates) s)
 
 module _ (file values : List ℕ) (operation : Operation) (r first a x y : ℕ) (good : readFile file .answer ≡ Accepted)
-    (c : Checked operation r first a) (has : Has file first (fileOf (partWords operation r a))) (carried : Carried file values r a x y operation) where
+    {size : ℕ} (c : PartPassed operation r first a size) (has : Has file first (fileOf (partWords operation r a))) (carried : Carried file values r a x y operation) where
   there : Stands file (has .at) (partWords operation r a)
   there = subst (λ (f : List ℕ). Stands f (has .at) (partWords operation r a)) (sym (has .is)) (stands (has .front) (partWords operation r a) (has .rest) (has .at) (has .whole))
 
@@ -187,16 +165,16 @@ module _ (file values : List ℕ) (operation : Operation) (r first a x y : ℕ) 
   long = wires-stay (has .reached) good (omega (arith, there .inside))
 
   suited : AllSuit (moduliOf (has .wires)) (partOf operation r a)
-  suited = part-suits (c .ten) (holds (has .wires) (readFile file .wires) long (has .made) (c .below) (given carried))
+  suited = part-suits (c .range .ten) (holds (has .wires) (readFile file .wires) long (has .made) (c .below) (given carried))
 
   space : length (has .wires) + length (partOf operation r a) ≤ 1024
-  space = omega (arith, has .made, length-tab r (gateAt operation a), c .room)
+  space = omega (arith, has .made, length-tab r (gateAt operation a), c .wires)
 
   arrived : Arrived file (has .at) (has .wires) (has .outputs)
   arrived =
       record {
         due = has .due;
-        here = due-there file good (has .reached) suited (omega (arith, length-tab r (gateAt operation a), c .two)) (omega (arith, space)) there;
+        here = due-there file good (has .reached) suited (omega (arith, length-tab r (gateAt operation a), c .range .two)) (omega (arith, space)) there;
         reach = has .reached;
       }
 
@@ -208,12 +186,12 @@ module _ (file values : List ℕ) (operation : Operation) (r first a x y : ℕ) 
 
   out : Carries file values r first (result operation x y)
   out =
-      let last = met (r - 1) (omega (arith, c .two)) in
+      let last = met (r - 1) (omega (arith, c .range .two)) in
       record {
-        bundle = record { made = omega (arith, last .made, c .two); moduli = λ i l. met i l .modulus ∙ gives-at (c .ten) carried i l .modulus };
-        residues = λ i l. (let g = gives-at (c .ten) carried i l in met i l .value (g .ranged) ∙ g .gives);
+        bundle = record { made = omega (arith, last .made, c .range .two); moduli = λ i l. met i l .modulus ∙ gives-at (c .range .ten) carried i l .modulus };
+        residues = λ i l. (let g = gives-at (c .range .ten) carried i l in met i l .value (g .ranged) ∙ g .gives);
       }
 
 pub computes : PartComputes
 computes file values operation r first a x y size good checks has carried =
-    out file values operation r first a x y good (checked operation r first a size checks) has carried
+    out file values operation r first a x y good (part-passed operation r first a size refl checks) has carried

@@ -1,9 +1,9 @@
--- The theorems at work: 17 and 9 go in, the sum carries 26 and its multiple 104, and the plain circuit's outputs join to 14, which is 104 modulo 30 and is computed.
--- The same circuit from its inputs, by one part appended after the other, is accepted.
+-- The theorems at work. A circuit is made from its inputs, by one part appended after the other. 17 and 9 go in, the sum carries 26 and its multiple 104, and the plain
+-- circuit's outputs join to 14, which is 104 modulo 30 and is computed.
 -- Assumes nothing.
 use mathlib.Core.Path.{_≡_, refl, sym, ap, ap₂, subst, _∙_}
 use mathlib.Core.List.{List, [], _∷_, _++_}
-use Prim.Native.Nat.{ℕ, zero, suc, _+_, _*_, _<_}
+use Prim.Native.Nat.{ℕ, zero, suc, _+_, _<_}
 use native.Mathlib.Omega.{arith}
 use lib.ListN.{length, getD, length-append}
 use Rattle.lists.specs.Blocks.{blocks, part}
@@ -25,9 +25,9 @@ use Rattle.bundles.specs.Primes.{prime, productTo}
 use Rattle.bundles.specs.Integers.{split, join, agrees}
 use Rattle.bundles.specs.Part.{wordsOf, scaled, partWords}
 use Rattle.bundles.specs.Call.{rangeChecked, partChecked}
-use Rattle.integers.specs.Reach.{Reach, Has}
+use Rattle.integers.specs.Reach.{Has}
 use Rattle.integers.specs.Bundle.{Bundle, Carries, Given, Carried}
-use Rattle.integers.specs.Promise.{appended, Shown, AcceptedBehind}
+use Rattle.integers.specs.Promise.{appended, Shown, Among, AcceptedBehind}
 use Rattle.integers.specs.Example.{file, values, inputs}
 use Rattle.integers.proofs.Computes.{computes}
 use Rattle.integers.proofs.Figures.{entered}
@@ -60,56 +60,7 @@ nine : Carries file values 3 3 9
 unfolding file fileOf readFile headed readFrom after ended readWord said check afterEntry isPrime remaindersBelow prime primeFrom primeWithin inputsIn values split part blocks
 nine = entered file values 3 3 9 accepts second-bundle (omega arith) refl
 
--- the parts
-has-sum : Has file 6 (fileOf (partWords (Operation.Add 3) 3 0))
-unfolding file fileOf readWord said check isPrime remaindersBelow wordsOf blocks prime primeFrom primeWithin
-has-sum =
-    record {
-      front = fileOf (0x1000_0000 ∷ 0x2000_0002 ∷ 0x2000_0003 ∷ 0x2000_0005 ∷ 0x2001_0002 ∷ 0x2001_0003 ∷ 0x2001_0005 ∷ []);
-      rest = fileOf (0x6000_0806 ∷ 0x7000_0000 ∷ 0x7000_0000 ∷ 0x4000_0407 ∷ 0x4000_1008 ∷ 0xA000_0009 ∷ 0xA000_000A ∷ 0xA000_000B ∷ 0xB000_0000 ∷ []);
-      is = refl;
-      at = 7;
-      whole = refl;
-      due = _;
-      wires = _;
-      outputs = _;
-      reached = Reach.makes (Reach.makes (Reach.makes (Reach.makes (Reach.makes (Reach.makes (Reach.begun refl) refl) refl) refl) refl) refl) refl;
-      made = refl;
-    }
-
-sum : Carries file values 3 6 26
-unfolding partChecked rangeChecked unless andThen wordsOf blocks prime primeFrom primeWithin isPrime remaindersBelow
-sum = computes file values (Operation.Add 3) 3 6 0 17 9 12 accepts refl has-sum (Carried.add seventeen nine)
-
-has-multiple : Has file 9 (fileOf (partWords (Operation.Scale 4) 3 6))
-unfolding file fileOf readWord said check isPrime remaindersBelow wordsOf scaled blocks prime primeFrom primeWithin has-sum
-has-multiple =
-    record {
-      front = fileOf (0x1000_0000 ∷ 0x2000_0002 ∷ 0x2000_0003 ∷ 0x2000_0005 ∷ 0x2001_0002 ∷ 0x2001_0003 ∷ 0x2001_0005 ∷ 0x3000_0003 ∷ 0x3000_0404 ∷ 0x3000_0805 ∷ []);
-      rest = fileOf (0xA000_0009 ∷ 0xA000_000A ∷ 0xA000_000B ∷ 0xB000_0000 ∷ []);
-      is = refl;
-      at = 10;
-      whole = refl;
-      due = _;
-      wires = _;
-      outputs = _;
-      reached = Reach.makes (Reach.makes (Reach.makes (has-sum .reached) refl) refl) refl;
-      made = refl;
-    }
-
-pub multiple : Carries file values 3 9 104
-unfolding partChecked rangeChecked unless andThen wordsOf scaled blocks prime primeFrom primeWithin isPrime remaindersBelow productTo
-multiple = computes file values (Operation.Scale 4) 3 9 6 26 0 20 accepts refl has-multiple (Carried.scale sum)
-
--- 104 modulo 30
-pub joins-to : join 3 (plainOutputs file (readFile file .wires) (readFile file .outputs) values) ≡ 14
-unfolding file fileOf readFile headed readFrom after ended readWord said check afterEntry isPrime remaindersBelow prime primeFrom primeWithin plainOutputs plainValues plainTo plainBy grown extended add mul blocks values join first firstFrom agrees productTo
-joins-to = refl
-
--- the outputs show the multiple
-pub shown : Shown (readFile file .outputs) 0 3 9
-unfolding file fileOf readFile headed readFrom after ended readWord said check afterEntry isPrime remaindersBelow
-shown = record { some = omega arith; wires = three (λ i. getD (readFile file .outputs) (0 + i) 0 ≡ 9 + i) refl refl refl }
+-- ---- one part appended after the other
 
 -- the inputs alone, with one of them as output; the sum appended, with one of its wires as output; and the multiple behind that
 inputs-accept : readFile inputs .answer ≡ Accepted
@@ -154,7 +105,41 @@ multiple-behind =
     behind summed (Operation.Scale 4) 3 6 20 (9 ∷ 10 ∷ 11 ∷ []) (ap (λ (r : Read). r .answer) (sum-behind .reads)) (rw summed-long refl) (Given.scale summed-bundle)
     (record { some = omega arith; most = omega arith; made = three (λ i. getD (9 ∷ 10 ∷ 11 ∷ []) i 0 < length (readFile summed .wires) + 3) (omega (arith, summed-long)) (omega (arith, summed-long)) (omega (arith, summed-long)) })
 
+abbrev multiplied : List ℕ
+multiplied = appended summed (partWords (Operation.Scale 4) 3 6) (9 ∷ 10 ∷ 11 ∷ [])
+
 -- and it is the file above
-pub same-file : appended summed (partWords (Operation.Scale 4) 3 6) (9 ∷ 10 ∷ 11 ∷ []) ≡ file
+pub same-file : multiplied ≡ file
 unfolding file inputs fileOf readFile headed readFrom after ended readWord said check afterEntry isPrime remaindersBelow wordsOf scaled blocks prime primeFrom primeWithin
 same-file = refl
+
+-- so both parts stand in it
+has-sum : Has file 6 (fileOf (partWords (Operation.Add 3) 3 0))
+has-sum =
+    subst (λ (f : List ℕ). Has f 6 (fileOf (partWords (Operation.Add 3) 3 0))) same-file
+    (multiple-behind .stays 6 _ (subst (λ (n : ℕ). Among summed n (fileOf (partWords (Operation.Add 3) 3 0))) six (sum-behind .has)) .has)
+
+has-multiple : Has file 9 (fileOf (partWords (Operation.Scale 4) 3 6))
+has-multiple =
+    subst (λ (f : List ℕ). Has f 9 (fileOf (partWords (Operation.Scale 4) 3 6))) same-file
+    (subst (λ (n : ℕ). Has multiplied n (fileOf (partWords (Operation.Scale 4) 3 6))) summed-long (multiple-behind .has .has))
+
+-- ---- what they compute
+
+sum : Carries file values 3 6 26
+unfolding partChecked rangeChecked unless andThen wordsOf blocks prime primeFrom primeWithin isPrime remaindersBelow
+sum = computes file values (Operation.Add 3) 3 6 0 17 9 12 accepts refl has-sum (Carried.add seventeen nine)
+
+pub multiple : Carries file values 3 9 104
+unfolding partChecked rangeChecked unless andThen wordsOf scaled blocks prime primeFrom primeWithin isPrime remaindersBelow productTo
+multiple = computes file values (Operation.Scale 4) 3 9 6 26 0 20 accepts refl has-multiple (Carried.scale sum)
+
+-- 104 modulo 30
+pub joins-to : join 3 (plainOutputs file (readFile file .wires) (readFile file .outputs) values) ≡ 14
+unfolding file fileOf readFile headed readFrom after ended readWord said check afterEntry isPrime remaindersBelow prime primeFrom primeWithin plainOutputs plainValues plainTo plainBy grown extended add mul blocks values join first firstFrom agrees productTo
+joins-to = refl
+
+-- the outputs show the multiple
+pub shown : Shown (readFile file .outputs) 0 3 9
+unfolding file fileOf readFile headed readFrom after ended readWord said check afterEntry isPrime remaindersBelow
+shown = record { some = omega arith; wires = three (λ i. getD (readFile file .outputs) (0 + i) 0 ≡ 9 + i) refl refl refl }

@@ -2,17 +2,15 @@
 -- inputs whose values are the residues of an integer carry it.
 -- Assumes nothing.
 use mathlib.Core.Path.{_≡_, refl, sym, ap, _∙_}
-use mathlib.Core.Bool.{Bool, true, false, true≢false}
+use mathlib.Core.Bool.{true, true≢false}
 use mathlib.Core.List.{List}
-use Prim.Native.Nat.{ℕ, _+_, _%_, _≤_, _<_}
+use Prim.Native.Nat.{ℕ, _+_, _%_, _<_}
 use native.Mathlib.Omega.{arith}
-use lib.Dec.{ltb}
-use lib.ListN.{length, getD, take, drop, length-drop}
-use lib.Seq.{getD-drop, getD-take, length-take-le}
+use lib.ListN.{length, getD}
 use borrow.Author.Tests.{lt-ltb}
-use Rattle.lists.specs.Blocks.{tab, part}
+use Rattle.lists.specs.Blocks.{part}
 use Rattle.lists.proofs.Blocks.{length-tab, getD-tab, is-tab}
-use Rattle.checks.specs.declared.Answer.the-variants.{Accepted}
+use Rattle.lists.proofs.Parts.{length-part, getD-part}
 use Rattle.words.specs.declared.gate.Gate.{Gate}
 use Rattle.words.specs.declared.gate.Gate.the-variants.{Input, Add, Scale, Multiply, Project, Select}
 use Rattle.circuit.specs.Wires.{wireAt, modulusAt, isInput, inputsIn}
@@ -20,25 +18,17 @@ use Rattle.circuit.specs.File.{readFile}
 use Rattle.circuit.proofs.Accepted.{accepted}
 use Rattle.plain.specs.Plain.{plainBy, plainValues, plainOutputs}
 use Rattle.plain.proofs.ByRecipe.{plain-value}
-use Rattle.bundles.specs.Primes.{prime, product}
+use Rattle.bundles.specs.Primes.{prime}
 use Rattle.bundles.specs.Integers.{split, join}
 use Rattle.bundles.proofs.Joined.{join-any}
+use Rattle.bundles.proofs.Verdicts.{part-passed}
 use Rattle.round.specs.Round.{Lent}
 use Rattle.round.specs.Claim.{Conditions}
 use Rattle.round.specs.Played.{Results, Played}
 use Rattle.round.proofs.Demand.{demand}
-use Rattle.integers.specs.Bundle.{Bundle, Carries}
-use Rattle.integers.specs.Promise.{EnteredIsCarried, Shown, Read, FiguresAreIntegers, PooledIsRead}
-use Rattle.integers.proofs.Computes.{checked, computes}
-
--- an element of a part of a list
-getD-part : (xs : List ℕ) (at size i : ℕ) → i < size → getD (part xs at size) i 0 ≡ getD xs (at + i) 0
-unfolding part
-getD-part xs at size i l = getD-take size (drop at xs) i 0 l ∙ getD-drop at xs i 0
-
-length-part : (xs : List ℕ) (at size : ℕ) → at + size ≤ length xs → length (part xs at size) ≡ size
-unfolding part
-length-part xs at size h = length-take-le size (drop at xs) (omega (arith, length-drop at xs))
+use Rattle.integers.specs.Bundle.{Carries}
+use Rattle.integers.specs.Promise.{EnteredIsCarried, Shown, FiguresAreIntegers, PooledIsRead}
+use Rattle.integers.proofs.Computes.{computes}
 
 -- ---- inputs
 
@@ -63,7 +53,7 @@ entered file values r first x good bundle within same =
           plain-value circuit w here values
           ∙ by-input (wireAt (readFile file .wires) w .gate) (circuit .inputsFirst w here ∙ lt-ltb w (inputsIn (readFile file .wires)) (omega arith)) file values w
           (modulusAt (readFile file .wires) w) _
-          ∙ sym (getD-part values first r i l)
+          ∙ sym (getD-part values first r i 0 l)
           ∙ ap (λ (xs : List ℕ). getD xs i 0) same
           ∙ getD-tab r (λ j. x % prime j) i 0 l);
     }
@@ -80,7 +70,7 @@ bytes-are {file} {values} {r} {first} {at} {z} carries shown bytes e =
     let size : length bytes ≡ length outputs = ap (length {A = ℕ}) e ∙ length-tab (length outputs) look in
     is-tab r (λ i. z % prime i) (part bytes at r) 0 (length-part bytes at r (omega (arith, shown .some)))
     (λ i l.
-    getD-part bytes at r i l
+    getD-part bytes at r i 0 l
     ∙ ap (λ (xs : List ℕ). getD xs (at + i) 0) e
     ∙ getD-tab (length outputs) look (at + i) 0 (omega (arith, shown .some))
     ∙ ap (λ (w : ℕ). getD (plainValues file (readFile file .wires) values) w 0) (shown .wires i l)
@@ -104,5 +94,5 @@ figures file n K round contributions values meter lent results r first at z cond
 
 pub pooled : PooledIsRead
 pooled file n K round contributions values meter lent results operation r first a x y size at conditions played checks has carried shown =
-    figures file n K round contributions values meter lent results r first at _ conditions played (checked operation r first a size checks .ten)
+    figures file n K round contributions values meter lent results r first at _ conditions played (part-passed operation r first a size refl checks .range .ten)
     (computes file values operation r first a x y size (conditions .accepted) checks has carried) shown

@@ -1,15 +1,16 @@
 -- Where the gates of an accepted file end: before as many words as it has outputs, and the end word. There the reader has made all wires and given no output.
 -- Assumes nothing.
 use mathlib.Core.Path.{_≡_, refl, sym, ap, subst, _∙_}
-use mathlib.Core.Bool.{Bool, true, false, true≢false}
+use mathlib.Core.Bool.{Bool, true, false}
 use mathlib.Core.List.{List, [], _∷_, _++_}
-use Prim.Native.Nat.{ℕ, zero, suc, _+_, _-_, _*_, _≤_, _<_}
+use Prim.Native.Nat.{ℕ, zero, suc, _+_, _-_, _*_, _<_}
 use native.Mathlib.Omega.{arith}
 use lib.Dec.{ltb, leb}
 use lib.ListN.{length}
 use borrow.Author.Tests.{leb-true, ltb-true}
 use Rattle.residue.proofs.Table.{and-left}
 use Rattle.checks.specs.declared.Answer.the-variants.{Accepted}
+use Rattle.checks.proofs.Passed.{never}
 use Rattle.words.specs.Bits.{wordAt}
 use Rattle.words.specs.Items.{gateDue, outputDue, afterEntry}
 use Rattle.words.specs.Reading.{readWord}
@@ -20,10 +21,10 @@ use Rattle.words.specs.declared.gate.Step.{Step}
 use Rattle.words.specs.declared.gate.Step.the-variants.{Refused, Makes, Goes, Gives, Ends}
 use Rattle.circuit.specs.Wires.{moduliOf}
 use Rattle.circuit.specs.File.{Read, wordsIn, ended, after, readFrom, hasHead, headed, readFile}
+use Rattle.circuit.proofs.State.{not-true}
 use Rattle.circuit.proofs.Word.{Did, did}
 use Rattle.circuit.proofs.More.{length-more}
 use Rattle.integers.specs.Reach.{Reach}
-use Rattle.integers.proofs.Reaching.{never}
 
 -- ---- behind the first output
 
@@ -33,9 +34,6 @@ early Gates = true
 early Outputs = false
 early (Entries left modulus) = true
 early (Branches bit) = true
-
-not-true : {A : Type 0} → false ≡ true → A
-not-true e = absurd (true≢false (sym e))
 
 -- what a word can do there
 data Late : Step → Type 0 where

@@ -8,28 +8,26 @@ use native.Mathlib.Nat.{mod-lt, mod-eq-of-lt, le-refl}
 use native.Mathlib.Omega.{arith}
 use lib.ListN.{length, getD, take, drop}
 use lib.Seq.{take-at}
-use lib.Dec.{eqb, leb, ltb}
-use borrow.Author.Tests.{le-leb, lt-ltb, eq-eqb, leb-true, ltb-true, eqb-true}
-use Rattle.lists.specs.Blocks.{tab, part}
+use borrow.Author.Tests.{le-leb, lt-ltb, eq-eqb}
+use Rattle.lists.specs.Blocks.{tab}
 use Rattle.lists.proofs.Blocks.{length-tab, getD-tab}
-use Rattle.residue.proofs.Table.{and-left, and-right}
 use Rattle.checks.specs.declared.Answer.the-variants.{Accepted}
-use Rattle.checks.specs.Checked.{unless, andThen, afterwards}
 use Rattle.checks.proofs.Numbers.{zero-passed, passed-zero}
-use Rattle.checks.proofs.Passed.{andThen-passed, andThen-left, andThen-right, unless-passed, unless-true, afterwards-passed}
+use Rattle.checks.proofs.Passed.{andThen-passed, unless-passed, afterwards-passed}
 use Rattle.words.specs.Encode.{fileOf}
 use Rattle.words.proofs.Files.{length-file}
-use Rattle.circuit.specs.File.{readFile}
+use Rattle.writer.specs.Call.{fileWith}
 use Rattle.bundles.specs.declared.operation.Operation.{Operation}
 use Rattle.bundles.specs.Primes.{prime, product}
 use Rattle.bundles.specs.Integers.{split, join, allBelow}
 use Rattle.bundles.specs.Part.{partWords}
-use Rattle.bundles.specs.Call.{rangeChecked, sizeChecked, splitChecked, joinChecked, fileWith, SplitCall, PartCall, JoinCall}
+use Rattle.bundles.specs.Call.{rangeChecked, splitChecked, joinChecked, SplitCall, PartCall, JoinCall}
 use Rattle.bundles.proofs.Joined.{prime-positive, products-positive, join-any, split-join}
+use Rattle.bundles.proofs.Verdicts.{InRange, split-passed, join-passed, part-passed}
 use Rattle.integers.specs.Reach.{Has}
 use Rattle.integers.specs.Bundle.{result}
-use Rattle.integers.specs.Host.{SplitIsCarried, JoinedTo, SplitThenJoined, JoinedThenSplit, JoinedIsResult}
-use Rattle.integers.proofs.Computes.{Checked, checked, computes}
+use Rattle.integers.specs.Host.{SplitIsCarried, JoinedTo, SplitThenJoined, JoinedThenSplit, JoinedIsCarried, JoinedIsResult}
+use Rattle.integers.proofs.Computes.{computes}
 use Rattle.integers.proofs.Figures.{entered, decoded-are}
 
 -- what a call that accepts has written
@@ -76,24 +74,11 @@ joined-to r z {bytes} {integer₀} two ten e c =
 
 -- ---- there and back
 
-record InRange (r : ℕ) : Type 0 where
-  two : 2 ≤ r
-  ten : r ≤ 10
-
-in-range : (r : ℕ) → rangeChecked r ≡ Accepted → InRange r
-unfolding rangeChecked
-in-range r e =
-    let range = unless-true (leb 2 r && leb r 10) _ _ e in
-    record { two = leb-true 2 r (and-left (leb 2 r) (leb r 10) range); ten = leb-true r 10 (and-right (leb 2 r) (leb r 10) range) }
-
 pub split-then-joined : SplitThenJoined
-unfolding splitChecked
 split-then-joined residues₀ residues r x place integer₀ number place′ integer call join-call =
-    let good = zero-passed (call .answer) refl in
-    let range = in-range r (andThen-left (rangeChecked r) _ good) in
-    let below = ltb-true x (product r) (unless-true (ltb x (product r)) _ _ (andThen-right (sizeChecked r (length residues₀)) _ (andThen-right (rangeChecked r) _ good))) in
-    let j = joined-to r x (range .two) (range .ten) (split-wrote call) join-call in
-    record { accepted = j .accepted; is = j .is ∙ mod-eq-of-lt below }
+    let p = split-passed r x (length residues₀) (zero-passed (call .answer) refl) in
+    let j = joined-to r x (p .range .two) (p .range .ten) (split-wrote call) join-call in
+    record { accepted = j .accepted; is = j .is ∙ mod-eq-of-lt (p .below) }
 
 -- what joining gives is below the product
 join-small : (r : ℕ) (residues : List ℕ) → r ≤ 10 → residues ≡ split r (join r residues) → join r residues < product r
@@ -106,28 +91,30 @@ split-accepts r x size range e below =
     (andThen-passed (unless-passed _ 0 (eq-eqb size r e)) (unless-passed _ 0 (lt-ltb x (product r) below)))
 
 pub joined-then-split : JoinedThenSplit
-unfolding joinChecked
 joined-then-split residues residues₀ given r integer₀ integer place number place′ call size split-call =
     let good = zero-passed (call .answer) refl in
-    let range = in-range r (andThen-left (rangeChecked r) _ good) in
-    let rest = andThen-right (rangeChecked r) _ good in
-    let long = eqb-true (length residues) r (unless-true (eqb (length residues) r) _ _ (andThen-left (sizeChecked r (length residues)) _ rest)) in
-    let small = unless-true (allBelow r residues) _ _ (andThen-right (sizeChecked r (length residues)) _ rest) in
-    let same : split r (join r residues) ≡ residues = split-join r residues (range .ten) long small in
+    let p = join-passed r residues good in
+    let same : split r (join r residues) ≡ residues = split-join r residues (p .range .ten) (p .size) (p .below) in
     let is : integer ≡ join r residues = call .integerIs ∙ afterwards-passed good (join r residues) integer₀ in
-    let accepts = split-accepts r integer (length residues₀) range size (rw is (join-small r residues (range .ten) (sym same))) in
+    let accepts = split-accepts r integer (length residues₀) (p .range) size (rw is (join-small r residues (p .range .ten) (sym same))) in
     record {
       accepted = passed-zero (split-call .answer) accepts;
       is = split-call .residuesAre ∙ afterwards-passed accepts (split r integer) residues₀ ∙ ap (split r) is ∙ same;
     }
 
--- ---- a part, a round, and joining
+-- ---- a round, and joining
+
+pub joined-is-carried : JoinedIsCarried
+joined-is-carried file n K round contributions values meter lent results r first z at party integer₀ number place integer
+    conditions played two ten carries shown below join-call =
+    joined-to r z two ten (decoded-are file n K round contributions values meter lent results conditions played carries shown party below) join-call
 
 pub joined-is-result : JoinedIsResult
 joined-is-result file n K round contributions values meter lent results operation r first a x y at party buffer₀ buffer words₀ words place integer₀ number place′ integer
     conditions played call has carried shown below join-call =
     let checks = zero-passed (call .answer) refl in
-    let c = checked operation r first a (length buffer₀) checks in
+    let range = part-passed operation r first a (length buffer₀) refl checks .range in
     let there : Has file first (fileOf (partWords operation r a)) = subst (Has file first) (part-wrote call) has in
     let carries = computes file values operation r first a x y (length buffer₀) (conditions .accepted) checks there carried in
-    joined-to r (result operation x y) (c .two) (c .ten) (decoded-are file n K round contributions values meter lent results conditions played carries shown party below) join-call
+    joined-is-carried file n K round contributions values meter lent results r first (result operation x y) at party integer₀ number place′ integer
+    conditions played (range .two) (range .ten) carries shown below join-call

@@ -1,8 +1,7 @@
 -- In an accepted circuit that has the words of a part, each wire of the part has the modulus of its gate and, in the plain circuit, the value that the
 -- gate computes from those of its wires.
 -- Assumes nothing.
-use mathlib.Core.Path.{_≡_, refl, sym, ap, ap₂, subst, _∙_}
-use mathlib.Core.Bool.{true}
+use mathlib.Core.Path.{_≡_, sym, ap, subst, _∙_}
 use mathlib.Core.List.{List, [], _∷_, _++_, map, append-assoc}
 use Prim.Native.Nat.{ℕ, zero, suc, _+_, _≤_, _<_}
 use native.Mathlib.Nat.{add-zero}
@@ -12,19 +11,16 @@ use lib.Seq.{getD-append-seam}
 use Rattle.residue.specs.Residue.{add, mul}
 use Rattle.checks.specs.declared.Answer.the-variants.{Accepted}
 use Rattle.words.specs.Bits.{wordAt, image}
-use Rattle.words.specs.Items.{gateDue}
 use Rattle.words.specs.Encode.{wordOf}
 use Rattle.words.specs.declared.gate.Wire.{Wire}
 use Rattle.circuit.specs.Wires.{noWire, wireAt, modulusAt, moduliOf}
-use Rattle.circuit.specs.File.{wordsIn, readFile}
-use Rattle.circuit.specs.Accepted.{AcceptedCircuit}
+use Rattle.circuit.specs.File.{readFile}
 use Rattle.circuit.proofs.Accepted.{accepted}
 use Rattle.circuit.proofs.More.{length-more}
 use Rattle.plain.specs.Plain.{plainBy, plainValues}
 use Rattle.plain.proofs.ByRecipe.{plain-value}
 use Rattle.editor.proofs.Encoded.{entry-image}
 use Rattle.bundles.specs.Part.{PartGate, Sum, Product, Multiple, Image, itemsOf, wordsOf}
-use Rattle.integers.specs.Reach.{Reach}
 use Rattle.integers.proofs.Places.{Stands, stands-left}
 use Rattle.integers.proofs.Reaching.{wires-stay}
 use Rattle.integers.proofs.Suits.{modulusOf, Suits, AllSuit, partWire, wire-modulus, suits-wires, moduli-on, entry-word, Arrived, step-on, stands-on, room-on}

@@ -1,11 +1,11 @@
 -- The words of a file that is made of parts: behind so many whole words, those of what follows.
 -- Assumes nothing.
-use mathlib.Core.Path.{_≡_, refl, sym, ap, _∙_}
-use mathlib.Core.List.{List, [], _∷_, _++_}
+use mathlib.Core.Path.{_≡_, refl, ap, _∙_}
+use mathlib.Core.List.{List, _++_}
 use Prim.Native.Nat.{ℕ, _+_, _*_, _≤_, _<_}
 use native.Mathlib.Omega.{arith}
 use lib.ListN.{length, getD, length-append, List·getD-append}
-use lib.Seq.{getD-drop, drop-at}
+use lib.Seq.{getD-append-add}
 use Rattle.words.specs.Bits.{wordAt}
 use Rattle.words.specs.Encode.{fileOf}
 use Rattle.words.proofs.Files.{length-file}
@@ -34,12 +34,11 @@ module _ (front rest : List ℕ) (at : ℕ) (whole : length front ≡ 4 * at) wh
 
   element : (j k : ℕ) → j ≡ 4 * at + k → getD (front ++ rest) j 0 ≡ getD rest k 0
   element j k e =
-      ap (λ (n : ℕ). getD (front ++ rest) n 0) e
-      ∙ sym (getD-drop (4 * at) (front ++ rest) k 0)
-      ∙ ap (λ (l : List ℕ). getD l k 0) (drop-at front rest (4 * at) whole)
+      let f : j ≡ length front + k = omega (arith, e, whole) in
+      ap (λ (n : ℕ). getD (front ++ rest) n 0) f ∙ getD-append-add front rest k 0
 
   -- and those behind it are the rest's
-  pub word-behind : (i : ℕ) → wordAt (front ++ rest) (at + i) ≡ wordAt rest i
+  word-behind : (i : ℕ) → wordAt (front ++ rest) (at + i) ≡ wordAt rest i
   word-behind i =
       same-word (front ++ rest) rest (at + i) i
       (element (4 * (at + i)) (4 * i) (omega arith))
@@ -72,10 +71,7 @@ module _ {file : List ℕ} {at : ℕ} (xs ys : List ℕ) (s : Stands file at (xs
   stands-right =
       record {
         word = λ i l.
-            ap (wordAt file) (next i)
-            ∙ s .word (length xs + i) (omega (arith, length-append xs ys))
-            ∙ sym (getD-drop (length xs) (xs ++ ys) i 0)
-            ∙ ap (λ (l : List ℕ). getD l i 0) (drop-at xs ys (length xs) refl);
+            ap (wordAt file) (next i) ∙ s .word (length xs + i) (omega (arith, length-append xs ys)) ∙ getD-append-add xs ys i 0;
         inside = omega (arith, s .inside, length-append xs ys);
       }
     where

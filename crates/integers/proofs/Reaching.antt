@@ -1,37 +1,28 @@
 -- Where the reader has come to: reading on from there is reading the file; of an accepted file the wires stay, and no word is refused; and a file that begins with
 -- the same words is read as far.
 -- Assumes nothing.
-use mathlib.Core.Path.{_≡_, refl, sym, ap, ap₂, _∙_}
+use mathlib.Core.Path.{_≡_, sym, ap, ap₂, _∙_}
 use mathlib.Core.Bool.{Bool, true, false, _&&_}
 use mathlib.Core.List.{List, [], _∷_, _++_, append-nil, append-assoc}
 use Prim.Native.Nat.{ℕ, zero, suc, _-_, _≤_, _<_}
 use native.Mathlib.Omega.{arith}
-use lib.Dec.{ltb, eqb, leb}
+use lib.Dec.{ltb, eqb}
 use lib.ListN.{length}
 use borrow.Author.Tests.{lt-ltb}
 use Rattle.residue.proofs.Table.{and-right}
 use Rattle.checks.specs.declared.Answer.the-variants.{Accepted, Refused}
 use Rattle.checks.specs.declared.Refusal.{Refusal}
+use Rattle.checks.proofs.Passed.{never}
 use Rattle.words.specs.Bits.{wordAt}
 use Rattle.words.specs.Reading.{readWord}
 use Rattle.words.specs.declared.gate.Wire.{Wire}
 use Rattle.words.specs.declared.gate.Due.{Due}
-use Rattle.words.specs.declared.gate.Due.the-variants.{Inputs}
 use Rattle.words.specs.declared.gate.Step.{Step}
 use Rattle.words.specs.declared.gate.Step.the-variants.{Makes, Goes, Gives, Ends}
 use Rattle.circuit.specs.Wires.{moduliOf}
-use Rattle.circuit.specs.File.{Read, wordsIn, ended, after, readFrom, hasHead, headed, readFile}
+use Rattle.circuit.specs.File.{Read, wordsIn, ended, after, readFrom, headed, readFile}
 use Rattle.circuit.proofs.Turn.{unrolled}
 use Rattle.integers.specs.Reach.{Reach}
-
-pub never : {A : Type 0} {reason : Refusal} {place : ℕ} → Refused reason place ≡ Accepted → A
-never e = let z : _≡_ {A = ℕ} 0 1 = cc in absurd (omega arith)
-
-pub reach-some : {file : List ℕ} {at : ℕ} {due : Due} {wires : List Wire} {outputs : List ℕ} → Reach file at due wires outputs → 0 < at
-reach-some (Reach.begun h) = omega arith
-reach-some (Reach.makes r e) = omega arith
-reach-some (Reach.goes r e) = omega arith
-reach-some (Reach.gives r e) = omega arith
 
 -- one word more
 module _ (file : List ℕ) (at : ℕ) (due : Due) (wires : List Wire) (outputs : List ℕ) (inside : at < wordsIn file) where
@@ -110,8 +101,11 @@ pub record SameTo (file other : List ℕ) (at : ℕ) : Type 0 where
   pub word : (i : ℕ) → i < at → wordAt other i ≡ wordAt file i
   pub some : at ≤ wordsIn other
 
+pub fewer : {file other : List ℕ} {at to : ℕ} → SameTo file other to → at ≤ to → SameTo file other at
+fewer s h = record { word = λ i l. s .word i (omega arith); some = omega (arith, s .some) }
+
 less : {file other : List ℕ} {at : ℕ} → SameTo file other (suc at) → SameTo file other at
-less s = record { word = λ i l. s .word i (omega arith); some = omega (arith, s .some) }
+less s = fewer s (omega arith)
 
 read-there : (moduli : List ℕ) (given at : ℕ) (due : Due) {w w′ : ℕ} {s : Step} → w′ ≡ w → readWord moduli given at due w ≡ s → readWord moduli given at due w′ ≡ s
 read-there moduli given at due e f = ap (readWord moduli given at due) e ∙ f

@@ -7,11 +7,10 @@ use mathlib.Core.List.{List, [], _∷_, _++_, map, map-append, append-nil, appen
 use Prim.Native.Nat.{ℕ, zero, suc, _+_, _≤_, _<_}
 use native.Mathlib.Nat.{add-zero}
 use native.Mathlib.Omega.{arith}
-use lib.Dec.{ltb}
 use lib.ListN.{length, getD, length-append, List·getD-append}
 use borrow.Author.Tests.{lt-ltb, eq-eqb}
-use Rattle.lists.specs.Blocks.{blocks, tab}
-use Rattle.lists.proofs.Blocks.{length-tab, getD-tab}
+use Rattle.lists.specs.Blocks.{tab}
+use Rattle.lists.proofs.Blocks.{length-tab, getD-tab, map-tab}
 use Rattle.checks.specs.declared.Answer.the-variants.{Accepted}
 use Rattle.checks.specs.declared.Refusal.{Refusal}
 use Rattle.checks.specs.declared.Refusal.the-variants.{NotDue}
@@ -20,6 +19,7 @@ use Rattle.words.specs.Items.{check, gateDue, afterEntry, wireOf, pairOf, isMod
 use Rattle.words.specs.Reading.{readWord}
 use Rattle.words.specs.Encode.{wordOf}
 use Rattle.words.specs.Fits.{Fits}
+use Rattle.words.proofs.Steps.{passed as passes}
 use Rattle.words.specs.declared.gate.Gate.{Gate}
 use Rattle.words.specs.declared.gate.Gate.the-variants.{Add, Scale, Multiply, Project}
 use Rattle.words.specs.declared.gate.Wire.{Wire}
@@ -88,15 +88,14 @@ wire-modulus at (Product p a b) = refl
 wire-modulus at (Multiple p constant a) = refl
 wire-modulus at (Image p q a table) = refl
 
-pub more-moduli : (wires : List Wire) (at : ℕ) (gate : PartGate) → moduliOf (wires ++ (partWire at gate ∷ [])) ≡ moduliOf wires ++ (modulusOf gate ∷ [])
+more-moduli : (wires : List Wire) (at : ℕ) (gate : PartGate) → moduliOf (wires ++ (partWire at gate ∷ [])) ≡ moduliOf wires ++ (modulusOf gate ∷ [])
 more-moduli wires at gate =
     map-append (λ (wire : Wire). wire .modulus) wires (partWire at gate ∷ []) ∙ ap (λ (m : ℕ). moduliOf wires ++ (m ∷ [])) (wire-modulus at gate)
 
 -- ---- a gate's items pass their checks
 
 pub passed : {b : Bool} (reason : Refusal) (next : Step) → b ≡ true → check b reason next ≡ next
-unfolding check
-passed reason next e = rw e refl
+passed reason next e = sym (passes reason e refl)
 
 module _ (moduli : List ℕ) (at : ℕ) (due : Due) (here : gateDue due ≡ true) (room : length moduli < 1024) where
   pair-makes : (gate : Gate) {p a b : ℕ} → Has moduli p a → Has moduli p b → pairItem moduli due gate a b ≡ Makes (wireOf gate p) Gates
@@ -125,11 +124,6 @@ module _ (moduli : List ℕ) (at : ℕ) (due : Due) (here : gateDue due ≡ true
       ∙ ap (λ (m : ℕ). Makes (wireOf (Project (record { a = a; table = at + 1 })) q) (Entries m q)) (f .modulus)
 
 -- ---- the words of a gate
-
-map-tab : {A B : Type 0} (f : ℕ → A) (g : A → B) (n : ℕ) → map g (tab n f) ≡ tab n (λ i. g (f i))
-unfolding blocks
-map-tab f g zero = refl
-map-tab f g (suc n) = map-append g (tab n f) (f n ∷ []) ∙ ap (λ (l : List _). l ++ (g (f n) ∷ [])) (map-tab f g n)
 
 pub first-word : {file : List ℕ} {at w : ℕ} {ws : List ℕ} → Stands file at (w ∷ ws) → wordAt file at ≡ w
 first-word {file} {at} s = ap (wordAt file) (sym (add-zero at)) ∙ s .word 0 (omega arith)
@@ -186,7 +180,7 @@ module _ {file : List ℕ} {at : ℕ} {due : Due} {wires : List Wire} {outputs :
       → Reach file (at + 1) Gates (wires ++ (wire ∷ [])) outputs
   one-word s f e = to-next reach (omega arith) (Reach.makes reach (said reach (first-word s) f e))
 
-  pub gate-step : {gate : PartGate}
+  gate-step : {gate : PartGate}
       → Suits (moduliOf wires) gate
       → Stands file at (map wordOf (itemsOf gate))
       → Reach file (at + length (map wordOf (itemsOf gate))) Gates (wires ++ (partWire at gate ∷ [])) outputs

@@ -55,7 +55,23 @@ JoinedThenSplit =
     → SplitCall r integer residues₀ number place′ given
     → SplitTo residues number given
 
--- A call has written a part, its bytes stand in the file where its first wire is the next to be made, its bundles carry x and y, and outputs show the bundle
+-- Outputs show a bundle that carries an integer, and a round of the file's circuit is played under demand 3's conditions. Then joining, lent the decoded
+-- bytes of any party, accepts them, and gives the integer modulo the product.
+abbrev pub JoinedIsCarried : Type 0
+JoinedIsCarried =
+    (file : List ℕ) (n K round : ℕ) (contributions values : List ℕ) (meter : ℕ) (lent : Lent) (results : Results)
+    (r first z at party integer₀ number place integer : ℕ)
+    → Conditions file n K contributions values meter lent
+    → Played file n K round contributions values meter lent results
+    → 2 ≤ r
+    → r ≤ 10
+    → Carries file values r first z
+    → Shown (readFile file .outputs) at r first
+    → party < n
+    → JoinCall r (part (results .decoded party) at r) integer₀ number place integer
+    → JoinedTo (z % product r) number integer
+
+-- So it is with a part. A call has written a part, its bytes stand in the file where its first wire is the next to be made, its bundles carry x and y, and outputs show the bundle
 -- that it makes. A round of the file's circuit is played under demand 3's conditions. Then joining, lent the decoded bytes of any party, accepts them, and gives the
 -- result modulo the product.
 abbrev pub JoinedIsResult : Type 0

@@ -99,13 +99,20 @@ pub record OutputsFit (outputs : List ℕ) (wires : ℕ) : Type 0 where
   pub most : length outputs ≤ 256
   pub made : (i : ℕ) → i < length outputs → getD outputs i 0 < wires
 
--- the file is accepted with these outputs; its wires are those of the file before, and r more, which are a bundle; and it has the words where it should
+-- bytes that stand among a file's gates, before its outputs
+pub record Among (file : List ℕ) (next : ℕ) (bytes : List ℕ) : Type 0 where
+  pub has : Has file next bytes
+  pub inside : length (has .front) + length bytes ≤ 4 * wordsToGates file
+
+-- the file is accepted with these outputs; its wires are those of the file before, and r more, which are a bundle; it has the words where it should,
+-- and what stood among the gates before, as the parts that were appended earlier, is there still
 pub record AcceptedBehind (file words outputs : List ℕ) (r : ℕ) : Type 0 where
   pub more : List Wire
   pub made : length more ≡ r
   pub reads : readFile (appended file words outputs) ≡ accepted (readFile file .wires ++ more) outputs
   pub bundle : Bundle (readFile file .wires ++ more) r (length (readFile file .wires))
-  pub has : Has (appended file words outputs) (length (readFile file .wires)) (fileOf words)
+  pub has : Among (appended file words outputs) (length (readFile file .wires)) (fileOf words)
+  pub stays : (next : ℕ) (bytes : List ℕ) → Among file next bytes → Among (appended file words outputs) next bytes
 
 -- a part that the call writes for the next wire of an accepted circuit with the bundles that it takes is accepted behind the circuit's gates
 abbrev pub AppendedIsAccepted : Type 0

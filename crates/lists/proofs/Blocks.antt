@@ -1,9 +1,9 @@
 -- Laws of `blocks` and `tab`: lengths, equality by index, a block read back, the front of the blocks; and of `runs` and `map`.
 -- Assumes nothing.
 use mathlib.Core.Path.{_≡_, refl, sym, ap, _∙_}
-use mathlib.Core.List.{List, [], _∷_, _++_}
+use mathlib.Core.List.{List, [], _∷_, _++_, map, map-append}
 use Prim.Native.Nat.{ℕ, zero, suc, _+_, _*_, _≤_, _<_}
-use native.Mathlib.Nat.{le-refl, mul-one, add-zero}
+use native.Mathlib.Nat.{le-refl, le-of-suc-le-suc, mul-one, add-zero}
 use native.Mathlib.Numerals.{add-one}
 use native.Mathlib.Decide.{le-ind}
 use native.Mathlib.Omega.{arith}
@@ -101,6 +101,11 @@ module _ {A : Type 0} where
   pub replicate-tab : (n : ℕ) (a : A) → replicate n a ≡ tab n (λ _. a)
   replicate-tab n a = is-tab n (λ _. a) (replicate n a) a (length-replicate n a) (λ i h. getD-replicate n i a a h)
 
+  pub take-replicate : (m n : ℕ) (a : A) → m ≤ n → take m (replicate n a) ≡ replicate m a
+  take-replicate zero n a h = refl
+  take-replicate (suc m) zero a h = absurd (omega arith)
+  take-replicate (suc m) (suc n) a h = ap (λ (l : List A). a ∷ l) (take-replicate m n a (le-of-suc-le-suc h))
+
   -- ---- a list is its parts, one after another
 
   pub blocks-parts : (n : ℕ) (size : ℕ → ℕ) (xs : List A) → blocks n (λ i. part xs (sumTo i size) (size i)) ≡ take (sumTo n size) xs
@@ -131,3 +136,8 @@ module _ {A : Type 0} where
   pub getD-runs : (n : ℕ) (size : ℕ → ℕ) (m : ℕ → A) (i j : ℕ) (d : A) → i < n → j < size i → getD (runs n size m) (sumTo i size + j) d ≡ m i
   getD-runs n size m i j d h k =
       getD-blocks n (λ i. replicate (size i) (m i)) size (λ i _. length-replicate (size i) (m i)) i j d h k ∙ getD-replicate (size i) j (m i) d k
+
+pub map-tab : {A B : Type 0} (f : ℕ → A) (g : A → B) (n : ℕ) → map g (tab n f) ≡ tab n (λ i. g (f i))
+unfolding blocks
+map-tab f g zero = refl
+map-tab f g (suc n) = map-append g (tab n f) (f n ∷ []) ∙ ap (λ (l : List _). l ++ (g (f n) ∷ [])) (map-tab f g n)

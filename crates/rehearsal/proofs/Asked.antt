@@ -2,16 +2,16 @@
 -- Assumes nothing.
 use mathlib.Core.Path.{_≡_, refl, sym, ap, ap₂, subst, _∙_}
 use mathlib.Core.Bool.{Bool, true, false, cond}
-use mathlib.Core.List.{List, _∷_, _++_}
-use Prim.Native.Nat.{ℕ, zero, suc, _+_, _≤_, _<_}
+use mathlib.Core.List.{List, _++_}
+use Prim.Native.Nat.{ℕ, _+_, _≤_, _<_}
 use native.Mathlib.Numerals.{add-one}
-use native.Mathlib.Nat.{le-of-suc-le-suc, le-antisymm}
+use native.Mathlib.Nat.{le-antisymm}
 use native.Mathlib.Omega.{arith}
 use lib.ListN.{length, getD, take, drop, replicate}
 use lib.Seq.{take-at, getD-take, length-take-le}
 use Rattle.lists.specs.Blocks.{part}
 use Rattle.lists.proofs.Parts.{part-front}
-use Rattle.lists.proofs.Blocks.{tab-ext}
+use Rattle.lists.proofs.Blocks.{tab-ext, take-replicate}
 use Rattle.checks.specs.declared.Answer.{Answer}
 use Rattle.checks.specs.Checked.{Reports}
 use Rattle.words.specs.declared.gate.Wire.{Wire}
@@ -38,11 +38,6 @@ ask-ends file n party count values masks out {own} {hidden} {ys} {number} {place
           take-at ys (drop count out) count (l ∙ length-take-le count out room)
           ∙ d .externalsIs ∙ ap₂ (λ (a b : List ℕ). externalsAfter file n party a b (take count out)) o′ h′;
     }
-
-take-replicate : (m n a : ℕ) → m ≤ n → take m (replicate n a) ≡ replicate m a
-take-replicate zero n a h = refl
-take-replicate (suc m) zero a h = absurd (omega arith)
-take-replicate (suc m) (suc n) a h = ap (λ (l : List ℕ). a ∷ l) (take-replicate m n a (le-of-suc-le-suc h))
 
 -- only the values of the party's own inputs are read
 pub scattered-front : {circuit : Circuit} → Held circuit → (party : ℕ) (mine before : List ℕ) → length before ≡ circuit .inputs

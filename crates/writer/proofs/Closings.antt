@@ -1,37 +1,35 @@
 -- After the last record: what the two walks and the end of the file come to is what the call that writes promises.
 -- Assumes nothing.
 use mathlib.Core.Path.{_≡_, refl, sym, ap, _∙_}
-use mathlib.Core.Bool.{Bool, true, false, true≢false, cond}
+use mathlib.Core.Bool.{Bool, true, false, cond}
 use mathlib.Core.List.{List, [], _∷_, _++_}
-use Prim.Native.Nat.{ℕ, suc, _+_, _*_, _≤_, _<_}
+use Prim.Native.Nat.{ℕ, _+_, _*_, _≤_}
 use native.Mathlib.Omega.{arith}
 use lib.Dec.{leb, ltb}
 use lib.ListN.{length, drop, length-append, length-drop}
 use lib.Seq.{drop-length}
 use borrow.Author.Tests.{leb-true, le-leb, lt-leb}
-use Rattle.checks.specs.declared.Answer.{Answer}
 use Rattle.checks.specs.declared.Answer.the-variants.{Accepted, Refused}
 use Rattle.checks.specs.declared.Refusal.{Refusal}
 use Rattle.checks.specs.declared.Refusal.the-variants.{NotDue, NoOutput, WrongLength, TooShort}
 use Rattle.checks.specs.Answer.{numberIn, placeIn}
-use Rattle.checks.specs.Checked.{afterwards}
 use Rattle.checks.proofs.Answers.{afterwards-refused, unless-refused, andThen-stop, andThen-next, told}
 use Rattle.checks.proofs.Passed.{andThen-passed, unless-passed, afterwards-passed}
 use Rattle.words.specs.declared.gate.Due.{Due}
 use Rattle.words.specs.declared.gate.Step.the-variants.{Ends}
 use Rattle.words.specs.declared.item.Item.the-variants.{End}
 use Rattle.words.specs.Items.{check, endDue}
-use Rattle.words.specs.Encode.{wordOf, fileOf}
+use Rattle.words.specs.Encode.{wordOf}
 use Rattle.writer.specs.declared.entry.Record.{Record}
 use Rattle.writer.specs.declared.pen.Pen.{Pen}
 use Rattle.writer.specs.declared.settling.Settled.{Settled}
-use Rattle.writer.specs.Written.{Draft, drafted, afterItem, laid, Written, refused, wrote, allTaken, closed, writeFrom, writeRecords}
-use Rattle.writer.specs.Call.{answerOf, wordsOf, wordsWritten, writeChecked, WriteCall}
+use Rattle.writer.specs.Written.{Draft, afterItem, laid, Written, refused, wrote, allTaken, closed, writeFrom, writeRecords}
+use Rattle.writer.specs.Call.{fileWith, answerOf, wordsOf, wordsWritten, writeChecked, WriteCall}
 use Rattle.writer.specs.Desk.{putWord}
-use Rattle.writer.specs.Walked.{Between, Holds, Walked}
+use Rattle.writer.specs.Walked.{Between, Walked}
 use Rattle.writer.specs.Settling.{Fair, unsettled, roomFor, allTakenBy, someGivenBy, settledFrom, Settles}
 use Rattle.writer.specs.Closing.{Finished}
-use Rattle.writer.proofs.HoldingFiles.{front, put-front}
+use Rattle.writer.proofs.HoldingFiles.{put-front}
 use Rattle.writer.proofs.Walks.{ready}
 
 -- what the end comes to: 9, entries left over, or the words
@@ -119,20 +117,20 @@ module _ {records : List Record} {tables file₀ : List ℕ} {judged laid : Pen}
 
     -- accepted: the words stand at the front
     accepted-call : (ws : List ℕ) → writeRecords records tables ≡ wrote (ws ++ (wordOf End ∷ [])) → leb (4 * length (ws ++ (wordOf End ∷ []))) (length file₀) ≡ true
-        → settled .answer ≡ Accepted → settled .lay ≡ true → settled .words ≡ length (ws ++ (wordOf End ∷ [])) → laid .at ≡ length ws → file₂ ≡ front ws file₁ → Call
+        → settled .answer ≡ Accepted → settled .lay ≡ true → settled .words ≡ length (ws ++ (wordOf End ∷ [])) → laid .at ≡ length ws → file₂ ≡ fileWith ws file₁ → Call
     accepted-call ws e room so lays count at laid-so =
         let all : List ℕ = ws ++ (wordOf End ∷ []) in
         let m : Accepted ≡ writeChecked records tables (length file₀) = checks-met records tables (length file₀) e room in
         let same : file₁ ≡ file₀ = kept-file w₁ refl in
-        let written-so : file ≡ front all file₀ =
+        let written-so : file ≡ fileWith all file₀ =
         f .fileIs ∙ ap (λ (b : Bool). cond b (putWord file₂ (laid .at) (wordOf End)) file₂) lays
         ∙ ap (λ (n : ℕ). putWord file₂ n (wordOf End)) at
-        ∙ ap (λ (l : List ℕ). putWord l (length ws) (wordOf End)) (laid-so ∙ ap (front ws) same)
+        ∙ ap (λ (l : List ℕ). putWord l (length ws) (wordOf End)) (laid-so ∙ ap (fileWith ws) same)
         ∙ put-front ws file₀ (wordOf End) (leb-true (4 * length all) (length file₀) room) in
         let words-so : wordsWritten records tables ≡ all = words-are records tables (length file₀) e in
         record {
           answer = told m (f .numberIs ∙ ap numberIn so) (f .placeIs ∙ ap placeIn so);
-          fileIs = written-so ∙ ap (λ (l : List ℕ). front l file₀) (sym words-so) ∙ sym (afterwards-passed (sym m) _ file₀);
+          fileIs = written-so ∙ ap (λ (l : List ℕ). fileWith l file₀) (sym words-so) ∙ sym (afterwards-passed (sym m) _ file₀);
           wordsIs =
               f .wordsIs ∙ ap (λ (b : Bool). cond b (settled .words) words₀) lays ∙ count ∙ ap length (sym words-so)
               ∙ sym (afterwards-passed (sym m) _ words₀);

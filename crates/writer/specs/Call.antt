@@ -16,6 +16,10 @@ use Rattle.writer.specs.declared.entry.Record.{Record}
 use Rattle.writer.specs.Written.{Written, refused, wrote, writeRecords}
 use Rattle.writer.specs.Listed.{recordsOf, tablesOf}
 
+-- words at the front of a buffer; all bytes past them are as they were
+abbrev pub fileWith : List ℕ → List ℕ → List ℕ
+fileWith words file₀ = fileOf words ++ drop (4 * length words) file₀
+
 -- the answer of writing, and the words, none where the list is refused
 unfoldable pub answerOf : Written → Answer
 answerOf (refused reason place) = Refused reason place
@@ -33,10 +37,10 @@ module _ (records : List Record) (tables : List ℕ) where
   unfoldable pub writeChecked : ℕ → Answer
   writeChecked size = andThen (answerOf (writeRecords records tables)) (unless (leb (4 * length wordsWritten) size) TooShort 0)
 
-  -- the number and place that it answers; the words stand at the front of the buffer, and all bytes past them are as they were
+  -- the number and place that it answers, and the words in the buffer
   pub record WriteCall (file₀ : List ℕ) (words₀ number place : ℕ) (file : List ℕ) (words : ℕ) : Type 0 where
     pub answer : Reports (writeChecked (length file₀)) number place
-    pub fileIs : file ≡ afterwards (writeChecked (length file₀)) (fileOf wordsWritten ++ drop (4 * length wordsWritten) file₀) file₀
+    pub fileIs : file ≡ afterwards (writeChecked (length file₀)) (fileWith wordsWritten file₀) file₀
     pub wordsIs : words ≡ afterwards (writeChecked (length file₀)) (length wordsWritten) words₀
 
 -- loading: a file's records and tables, lengths exact

@@ -17,26 +17,35 @@ lay-gate-spec =
     (λ c κs. let p = c .before .before .before .before .before .before .before .pre in omega (arith, p .0, p .1))
     (λ c κs. tt)
     (λ c. omega (arith, c .before .before .before .before .before .before .before .before .before .before .pre .3))
-    (λ c. omega (arith, zeros-few (c .before .before .before .before .before .before .before .before .before .before .args .operation) (c .before .before .before .before .before .before .before .before .before .before .args .i) (c .before .before .before .before .before .before .before .before .before .before .pre .0) (c .before .before .before .before .before .before .before .before .before .before .pre .1) (c .before .before .zeros-after .ensures), zeros-long (c .before .zeros .ensures)))
-    (λ c. sym (part-long {images = c .before .before .zeros .result} (c .before .before .before .zeros-after .result) (zeros-few (c .before .before .before .before .before .before .before .before .before .before .before .args .operation) (c .before .before .before .before .before .before .before .before .before .before .before .args .i) (c .before .before .before .before .before .before .before .before .before .before .before .pre .0) (c .before .before .before .before .before .before .before .before .before .before .before .pre .1) (c .before .before .before .zeros-after .ensures)) (c .before .before .zeros .ensures)))
+    (λ c.
+    let s = c .before .before .before .before .before .before .before .before .before .before in
+    let few = zeros-few (s .args .operation) (s .args .i) (s .pre .0) (s .pre .1) (c .before .before .zeros-after .ensures) in
+    omega (arith, few, zeros-long (c .before .zeros .ensures)))
+    (λ c.
+    let s = c .before .before .before .before .before .before .before .before .before .before .before in
+    let few = zeros-few (s .args .operation) (s .args .i) (s .pre .0) (s .pre .1) (c .before .before .before .zeros-after .ensures) in
+    sym (part-long {images = c .before .before .zeros .result} (c .before .before .before .zeros-after .result) few (c .before .before .zeros .ensures)))
     (λ c κs.
-    omega (
-      arith,
-      c .before .before .before .before .before .before .before .before .before .before .before .pre .3,
-      zeros-few (c .before .before .before .before .before .before .before .before .before .before .before .args .operation) (c .before .before .before .before .before .before .before .before .before .before .before .args .i) (c .before .before .before .before .before .before .before .before .before .before .before .pre .0) (c .before .before .before .before .before .before .before .before .before .before .before .pre .1) (c .before .before .before .zeros-after .ensures),
-      part-long {images = c .before .before .zeros .result} (c .before .before .before .zeros-after .result) (zeros-few (c .before .before .before .before .before .before .before .before .before .before .before .args .operation) (c .before .before .before .before .before .before .before .before .before .before .before .args .i) (c .before .before .before .before .before .before .before .before .before .before .before .pre .0) (c .before .before .before .before .before .before .before .before .before .before .before .pre .1) (c .before .before .before .zeros-after .ensures)) (c .before .before .zeros .ensures),
-    ))
+    let s = c .before .before .before .before .before .before .before .before .before .before .before in
+    let few = zeros-few (s .args .operation) (s .args .i) (s .pre .0) (s .pre .1) (c .before .before .before .zeros-after .ensures) in
+    omega (arith, s .pre .3, few, part-long {images = c .before .before .zeros .result} (c .before .before .before .zeros-after .result) few (c .before .before .zeros .ensures)))
     (λ c. omega (arith, c .before .before .before .before .before .before .before .before .before .before .before .before .before .before .pre .3))
-    (λ c. omega (arith, c .before .before .before .before .before .before .before .before .before .before .before .before .before .before .pre .3, zeros-few (c .before .before .before .before .before .before .before .before .before .before .before .before .before .before .args .operation) (c .before .before .before .before .before .before .before .before .before .before .before .before .before .before .args .i) (c .before .before .before .before .before .before .before .before .before .before .before .before .before .before .pre .0) (c .before .before .before .before .before .before .before .before .before .before .before .before .before .before .pre .1) (c .before .before .before .before .before .before .zeros-after .ensures)))
+    (λ c.
+    let s = c .before .before .before .before .before .before .before .before .before .before .before .before .before .before in
+    let few = zeros-few (s .args .operation) (s .args .i) (s .pre .0) (s .pre .1) (c .before .before .before .before .before .before .zeros-after .ensures) in
+    omega (arith, s .pre .3, few))
     (λ c. c .before .before .put-entries .kept .0 ∙ c .before .before .before .before .before .before .before .before .before .put-word .kept .0)
     (λ c.
     let s = c .before .before .before .before .before .before .before .before .before .before .before .before .before .before in
+    let few = zeros-few (s .args .operation) (s .args .i) (s .pre .0) (s .pre .1) (c .before .before .before .before .before .before .zeros-after .ensures) in
     let a = s .args in
     let count = c .before .before .before .before .before .before .zeros-after in
     let images = c .before .before .before .before .before .zeros in (
       omega (arith, count .ensures, gate-length (a .operation) (a .a) (a .i)),
       gate-laid (a .operation) (a .a) (a .i) (a .at) (a .file .now) (take (count .result) (images .result)) (first-fits (a .i) (s .pre .0) (s .pre .1) (s .pre .2))
-          (c .before .before .before .before .before .before .before .before .before .before .before .before .first-item .ensures) (c .before .before .before .before .before .before .before .before .before .before .before .encode .ensures) (c .before .before .before .before .before .before .before .before .before .put-word .ensures)
-          (zeros-are (a .operation) (a .i) (zeros-few (c .before .before .before .before .before .before .before .before .before .before .before .before .before .before .args .operation) (c .before .before .before .before .before .before .before .before .before .before .before .before .before .before .args .i) (c .before .before .before .before .before .before .before .before .before .before .before .before .before .before .pre .0) (c .before .before .before .before .before .before .before .before .before .before .before .before .before .before .pre .1) (c .before .before .before .before .before .before .zeros-after .ensures)) (images .ensures) (count .ensures))
+          (c .before .before .before .before .before .before .before .before .before .before .before .before .first-item .ensures)
+          (c .before .before .before .before .before .before .before .before .before .before .before .encode .ensures)
+          (c .before .before .before .before .before .before .before .before .before .put-word .ensures)
+          (zeros-are (a .operation) (a .i) few (images .ensures) (count .ensures))
           (c .before .before .put-entries .ensures),
     )))

@@ -14,8 +14,15 @@ write-part-spec =
     (λ c κs. tt)
     (λ c. search needs)
     (λ c κs. tt)
-    (λ c κs. let a = c .before .before .before .before .before .before .args in part-lays (c .before .number-index .ensures) (part-passed (a .operation) (a .r) (a .first) (a .a) (length (a .file .now)) (c .before .before .before .before .part-checked .ensures) (c .before .before .enum-told .given .1)))
-    (λ c κs. let a = c .before .before .before .before .before .before .before .before .before .args in omega (arith, c .before .before .before .before .number-index .ensures, part-passed (a .operation) (a .r) (a .first) (a .a) (length (a .file .now)) (c .before .before .before .before .before .before .before .part-checked .ensures) (c .before .before .before .before .before .enum-told .given .1) .range))
+    (λ c κs.
+    let a = c .before .before .before .before .before .before .args in
+    part-lays (c .before .number-index .ensures)
+    (part-passed (a .operation) (a .r) (a .first) (a .a) (length (a .file .now)) (c .before .before .before .before .part-checked .ensures) (c .before .before .enum-told .given .1)))
+    (λ c κs.
+    let a = c .before .before .before .before .before .before .before .before .before .args in
+    let passed =
+    part-passed (a .operation) (a .r) (a .first) (a .a) (length (a .file .now)) (c .before .before .before .before .before .before .before .part-checked .ensures) (c .before .before .before .before .before .enum-told .given .1) in
+    omega (arith, c .before .before .before .before .number-index .ensures, passed .range .ten))
     (λ c κs. omega (arith, c .word-count .ensures .1))
     (λ c. search needs)
     (λ c. search needs)

@@ -17,7 +17,7 @@ split-spec =
     (λ c κs.
     let a = c .before .before .before .before .before .args in
     let p = split-passed (a .r) (a .integer) (length (a .residues .now)) (sym (c .before .before .before .split-checked .ensures) ∙ c .before .enum-told .given .1) in
-    omega (arith, p .0, p .1))
+    omega (arith, p .range .ten, p .size))
     (λ c. search needs)
     (λ c. search needs)
     (λ c. let a = c .before .before .before .before .before .before .before .before .args in splits-accepted (a .r) (a .integer) (a .residues .now) (c .before .before .before .before .before .before .split-checked .ensures) (c .before .before .before .before .enum-told .given .1) (c .before .before .put-residues .ensures))
