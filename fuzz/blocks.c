@@ -1,6 +1,6 @@
 /*
  * Shows libFuzzer which basic blocks of the archive are met, though the archive is built without instrumentation. A breakpoint (int3)
- * stands on the first byte of every block; when one is met its byte is put back and the block's counter is set, so libFuzzer keeps the input
+ * stands on the first byte of every block; when one is met its byte is put back and the block's counter set, so libFuzzer keeps the input
  * that met it. A block costs one signal in a whole run and nothing afterwards. Which edge led to it, and how often it is met, is not seen.
  *
  * LUPIKNAM_BLOCKS names a file of addresses in hexadecimal, ascending, that fuzz/run makes; without it nothing is watched. LUPIKNAM_UNMET

@@ -195,7 +195,7 @@ lupiknam_answer lupiknam_bundle_add(uint32_t r, uint32_t first, uint32_t a, uint
 
 lupiknam_answer lupiknam_bundle_multiply(uint32_t r, uint32_t first, uint32_t a, uint32_t b, WRITTEN(file), uint32_t *words) {
     lupiknam_answer answer = engine_bundle_multiply(r, first, a, b, file, file_length, words);
-    if (planted(31) && answer.number == 0) // wire a twice where the wires are the last of the bundles
+    if (planted(31) && answer.number == 0) // the last gate takes the low byte of wire a for that of wire b
         memcpy(file + 4 * r - 4, (uint8_t[]){(uint8_t)(a + r - 1)}, 1);
     return answer;
 }

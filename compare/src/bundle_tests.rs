@@ -7,7 +7,6 @@ use crate::generate::bundle_circuits::{Bundle, Draft};
 use crate::generate::bundle_numbers::{integer_with_zeros, wrong_counts};
 use crate::plain::plain;
 use crate::rng::Rng;
-use crate::word;
 
 const MOST: u64 = 6_469_693_230;
 
@@ -261,7 +260,7 @@ fn a_constant_is_judged_after_the_count_and_before_the_wires() {
 
 /// Writes a part behind a circuit's gates, and gives the bundle that it makes.
 fn appended(draft: &mut Draft, r: u32, write: &dyn Fn(u32, &mut [u8], &mut u32)) -> Bundle {
-    let first = draft.next_wire();
+    let first = draft.next_bundle(r).first;
     let filled = |file: &mut [u8], words: &mut u32| {
         write(first, file, words);
         Ok(())
@@ -282,7 +281,7 @@ fn parts_reckon_modulo_the_product() {
         let zeros: Vec<bool> = (0..r).map(|_| rng.once_in(2)).collect();
         let constant = integer_with_zeros(&zeros, &mut rng);
         let mut draft = Draft::new(&mut rng, 2);
-        let (a, b) = (draft.bundle(r), draft.bundle(r));
+        let [a, b] = [x, y].map(|integer| draft.bundle(&residues(r, integer, r as usize).unwrap()));
         let sum = appended(&mut draft, r, &|first, file, words| {
             add(r, (first, a.first, b.first), file, words).unwrap()
         });
@@ -298,11 +297,10 @@ fn parts_reckon_modulo_the_product() {
         for bundle in [sum, product, square, multiple] {
             draft.outputs_of(bundle);
         }
-        let file = word::file(&draft.end());
+        let (file, values) = draft.end();
         read(&file).expect("parts of an accepted circuit are accepted");
-        let values = [x, y].map(|integer| residues(r, integer, r as usize).unwrap());
         let mut outputs = vec![0; 4 * r as usize];
-        plain(&file, &values.concat(), &mut outputs).unwrap();
+        plain(&file, &values, &mut outputs).unwrap();
         let due = reckoned(x, y, constant, whole);
         for (decoded, due) in outputs.chunks(r as usize).zip(due) {
             assert_eq!(joined(r, decoded), Ok(due));

@@ -61,15 +61,10 @@ impl Lent {
         Lent::guarded(content, AFTER_FILE)
     }
 
-    /// Tables to be read. What stands right after them are entries that every table can have, so
-    /// that a writer that runs past tables that are cut off finds what it was missing.
-    pub fn tables(content: &[u8]) -> Self {
-        Lent::guarded(content, [0; GUARD])
-    }
-
-    /// Residues to be read. What stands right after them are residues of any prime, so that a
-    /// joiner that runs past too few of them finds what it was missing.
-    pub fn residues(content: &[u8]) -> Self {
+    /// Tables or residues to be read. What stands right after them are entries that every table can
+    /// have and residues of any prime, so that a call that runs past too few of them finds what it
+    /// was missing.
+    pub fn before_zeros(content: &[u8]) -> Self {
         Lent::guarded(content, [0; GUARD])
     }
 

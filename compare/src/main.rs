@@ -10,6 +10,7 @@ mod hex;
 mod round;
 mod second;
 mod sheets;
+mod smallest;
 mod writes;
 
 use call::Call;

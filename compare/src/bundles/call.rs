@@ -82,7 +82,7 @@ pub struct Made {
 impl Call {
     pub fn loan(&self) -> Loan {
         let buffer = match self.name {
-            Join => Lent::residues(&self.buffer),
+            Join => Lent::before_zeros(&self.buffer),
             _ => Lent::of(&self.buffer),
         };
         Loan {

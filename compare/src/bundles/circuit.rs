@@ -2,22 +2,24 @@
 //! joined, is the integer result.
 
 use super::case::Case;
-use super::part::{Held, Part, SORTS};
+use super::laws::{PART_WRITTEN, PLAIN_DECODED, RESULT_JOINED};
+use super::part::{Held, Part, SORTS, Source};
 use crate::call::ACCEPTED;
 use crate::round;
+use compare::bundle::join;
 use compare::circuit::{MOST_WIRES, read};
 use compare::generate::bundle_circuits::Draft;
 use compare::generate::bundle_numbers::integer;
 use compare::generate::round_numbers::round_number;
 use compare::generate::settings::{Setting, cost};
 use compare::rng::Rng;
-use compare::word;
 
 /// What a circuit is made of: how many primes each of its bundles of inputs and each of its parts
-/// has, and how many inputs and gates there are beside.
+/// has, and a bundle of other gates if there is one, and how many inputs and gates there are beside.
 struct Plan {
     bundles: Vec<u32>,
     parts: Vec<u32>,
+    by_gates: Option<u32>,
     inputs: usize,
     gates: usize,
 }
@@ -28,7 +30,7 @@ struct Figure {
     held: Held,
 }
 
-/// No garbling takes more permutations.
+/// Where a garbling would take more permutations, keys have one byte.
 const MOST_COST: u64 = 20_000;
 
 impl Case<'_> {
@@ -37,18 +39,18 @@ impl Case<'_> {
         let n = self.parties();
         let mut draft = Draft::new(&mut own, n);
         let plan = self.plan();
-        let mut held = self.bundles_of_inputs(&plan, &mut draft);
+        let Some(mut held) = self.bundles_of_inputs(&plan, &mut draft) else {
+            return;
+        };
         let Some(parts) = self.append_parts(&plan, &mut draft, &mut held) else {
             return;
         };
         let figures = self.outputs(&held, &mut draft);
-        let file = word::file(&draft.end());
+        let (file, values) = draft.end();
         if !self.accepted(&file) {
             return;
         }
-        let Some(setting) = self.setting(file, n, &held) else {
-            return;
-        };
+        let setting = self.setting(file, values, n);
         let right = self.play_round(&setting, &figures);
         self.tally.count_round(right, &parts);
     }
@@ -62,8 +64,9 @@ impl Case<'_> {
     }
 
     /// Two or three bundles, one of the case's own number of primes and one of as many or more, so
-    /// that there are two to be taken by a part; and one to three parts, the first of that number.
-    /// Now and then the last part makes the last wire that there may be.
+    /// that there are two to be taken by a part; now and then a bundle of other gates; and one to
+    /// three parts, the first of that number. Every fortieth time the last part makes the last wire
+    /// that there may be, and has that number too.
     fn plan(&mut self) -> Plan {
         let r = self.r() as usize;
         let rng = &mut self.rng;
@@ -76,41 +79,46 @@ impl Case<'_> {
             let fewer = rng.between(2, r);
             parts.push(rng.pick(&[r, r, fewer]));
         }
-        let made: usize = bundles.iter().chain(&parts).sum();
-        let (inputs, gates) = match self.number % 40 {
-            39 => (MOST_WIRES - made, 0),
-            _ => (rng.below(5), rng.below(5)),
-        };
+        let by_gates = rng.once_in(4).then(|| rng.between(r, 10));
+        let (mut inputs, mut gates) = (rng.below(5), rng.below(5));
+        if self.number % 40 == 39 {
+            *parts.last_mut().expect("one part or more") = r;
+            let made: usize = bundles.iter().chain(&parts).chain(&by_gates).sum();
+            (inputs, gates) = (MOST_WIRES - made, 0);
+        }
         let [bundles, parts] = [bundles, parts].map(|all| all.iter().map(|r| *r as u32).collect());
         Plan {
             bundles,
             parts,
+            by_gates: by_gates.map(|r| r as u32),
             inputs,
             gates,
         }
     }
 
-    /// Bundles of inputs with integers, and the other inputs before, between and after them.
-    fn bundles_of_inputs(&mut self, plan: &Plan, draft: &mut Draft) -> Vec<Held> {
+    /// Bundles of inputs with the residues that the engine makes of integers, and the other inputs
+    /// before, between and after them. There are none where the engine does not split one.
+    fn bundles_of_inputs(&mut self, plan: &Plan, draft: &mut Draft) -> Option<Vec<Held>> {
         let mut left = plan.inputs;
         let mut held = Vec::new();
         for r in &plan.bundles {
             let some = self.rng.below(left + 1);
             left -= some;
             draft.inputs(some);
+            let integer = integer(*r, &mut self.rng);
             held.push(Held {
-                bundle: draft.bundle(*r),
-                integer: integer(*r, &mut self.rng).into(),
-                made: false,
+                bundle: draft.bundle(&self.split(*r, integer)?),
+                integer: integer.into(),
+                source: Source::Inputs,
             });
         }
         draft.inputs(left);
-        held
+        Some(held)
     }
 
-    /// The parts as the engine writes them, each after some of the other gates. What sort the first
-    /// part is of goes by turns, so that no sort is left to chance. There are none where the engine
-    /// does not write one.
+    /// The parts as the engine writes them, each after some of the other gates, and before one of
+    /// them the bundle of gates. What sort the first part is of goes by turns, so that no sort is
+    /// left to chance. There are none where the engine does not write one.
     fn append_parts(
         &mut self,
         plan: &Plan,
@@ -121,17 +129,20 @@ impl Case<'_> {
         let mut sort = SORTS[turn as usize];
         let mut left = plan.gates;
         let mut parts = Vec::new();
-        for r in &plan.parts {
+        let place = self.rng.below(plan.parts.len());
+        for (at, r) in plan.parts.iter().enumerate() {
             let some = self.rng.below(left + 1);
             left -= some;
             draft.gates(some);
-            let part = Part::drawn(sort, *r, held, &mut self.rng);
+            let by_gates = plan.by_gates.filter(|_| at == place);
+            held.extend(by_gates.and_then(|r| bundle_of_gates(r, draft)));
+            let part = Part::drawn(sort, draft.next_bundle(*r), held, &mut self.rng);
             sort = self.rng.pick(&SORTS);
-            let words = self.written(&part, draft.next_wire())?;
+            let words = self.written(&part)?;
             held.push(Held {
                 bundle: draft.part(*r, &words),
                 integer: part.integer(),
-                made: true,
+                source: Source::Part,
             });
             parts.push(part);
         }
@@ -140,11 +151,11 @@ impl Case<'_> {
     }
 
     /// The words of a part as the engine writes them.
-    fn written(&mut self, part: &Part, first: u32) -> Option<Vec<u32>> {
-        let call = part.call(first, &mut self.rng);
+    fn written(&mut self, part: &Part) -> Option<Vec<u32>> {
+        let call = part.call(&mut self.rng);
         let after = self.make(&call).engines;
         let words = after.words().filter(|_| after.answer == ACCEPTED);
-        self.law("a part with no fault is written", words.is_some());
+        self.law(PART_WRITTEN, words.is_some());
         words
     }
 
@@ -153,7 +164,7 @@ impl Case<'_> {
         let mut figures = Vec::new();
         for held in held {
             draft.outputs(self.rng.below(3));
-            if held.made || self.rng.once_in(2) {
+            if held.source == Source::Part || self.rng.once_in(2) {
                 figures.push(Figure {
                     place: draft.outputs_of(held.bundle),
                     held: *held,
@@ -164,10 +175,9 @@ impl Case<'_> {
         figures
     }
 
-    /// A round of this circuit, its bundles of inputs with the residues that the engine makes of
-    /// their integers. There is none where the engine does not split one.
-    fn setting(&mut self, file: Vec<u8>, n: u32, held: &[Held]) -> Option<Setting> {
-        let rows = read(&file).ok()?.counts().rows;
+    /// A round of this circuit, with these values of its inputs.
+    fn setting(&mut self, file: Vec<u8>, values: Vec<u8>, n: u32) -> Setting {
+        let rows = read(&file).expect("accepted by both").counts().rows;
         let mut k = match self.rng.below(12) {
             0 => self.rng.between(1, 128) as u32,
             _ => self.rng.between(1, 3) as u32,
@@ -176,16 +186,10 @@ impl Case<'_> {
             k = 1;
         }
         let round = round_number(self.number, &mut self.rng);
-        let mut setting = Setting::new(file, (n, k, round), &mut self.rng);
-        for Held {
-            bundle, integer, ..
-        } in held.iter().filter(|held| !held.made)
-        {
-            let residues = self.split(bundle.r, *integer as u64)?;
-            let start = bundle.first as usize;
-            setting.values[start..start + residues.len()].copy_from_slice(&residues);
+        Setting {
+            values,
+            ..Setting::new(file, (n, k, round), &mut self.rng)
         }
-        Some(setting)
     }
 
     /// Plays the round; whether all went well, and every party's bytes join to the integers.
@@ -193,15 +197,28 @@ impl Case<'_> {
         let before = self.tally.wrong();
         let mut own = Rng::new(self.rng.next_u64());
         let round = round::play(setting, &mut own, &mut |step| self.make_step(step));
-        self.law("every party decodes the plain outputs", round.right);
+        self.law(PLAIN_DECODED, round.right);
         for decoded in &round.decoded {
             for Figure { place, held } in figures {
                 let r = held.bundle.r;
                 let joined = self.join(r, &decoded[*place..][..r as usize]);
                 let holds = joined.map(u128::from) == Some(held.integer);
-                self.law("what is decoded joins to the integer result", holds);
+                self.law(RESULT_JOINED, holds);
             }
         }
         self.tally.wrong() == before
     }
+}
+
+/// A bundle of gates that are no part's, and the integer that it carries by plain evaluation. It is
+/// of no use where the engine has written a part that is wrong; then the circuit shows that.
+fn bundle_of_gates(r: u32, draft: &mut Draft) -> Option<Held> {
+    let bundle = draft.bundle_of_gates(r);
+    let mut integer = 0;
+    join(r, &draft.values_of(bundle)?, &mut integer).ok()?;
+    Some(Held {
+        bundle,
+        integer: integer.into(),
+        source: Source::Gates,
+    })
 }

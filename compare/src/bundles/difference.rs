@@ -2,6 +2,8 @@
 
 use super::call::{Call, Made};
 use crate::hex;
+use crate::smallest::{self, Sort};
+use std::fmt::Display;
 
 pub struct Difference {
     pub case: u64,
@@ -9,33 +11,27 @@ pub struct Difference {
     pub made: Made,
 }
 
-impl Difference {
-    /// The call's name and both answers' numbers: differences alike in these mostly have one cause.
-    pub fn sort(&self) -> (&'static str, u32, u32) {
+impl smallest::Difference for Difference {
+    fn sort(&self) -> Sort {
         let Made { ours, engines } = &self.made;
         let name = self.call.name.text();
         (name, ours.answer.number, engines.answer.number)
     }
 
-    /// How much there is to read of it.
-    pub fn size(&self) -> usize {
+    fn size(&self) -> usize {
         self.call.buffer.len()
     }
+}
 
+impl Difference {
     pub fn print(&self, seed: u64) {
         let Made { ours, engines } = &self.made;
         println!("difference in: {}", self.call);
         println!("  second: {}", ours.answer);
         println!("  engine: {}", engines.answer);
         let (one, other) = (&ours.loan, &engines.loan);
-        if one.words != other.words {
-            let (one, other) = (one.words[0], other.words[0]);
-            println!("  words: second {one}, engine {other}");
-        }
-        if one.integer != other.integer {
-            let (one, other) = (one.integer[0], other.integer[0]);
-            println!("  integer: second {one}, engine {other}");
-        }
+        print_number("words", one.words, other.words);
+        print_number("integer", one.integer, other.integer);
         if one.buffer.content() != other.buffer.content() {
             print_buffer("before", &self.call.buffer);
             print_buffer("second", one.buffer.content());
@@ -44,6 +40,18 @@ impl Difference {
             println!("  the engine wrote around the buffer");
         }
         println!("  from: compare bundle {seed} {}", self.case);
+    }
+}
+
+/// A number as each program left it, and whether the engine wrote into the one behind, which was not
+/// lent.
+fn print_number<N: PartialEq + Display>(name: &str, ours: [N; 2], engines: [N; 2]) {
+    let ([one, past_one], [other, past_other]) = (ours, engines);
+    if one != other {
+        println!("  {name}: second {one}, engine {other}");
+    }
+    if past_one != past_other {
+        println!("  {name}: the engine wrote past the number");
     }
 }
 

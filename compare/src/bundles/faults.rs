@@ -1,9 +1,9 @@
-//! Calls with chosen faults, and calls with any numbers.
+//! Calls with chosen faults.
 
 use super::call::{Call, Name};
 use compare::circuit::MOST_WIRES;
 use compare::generate::bundle_numbers::{
-    edge_bundles, edge_firsts, edge_integers, integer, integer_with_zeros, primes_of, residues,
+    edge_bundles, edge_firsts, integer, integer_with_zeros, primes_of, residues, words_of_scale,
     wrong_counts, wrong_integer,
 };
 use compare::rng::Rng;
@@ -163,7 +163,7 @@ impl Maker<'_> {
 
     /// A buffer for the words, or one that is too short.
     fn file_length(&mut self, constant: u64) -> usize {
-        let words: usize = match self.name {
+        let words = match self.name {
             Name::Scale => words_of_scale(self.r, constant),
             _ => self.r as usize,
         };
@@ -178,15 +178,6 @@ impl Maker<'_> {
     }
 }
 
-/// How many words a scale part has: one for each prime, and a table where the constant is 0.
-pub fn words_of_scale(r: u32, constant: u64) -> usize {
-    let words = |p: u32| match constant % u64::from(p) {
-        0 => 1 + p as usize,
-        _ => 1,
-    };
-    primes_of(r).into_iter().map(words).sum()
-}
-
 /// A constant: 0 modulo all primes, none, one or any of them.
 fn constant(r: u32, rng: &mut Rng) -> u64 {
     let one = rng.below(r as usize);
@@ -198,56 +189,4 @@ fn constant(r: u32, rng: &mut Rng) -> u64 {
         _ => (0..r).map(|_| rng.once_in(2)).collect::<Vec<bool>>(),
     };
     integer_with_zeros(&zeros, rng)
-}
-
-/// A call with any numbers, of which those at the edges are likeliest.
-pub fn loose(name: Name, rng: &mut Rng) -> Call {
-    let near = rng.between(2, 10) as u32;
-    let r = match rng.below(4) {
-        0 => rng.pick(&wrong_counts(near)),
-        1 => rng.next_u32() >> rng.below(32),
-        _ => near,
-    };
-    let integer = match rng.below(3) {
-        0 => rng.next_u64() >> rng.below(64),
-        _ => rng.pick(&edge_integers(near)),
-    };
-    let first = any_wire(&edge_firsts(near), rng);
-    let [a, b] = [(); 2].map(|()| any_wire(&edge_bundles(near, first), rng));
-    Call {
-        name,
-        r,
-        integer,
-        first,
-        a,
-        b,
-        buffer: any_buffer(name, near, rng),
-        before: rng.next_u64(),
-        nulls: rng.once_in(2),
-    }
-}
-
-fn any_wire(edges: &[u32], rng: &mut Rng) -> u32 {
-    match rng.below(4) {
-        0 => rng.next_u32() >> rng.below(32),
-        _ => rng.pick(edges),
-    }
-}
-
-/// Residues that may be too many or too few or too large, or a buffer for a file.
-fn any_buffer(name: Name, r: u32, rng: &mut Rng) -> Vec<u8> {
-    let exact = r as usize;
-    match name {
-        Name::Split | Name::Join => {
-            let length = rng.pick(&[exact, exact, exact - 1, exact + 1, 0, 10, 300]);
-            let shift = rng.pick(&[0, 4, 7, 8]);
-            let byte = |byte: u8| (u32::from(byte) >> shift) as u8;
-            rng.bytes(length).into_iter().map(byte).collect()
-        }
-        _ => {
-            let any = rng.below(600);
-            let length = rng.pick(&[4 * exact, 4 * exact - 1, 0, 600, any]);
-            rng.bytes(length)
-        }
-    }
 }

@@ -4,10 +4,12 @@
 mod call;
 mod case;
 mod circuit;
+mod counts;
 mod difference;
 mod engine;
 mod faults;
 mod laws;
+mod loose;
 mod part;
 mod run;
 mod second;

@@ -2,7 +2,7 @@
 
 use super::call::{Call, Name};
 use compare::generate::bundle_circuits::Bundle;
-use compare::generate::bundle_numbers::{integer_with_zeros, product_of};
+use compare::generate::bundle_numbers::{integer_with_zeros, product_of, words_of_scale};
 use compare::rng::Rng;
 
 #[derive(Clone, Copy, Debug, PartialEq, Eq, PartialOrd, Ord)]
@@ -56,30 +56,38 @@ impl Sort {
     }
 }
 
+/// What a bundle is made of: inputs, the gates of a part, or other gates.
+#[derive(Clone, Copy, Debug, PartialEq, Eq)]
+pub enum Source {
+    Inputs,
+    Part,
+    Gates,
+}
+
 /// A bundle of a circuit, and the integer that it carries.
 #[derive(Clone, Copy, Debug)]
 pub struct Held {
     pub bundle: Bundle,
     pub integer: u128,
-    /// Whether a part makes it; else it is of inputs.
-    pub made: bool,
+    pub source: Source,
 }
 
 #[derive(Clone, Copy, Debug)]
 pub struct Part {
     pub sort: Sort,
-    pub r: u32,
+    /// The wires that it makes.
+    pub made: Bundle,
     pub a: Held,
     pub b: Held,
     pub constant: u64,
 }
 
 impl Part {
-    /// A part on any of the bundles that have so many primes, or more: the first ones of a bundle
-    /// are a bundle too. The one made last is as likely as all others together.
-    pub fn drawn(sort: Sort, r: u32, held: &[Held], rng: &mut Rng) -> Self {
+    /// A part on any of the bundles that have as many primes as it makes wires, or more: the first
+    /// ones of a bundle are a bundle too. The one made last is as likely as all others together.
+    pub fn drawn(sort: Sort, made: Bundle, held: &[Held], rng: &mut Rng) -> Self {
         let mut wide: Vec<Held> = held.to_vec();
-        wide.retain(|held| held.bundle.r >= r);
+        wide.retain(|held| held.bundle.r >= made.r);
         let last = wide.len() - 1;
         let a = match rng.once_in(2) {
             true => last,
@@ -91,27 +99,28 @@ impl Part {
         };
         Part {
             sort,
-            r,
+            made,
             a: wide[a],
             b: wide[b],
-            constant: constant(sort, r, rng),
+            constant: constant(sort, made.r, rng),
         }
     }
 
-    /// Whether it works on what another part made.
-    pub fn is_later(&self) -> bool {
-        self.a.made || self.b.made
+    /// Whether it works on a bundle that is made of these.
+    pub fn is_on(&self, source: Source) -> bool {
+        self.a.source == source || self.b.source == source
     }
 
-    /// The call that writes it at this wire, into a buffer that holds anything.
-    pub fn call(&self, first: u32, rng: &mut Rng) -> Call {
-        // Enough for the longest part there is.
-        let length = 4 * 139 + rng.below(9);
+    /// The call that writes it, into a buffer that holds anything.
+    pub fn call(&self, rng: &mut Rng) -> Call {
+        // No part is longer than this one.
+        let longest = words_of_scale(10, 0);
+        let length = 4 * longest + rng.below(9);
         Call {
             name: self.sort.name(),
-            r: self.r,
+            r: self.made.r,
             integer: self.constant,
-            first,
+            first: self.made.first,
             a: self.a.bundle.first,
             b: self.b.bundle.first,
             buffer: rng.bytes(length),
@@ -128,7 +137,7 @@ impl Part {
             Name::Multiply => a * b,
             _ => a * u128::from(self.constant),
         };
-        whole % u128::from(product_of(self.r))
+        whole % u128::from(product_of(self.made.r))
     }
 }
 

@@ -3,11 +3,12 @@
 
 use super::call::{Call, Name};
 use super::case::Case;
-use super::faults::words_of_scale;
+use super::counts::ALL;
 use compare::generate::bundle_numbers::{
     edge_bundles, edge_firsts, edge_integers, integer, integer_with_zeros, primes_of, product_of,
-    residues, wrong_counts,
+    residues, words_of_scale, wrong_counts,
 };
+use std::ops::RangeInclusive;
 
 /// How many cases there are.
 pub const CASES: u64 = 9;
@@ -15,22 +16,42 @@ pub const CASES: u64 = 9;
 /// The highest number of primes of which every integer has its turn.
 const EVERY_INTEGER: u32 = 6;
 
+/// The pieces of the sweep, and with which numbers of primes each makes calls.
+pub const PIECES: [(&str, RangeInclusive<u32>); 7] = [
+    ("every integer", 2..=EVERY_INTEGER),
+    ("every length of residues", ALL),
+    ("every byte among residues", ALL),
+    ("edges of integers", ALL),
+    ("edges of wires", ALL),
+    ("every zero", ALL),
+    ("every length of a file", ALL),
+];
+
 impl Case<'_> {
     pub fn sweep(&mut self) {
-        let r = self.r();
-        if r <= EVERY_INTEGER {
-            self.every_integer(r);
-        }
-        self.every_length(r);
-        self.every_byte(r);
-        self.edges_of_integers(r);
-        self.edges_of_wires(r);
-        self.every_zero(r);
-        self.every_buffer(r);
+        self.swept("every integer", Self::every_integer);
+        self.swept("every length of residues", Self::every_length);
+        self.swept("every byte among residues", Self::every_byte);
+        self.swept("edges of integers", Self::edges_of_integers);
+        self.swept("edges of wires", Self::edges_of_wires);
+        self.swept("every zero", Self::every_zero);
+        self.swept("every length of a file", Self::every_buffer);
     }
 
-    /// Both round trips: from every integer, and from every choice of residues.
+    /// One piece of the sweep, and how many calls it makes.
+    fn swept(&mut self, name: &str, piece: fn(&mut Self, u32)) {
+        let (r, before) = (self.r(), self.tally.calls);
+        piece(self, r);
+        let calls = self.tally.calls - before;
+        self.tally.swept.add(name, r, calls);
+    }
+
+    /// Both round trips: from every integer, and from every choice of residues. There are too many
+    /// with more primes.
     fn every_integer(&mut self, r: u32) {
+        if r > EVERY_INTEGER {
+            return;
+        }
         let primes = primes_of(r);
         let mut residues = vec![0; r as usize];
         for integer in 0..product_of(r) {
@@ -78,10 +99,15 @@ impl Case<'_> {
         }
     }
 
+    /// Integers at an edge: split, and joined again where that can be, and as constants.
     fn edges_of_integers(&mut self, r: u32) {
         for integer in edge_integers(r) {
-            let call = self.split_call(r, integer, r as usize);
-            self.make(&call);
+            if integer < product_of(r) {
+                self.split_and_joined(r, integer);
+            } else {
+                let call = self.split_call(r, integer, r as usize);
+                self.make(&call);
+            }
             self.scale(r, integer, 4 * words_of_scale(r, integer));
         }
     }

@@ -1,26 +1,25 @@
 //! What a run has met.
 
 use super::call::{Call, Made, NAMES, Name};
+use super::counts::{ALL, Counts, Due, always};
 use super::difference::Difference;
-use super::part::{Part, SORTS};
+use super::laws::LAWS;
+use super::part::{Part, SORTS, Sort, Source};
+use super::sweep::PIECES;
 use crate::round::{self, Step};
+use crate::smallest::Smallest;
+use compare::circuit::MOST_WIRES;
 use compare::generate::bundle_numbers::primes_of;
 use std::collections::BTreeMap;
 use std::process::ExitCode;
-
-/// How many differences are printed; the others are counted.
-const SHOWN: usize = 5;
 
 /// A run of this many cases must meet every refusal of each call, and with every number of primes
 /// what the tally counts by that number.
 const THOROUGH: u64 = 1000;
 
-/// What is counted by the number of primes.
-type Counts = BTreeMap<(String, u32), u64>;
-
 #[derive(Default)]
 pub struct Tally {
-    calls: u64,
+    pub calls: u64,
     differences: u64,
     rounds: u64,
     wrong_rounds: u64,
@@ -34,11 +33,14 @@ pub struct Tally {
     zeros: Counts,
     /// How many right rounds had a part of each sort.
     parts: Counts,
-    /// Of each sort of difference, the smallest one: in calls of bundles, and in those of rounds.
-    smallest: BTreeMap<(&'static str, u32, u32), Difference>,
-    smallest_steps: BTreeMap<(&'static str, u32, u32), round::Difference>,
-    /// The laws: how often each was looked at, how often it did not hold, and the first such case.
-    laws: BTreeMap<&'static str, (u64, u64, u64)>,
+    /// How many calls each piece of the sweep made.
+    pub swept: Counts,
+    /// How often each law was looked at.
+    laws: Counts,
+    /// Of each law that did not hold, how often, and the first such case.
+    broken: BTreeMap<&'static str, (u64, u64)>,
+    smallest: Smallest<Difference>,
+    smallest_steps: Smallest<round::Difference>,
 }
 
 const NO_ZERO: &str = "modulo none";
@@ -61,17 +63,39 @@ fn zeros_of(r: u32, constant: u64) -> Vec<String> {
     zeros
 }
 
-/// What a part counts as: its sort, and whether it works on what another part made.
+/// Where constants must have been 0: modulo each prime, with as many primes as have it among them.
+fn due_zeros() -> Vec<Due> {
+    let own = |(r, p): (u32, u32)| (zero_at(p), r.max(2)..=10);
+    let primes = (1..).zip(primes_of(10)).map(own);
+    primes.chain(always(&[NO_ZERO, ALL_ZERO])).collect()
+}
+
+const ON_GATES: &str = "a part on a bundle of gates";
+const LAST_WIRE: &str = "a part that makes the last wire there may be";
+
+/// What a part counts as: its sort, what it works on, and whether there is no wire after it.
 fn sorts_of(part: &Part) -> Vec<String> {
     let mut sorts = vec![part.sort.text().into()];
-    if part.is_later() {
+    if part.is_on(Source::Part) {
         sorts.push(later(part.sort.name()));
+    }
+    if part.is_on(Source::Gates) {
+        sorts.push(ON_GATES.into());
+    }
+    if part.made.first + part.made.r == MOST_WIRES as u32 {
+        sorts.push(LAST_WIRE.into());
     }
     sorts
 }
 
 fn later(name: Name) -> String {
     format!("{} on what another part made", name.text())
+}
+
+fn due_sorts() -> Vec<Due> {
+    let later = [Name::Add, Name::Multiply, Name::Scale].map(|name| (later(name), ALL));
+    let sorts = always(&SORTS.map(Sort::text)).into_iter().chain(later);
+    sorts.chain(always(&[ON_GATES, LAST_WIRE])).collect()
 }
 
 impl Tally {
@@ -84,7 +108,7 @@ impl Tally {
         }
         if made.ours != made.engines {
             self.differences += 1;
-            self.keep(Difference {
+            self.smallest.keep(Difference {
                 case,
                 call: call.clone(),
                 made: made.clone(),
@@ -93,39 +117,24 @@ impl Tally {
     }
 
     fn count_accepted(&mut self, call: &Call) {
-        let name = call.name.text().into();
-        *self.accepted.entry((name, call.r)).or_default() += 1;
+        self.accepted.add(call.name.text(), call.r, 1);
         if call.name == Name::Scale {
             for zeros in zeros_of(call.r, call.integer) {
-                *self.zeros.entry((zeros, call.r)).or_default() += 1;
+                self.zeros.add(&zeros, call.r, 1);
             }
-        }
-    }
-
-    fn keep(&mut self, difference: Difference) {
-        let larger = |kept: &Difference| kept.size() > difference.size();
-        let sort = difference.sort();
-        if self.smallest.get(&sort).is_none_or(larger) {
-            self.smallest.insert(sort, difference);
         }
     }
 
     /// Counts a call of a round, and keeps it if the two programs differ.
     pub fn count_step(&mut self, case: u64, step: &Step, made: &round::Made) {
         self.calls += 1;
-        if made.ours == made.engines {
-            return;
-        }
-        self.differences += 1;
-        let difference = round::Difference {
-            case,
-            step: step.clone(),
-            made: made.clone(),
-        };
-        let larger = |kept: &round::Difference| kept.size() > difference.size();
-        let sort = difference.sort();
-        if self.smallest_steps.get(&sort).is_none_or(larger) {
-            self.smallest_steps.insert(sort, difference);
+        if made.ours != made.engines {
+            self.differences += 1;
+            self.smallest_steps.keep(round::Difference {
+                case,
+                step: step.clone(),
+                made: made.clone(),
+            });
         }
     }
 
@@ -138,24 +147,22 @@ impl Tally {
         }
         for part in parts {
             for sort in sorts_of(part) {
-                *self.parts.entry((sort, part.r)).or_default() += 1;
+                self.parts.add(&sort, part.made.r, 1);
             }
         }
     }
 
-    /// Counts whether a law holds.
-    pub fn law(&mut self, case: u64, law: &'static str, holds: bool) {
-        let (times, broken, first) = self.laws.entry(law).or_default();
-        *times += 1;
+    /// Counts whether a law holds, in a case that is about so many primes.
+    pub fn law(&mut self, (case, r): (u64, u32), law: &'static str, holds: bool) {
+        self.laws.add(law, r, 1);
         if !holds {
-            *first = if *broken == 0 { case } else { *first };
-            *broken += 1;
+            self.broken.entry(law).or_insert((0, case)).0 += 1;
         }
     }
 
     /// All that went wrong so far. A round is wrong where something in it is.
     pub fn wrong(&self) -> u64 {
-        let broken: u64 = self.laws.values().map(|(_, broken, _)| broken).sum();
+        let broken: u64 = self.broken.values().map(|(times, _)| times).sum();
         self.differences + broken
     }
 
@@ -169,17 +176,15 @@ impl Tally {
     }
 
     pub fn print_differences(&self, seed: u64) {
-        for difference in self.smallest.values().take(SHOWN) {
+        for difference in self.smallest.shown() {
             difference.print(seed);
         }
-        for difference in self.smallest_steps.values().take(SHOWN) {
+        for difference in self.smallest_steps.shown() {
             difference.print("bundle", seed);
         }
-        for (law, (_, broken, first)) in &self.laws {
-            if *broken > 0 {
-                println!("does not hold {broken} times: {law}");
-                println!("  from: compare bundle {seed} {first}");
-            }
+        for (law, (times, first)) in &self.broken {
+            println!("does not hold {times} times: {law}");
+            println!("  from: compare bundle {seed} {first}");
         }
     }
 
@@ -191,9 +196,6 @@ impl Tally {
             missed.extend(self.line(name));
         }
         missed.extend(self.lines_by_primes());
-        for (law, (times, broken, _)) in &self.laws {
-            println!("{law}: {times} times, {broken} not");
-        }
         println!(
             "{} rounds, {} of them wrong; {} calls, {} differences",
             self.rounds, self.wrong_rounds, self.calls, self.differences
@@ -228,34 +230,15 @@ impl Tally {
     /// Prints what is counted by the number of primes, and gives what was never met.
     fn lines_by_primes(&self) -> Vec<String> {
         println!("with 2, 3, ... 10 primes");
-        let names = NAMES.map(|name| name.text().into());
-        let mut missed = lines("accepted", &self.accepted, &names);
-        let zeros = primes_of(10).into_iter().map(zero_at);
-        let zeros: Vec<String> = zeros.chain([NO_ZERO.into(), ALL_ZERO.into()]).collect();
-        missed.extend(lines("accepted scale by 0", &self.zeros, &zeros));
-        let sorts = SORTS.map(|sort| sort.text().into());
-        missed.extend(lines("right rounds with", &self.parts, &sorts));
-        let later = [Name::Add, Name::Multiply, Name::Scale].map(later);
-        missed.extend(lines("right rounds with", &self.parts, &later));
-        missed
+        let names = always(&NAMES.map(Name::text));
+        let swept = PIECES.map(|(piece, numbers)| (piece.into(), numbers));
+        [
+            self.accepted.lines("accepted", &names),
+            self.zeros.lines("accepted scale by 0", &due_zeros()),
+            self.parts.lines("right rounds with", &due_sorts()),
+            self.swept.lines("swept", &swept),
+            self.laws.lines("looked at:", &always(&LAWS)),
+        ]
+        .concat()
     }
-}
-
-/// Prints how often each of these was met with each number of primes, and gives those never met.
-fn lines(what: &str, counts: &Counts, due: &[String]) -> Vec<String> {
-    let mut missed = Vec::new();
-    for name in due {
-        let times = |r: u32| counts.get(&(name.clone(), r)).copied().unwrap_or(0);
-        let by_primes: Vec<String> = (2..=10).map(|r| times(r).to_string()).collect();
-        println!("  {what} {name}: {}", by_primes.join(" "));
-        let never = (2..=10).filter(|r| times(*r) == 0 && can_be(name, *r));
-        missed.extend(never.map(|r| format!("{what} {name} with {r} primes")));
-    }
-    missed
-}
-
-/// Whether this can be met with so many primes: a constant is 0 modulo one of its own.
-fn can_be(name: &str, r: u32) -> bool {
-    let mut foreign = primes_of(10).into_iter().skip(r as usize);
-    foreign.all(|p| name != zero_at(p))
 }

@@ -2,8 +2,10 @@
 
 use super::bundle_numbers::primes_of;
 use super::circuits::{Builder, palette};
+use crate::plain::plain;
 use crate::rng::Rng;
-use crate::word;
+use crate::word::{self, END};
+use std::ops::Range;
 
 /// Wires in a row, one for each of the first primes.
 #[derive(Clone, Copy, Debug, PartialEq, Eq)]
@@ -12,10 +14,17 @@ pub struct Bundle {
     pub r: u32,
 }
 
-/// A circuit in the making, for n parties: inputs, then gates, then outputs.
+impl Bundle {
+    fn wires(&self) -> Range<u32> {
+        self.first..self.first + self.r
+    }
+}
+
+/// A circuit in the making, for n parties: inputs with their values, then gates, then outputs.
 pub struct Draft<'r> {
     builder: Builder<'r>,
     n: u32,
+    values: Vec<u8>,
     outputs: usize,
 }
 
@@ -25,39 +34,45 @@ impl<'r> Draft<'r> {
         Draft {
             builder: Builder::new(rng, palette),
             n,
+            values: Vec::new(),
             outputs: 0,
         }
     }
 
-    /// The number of the wire that is made next.
-    pub fn next_wire(&self) -> u32 {
-        self.builder.moduli().len() as u32
+    /// The bundle of so many wires that are made next.
+    pub fn next_bundle(&self, r: u32) -> Bundle {
+        let first = self.builder.moduli().len() as u32;
+        Bundle { first, r }
     }
 
     fn party(&mut self) -> u32 {
         self.builder.rng().below(self.n as usize) as u32
     }
 
-    /// Inputs that form a bundle; mostly they are one party's, but they need not be.
-    pub fn bundle(&mut self, r: u32) -> Bundle {
-        let bundle = Bundle {
-            first: self.next_wire(),
-            r,
-        };
+    fn input(&mut self, owner: u32, p: u32, value: u8) {
+        self.builder.push_wire(word::input(owner, p), p);
+        self.values.push(value);
+    }
+
+    /// Inputs with these residues; mostly they are one party's, but they need not be.
+    pub fn bundle(&mut self, residues: &[u8]) -> Bundle {
+        let bundle = self.next_bundle(residues.len() as u32);
         let owner = self.party();
         let shared = self.builder.rng().once_in(4);
-        for p in primes_of(r) {
+        for (p, residue) in primes_of(bundle.r).into_iter().zip(residues) {
             let owner = if shared { self.party() } else { owner };
-            self.builder.push_wire(word::input(owner, p), p);
+            self.input(owner, p, *residue);
         }
         bundle
     }
 
-    /// So many inputs of any moduli.
+    /// So many inputs of any moduli and values.
     pub fn inputs(&mut self, count: usize) {
         for _ in 0..count {
             let (owner, p) = (self.party(), self.builder.modulus());
-            self.builder.push_wire(word::input(owner, p), p);
+            let any = self.builder.rng().below(p as usize) as u8;
+            let value = self.builder.rng().pick(&[any, any, 0, p as u8 - 1]);
+            self.input(owner, p, value);
         }
     }
 
@@ -68,12 +83,28 @@ impl<'r> Draft<'r> {
 
     /// The words of a part, which is to make a bundle at the next wire.
     pub fn part(&mut self, r: u32, words: &[u32]) -> Bundle {
-        let bundle = Bundle {
-            first: self.next_wire(),
-            r,
-        };
+        let bundle = self.next_bundle(r);
         self.builder.append(words, &primes_of(r));
         bundle
+    }
+
+    /// A bundle of other gates in a row, on any wires.
+    pub fn bundle_of_gates(&mut self, r: u32) -> Bundle {
+        let bundle = self.next_bundle(r);
+        for p in primes_of(r) {
+            self.builder.gate_of(p);
+        }
+        bundle
+    }
+
+    /// The plain values of a bundle's wires. There are none where the circuit so far is refused, as
+    /// it is if the words of a part or the residues lent are wrong.
+    pub fn values_of(&self, bundle: Bundle) -> Option<Vec<u8>> {
+        let mut words = self.builder.words().to_vec();
+        words.extend(bundle.wires().map(word::output).chain([END]));
+        let mut values = vec![0; bundle.r as usize];
+        plain(&word::file(&words), &self.values, &mut values).ok()?;
+        Some(values)
     }
 
     /// So many outputs of any wires.
@@ -84,14 +115,16 @@ impl<'r> Draft<'r> {
 
     /// The outputs of a bundle; which one is the first.
     pub fn outputs_of(&mut self, bundle: Bundle) -> usize {
-        let wires = bundle.first..bundle.first + bundle.r;
-        wires.for_each(|wire| self.builder.push(word::output(wire)));
+        for wire in bundle.wires() {
+            self.builder.push(word::output(wire));
+        }
         self.outputs += bundle.r as usize;
         self.outputs - bundle.r as usize
     }
 
-    pub fn end(self) -> Vec<u32> {
-        self.builder.end()
+    /// The circuit's file, and the values of its inputs.
+    pub fn end(self) -> (Vec<u8>, Vec<u8>) {
+        (word::file(&self.builder.end()), self.values)
     }
 }
 
@@ -99,28 +132,37 @@ impl<'r> Draft<'r> {
 mod tests {
     use super::*;
     use crate::circuit::read;
+    use crate::generate::bundle_numbers::residues;
 
     #[test]
     fn bundles_are_where_they_are_said_to_be() {
         let mut rng = Rng::new(1);
         for case in 0..500 {
             let n = 2 + case % 7;
+            let [one, other] = [2 + case % 9, 10 - case % 9].map(|r| residues(r, &mut rng));
             let mut draft = Draft::new(&mut rng, n);
             let some = draft.builder.rng().below(4);
             draft.inputs(some);
-            let bundles = [2 + case % 9, 10 - case % 9].map(|r| draft.bundle(r));
+            let bundles = [draft.bundle(&one), draft.bundle(&other)];
             draft.inputs(some);
             draft.gates(4);
+            let made = draft.bundle_of_gates(2 + case % 9);
+            let carried = [one, other, draft.values_of(made).expect("accepted so far")];
+            draft.gates(some);
             draft.outputs(some);
+            let bundles = [bundles[0], bundles[1], made];
             let places = bundles.map(|bundle| draft.outputs_of(bundle));
-            let file = word::file(&draft.end());
+            let (file, values) = draft.end();
             let circuit = read(&file).expect("accepted");
             assert!(circuit.owners().all(|owner| u32::from(owner) < n));
             let moduli: Vec<u32> = circuit.output_moduli().map(u32::from).collect();
-            for (bundle, place) in bundles.into_iter().zip(places) {
-                let first = u32::from(circuit.outputs[place]);
+            let mut outputs = vec![0; moduli.len()];
+            plain(&file, &values, &mut outputs).expect("values below their moduli");
+            for ((bundle, place), carried) in bundles.into_iter().zip(places).zip(carried) {
+                let (first, r) = (u32::from(circuit.outputs[place]), bundle.r as usize);
                 assert_eq!(first, bundle.first);
-                assert_eq!(moduli[place..][..bundle.r as usize], primes_of(bundle.r));
+                assert_eq!(moduli[place..][..r], primes_of(bundle.r));
+                assert_eq!(outputs[place..][..r], carried);
             }
         }
     }

@@ -71,6 +71,15 @@ pub fn integer_with_zeros(zeros: &[bool], rng: &mut Rng) -> u64 {
     integer
 }
 
+/// How many words a scale part has: one for each prime, and a table where the constant is 0.
+pub fn words_of_scale(r: u32, constant: u64) -> usize {
+    let words = |p: u32| match constant % u64::from(p) {
+        0 => 1 + p as usize,
+        _ => 1,
+    };
+    primes_of(r).into_iter().map(words).sum()
+}
+
 /// A residue for each prime, now and then all the lowest or the highest.
 pub fn residues(r: u32, rng: &mut Rng) -> Vec<u8> {
     let manner = rng.below(10);
@@ -105,6 +114,7 @@ pub fn edge_bundles(r: u32, first: u32) -> Vec<u32> {
 #[cfg(test)]
 mod tests {
     use super::*;
+    use crate::bundle::scale;
 
     #[test]
     fn wrong_numbers_are_wrong_and_good_ones_are_good() {
@@ -123,6 +133,20 @@ mod tests {
                 assert!(pairs.all(|(residue, p)| u32::from(*residue) < p));
             }
         }
+    }
+
+    #[test]
+    fn scales_have_as_many_words_as_are_foretold() {
+        let mut rng = Rng::new(1);
+        for r in 2..=10 {
+            for constant in [0, 1, product_of(r) - 1, integer(r, &mut rng)] {
+                let (mut file, mut words) = ([0; 600], 0);
+                scale(r, (r, 0), constant, &mut file, &mut words).expect("room");
+                assert_eq!(words_of_scale(r, constant), words as usize);
+            }
+        }
+        // Ten projections, and as many entries as the ten primes add up to.
+        assert_eq!(words_of_scale(10, 0), 10 + 129);
     }
 
     #[test]

@@ -171,6 +171,11 @@ impl<'r> Builder<'r> {
         &self.moduli
     }
 
+    /// The words so far.
+    pub(super) fn words(&self) -> &[u32] {
+        &self.words
+    }
+
     /// Adds a word that makes no wire.
     pub fn push(&mut self, word: u32) {
         self.words.push(word);
@@ -250,6 +255,22 @@ impl<'r> Builder<'r> {
                 }
             }
             _ => self.select(a),
+        }
+    }
+
+    /// A gate that makes a wire of this modulus: of a wire that has it too, or a projection.
+    pub(super) fn gate_of(&mut self, modulus: u32) {
+        let from = self.wire();
+        // Long tables would crowd out everything else.
+        let is_short = self.moduli[from as usize] < 32;
+        match self.wire_of(modulus) {
+            Some(a) if !is_short || self.rng.once_in(2) => match self.rng.below(4) {
+                0 => self.two_wired(a, word::add),
+                1 => self.two_wired(a, word::multiply),
+                2 => self.scale(a),
+                _ => self.select(a),
+            },
+            _ => self.project(from, modulus),
         }
     }
 

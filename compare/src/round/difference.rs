@@ -4,6 +4,7 @@ use super::chain::Made;
 use super::step::Step;
 use crate::call::After;
 use crate::hex;
+use crate::smallest::{self, Sort};
 
 /// A longer file is not printed, but can be made again.
 const SHOWN_BYTES: usize = 1200;
@@ -14,20 +15,20 @@ pub struct Difference {
     pub made: Made,
 }
 
-impl Difference {
-    /// The call's name and both answers' numbers: differences alike in these mostly have one cause.
-    pub fn sort(&self) -> (&'static str, u32, u32) {
+impl smallest::Difference for Difference {
+    fn sort(&self) -> Sort {
         let Made { ours, engines } = &self.made;
         let name = self.step.name.text();
         (name, ours.answer.number, engines.answer.number)
     }
 
-    /// How much there is to read of it.
-    pub fn size(&self) -> usize {
+    fn size(&self) -> usize {
         let buffers = self.step.buffers.iter().map(Vec::len).sum::<usize>();
         self.step.file.len() + buffers
     }
+}
 
+impl Difference {
     /// Prints it, and by which subcommand its case is made again.
     pub fn print(&self, subcommand: &str, seed: u64) {
         let Made { ours, engines } = &self.made;

@@ -7,14 +7,12 @@ use super::several::sorts;
 use super::squares::{self, SORTS};
 use super::step::{NAMES, Name, Step};
 use crate::call::Answer;
+use crate::smallest::Smallest;
 use compare::generate::circuits::all_moduli;
 use compare::generate::round_numbers::{WAYS, has_different_bytes};
 use compare::generate::settings::Setting;
 use std::collections::BTreeMap;
 use std::process::ExitCode;
-
-/// How many differences are printed; the others are counted.
-const SHOWN: usize = 5;
 
 /// A run of this many cases must meet every refusal that each call can give, 16 and 18 with several
 /// bytes too large, the round numbers below, squares of each sort at every modulus, and the refusals
@@ -54,8 +52,7 @@ pub struct Tally {
     squares: BTreeMap<(&'static str, u8), u64>,
     /// How often each call refused a contribution in the squares' old layout.
     old_layout: BTreeMap<Name, u64>,
-    /// Of each sort of difference, the smallest one.
-    smallest: BTreeMap<(&'static str, u32, u32), Difference>,
+    smallest: Smallest<Difference>,
 }
 
 impl Tally {
@@ -71,16 +68,11 @@ impl Tally {
             return;
         }
         self.differences += 1;
-        let difference = Difference {
+        self.smallest.keep(Difference {
             case,
             step: step.clone(),
             made: made.clone(),
-        };
-        let larger = |kept: &Difference| kept.size() > difference.size();
-        let sort = difference.sort();
-        if self.smallest.get(&sort).is_none_or(larger) {
-            self.smallest.insert(sort, difference);
-        }
+        });
     }
 
     /// Counts a whole round, and the openings of it with other round numbers. Where there are no
@@ -133,7 +125,7 @@ impl Tally {
     }
 
     pub fn print_differences(&self, seed: u64) {
-        for difference in self.smallest.values().take(SHOWN) {
+        for difference in self.smallest.shown() {
             difference.print("round", seed);
         }
     }

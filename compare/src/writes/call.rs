@@ -63,7 +63,7 @@ impl Call {
         let (records, tables, file) = match self.name {
             Name::Write => (
                 LentRecords::to_read(&self.records),
-                Lent::tables(&self.tables),
+                Lent::before_zeros(&self.tables),
                 Lent::of(&self.file),
             ),
             Name::Records => (

@@ -2,6 +2,7 @@
 
 use super::call::{Call, Made, Name};
 use crate::hex;
+use crate::smallest::{self, Sort};
 
 /// Longer lists and files are not printed, but can be made again.
 const SHOWN_RECORDS: usize = 40;
@@ -13,16 +14,14 @@ pub struct Difference {
     pub made: Made,
 }
 
-impl Difference {
-    /// The call's name and both answers' numbers: differences alike in these mostly have one cause.
-    pub fn sort(&self) -> (&'static str, u32, u32) {
+impl smallest::Difference for Difference {
+    fn sort(&self) -> Sort {
         let Made { ours, engines } = &self.made;
         let name = self.call.name.text();
         (name, ours.answer.number, engines.answer.number)
     }
 
-    /// How much there is to read of it.
-    pub fn size(&self) -> usize {
+    fn size(&self) -> usize {
         let Call {
             records,
             tables,
@@ -31,7 +30,9 @@ impl Difference {
         } = &self.call;
         28 * records.len() + tables.len() + file.len()
     }
+}
 
+impl Difference {
     pub fn print(&self, seed: u64) {
         let Made { ours, engines } = &self.made;
         println!("difference in: {}", self.call);

@@ -3,11 +3,9 @@
 use super::call::{Call, Made, Name};
 use super::difference::Difference;
 use crate::call::Answer;
+use crate::smallest::Smallest;
 use std::collections::BTreeMap;
 use std::process::ExitCode;
-
-/// How many differences are printed; the others are counted.
-const SHOWN: usize = 5;
 
 /// A run of this many cases must meet every refusal that writing can give, at every sort of
 /// record, and the refusal of wrong lengths in taking back.
@@ -37,8 +35,7 @@ pub struct Tally {
     written: BTreeMap<(&'static str, u32), u64>,
     /// How often taking back gave each number.
     taken: BTreeMap<u32, u64>,
-    /// Of each sort of difference, the smallest one.
-    smallest: BTreeMap<(&'static str, u32, u32), Difference>,
+    smallest: Smallest<Difference>,
     /// The laws: how often each was looked at, how often it did not hold, and the first such case.
     laws: BTreeMap<&'static str, (u64, u64, u64)>,
 }
@@ -58,19 +55,11 @@ impl Tally {
         *met += 1;
         if made.ours != made.engines {
             self.differences += 1;
-            self.keep(Difference {
+            self.smallest.keep(Difference {
                 case,
                 call: call.clone(),
                 made: made.clone(),
             });
-        }
-    }
-
-    fn keep(&mut self, difference: Difference) {
-        let larger = |kept: &Difference| kept.size() > difference.size();
-        let sort = difference.sort();
-        if self.smallest.get(&sort).is_none_or(larger) {
-            self.smallest.insert(sort, difference);
         }
     }
 
@@ -100,7 +89,7 @@ impl Tally {
     }
 
     pub fn print_differences(&self, seed: u64) {
-        for difference in self.smallest.values().take(SHOWN) {
+        for difference in self.smallest.shown() {
             difference.print(seed);
         }
         for (law, (_, broken, first)) in &self.laws {
