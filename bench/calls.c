@@ -131,8 +131,9 @@ static void make_room(uint32_t n, uint32_t k) {
 }
 
 static void garble(void) {
-    uint32_t meter = 0;
-    must(lupiknam_garble(r.file, r.file_length, r.n, r.k, 0, r.contributions, r.n * r.contribution, r.row_bytes, r.rows_length,
+    lupiknam_meter meter;
+    lupiknam_meter_carry(0, &meter);
+    must(lupiknam_garble(r.file, r.file_length, r.n, r.k, 0, 0, r.contributions, r.n * r.contribution, r.row_bytes, r.rows_length,
                          r.input_masks, r.inputs, r.output_masks, r.outputs, &meter),
          "garble");
 }

@@ -1,13 +1,14 @@
 /*
- * Fuzzing of the C face: a libFuzzer harness over the fifteen calls of lupiknam.h. fuzz/run builds and runs it; docs/ROBUSTNESS.md says
+ * Fuzzing of the C face: a libFuzzer harness over the sixteen calls of lupiknam.h. fuzz/run builds and runs it; docs/ROBUSTNESS.md says
  * what it can see and what it cannot.
  *
  * An input is a head, `struct head`, and a circuit file. The file is lent as it stands, or mended into one that the reader must accept, or
  * mended and then damaged in one place. Each call is made once with loose lengths and contents. The file's words are written again from
  * their records, as they are and with one fault each. The calls of bundles, which read no file, are made with the head's numbers as they
  * stand, mended, and with one fault or two; their whole answer is known. A part is also set into a circuit of its own, which is evaluated.
- * Where the circuit is accepted and n, K and party are in range, a whole round is played, and then some of its calls again with one fault
- * each, or two bytes too large, whose answer is known.
+ * Where the circuit is accepted and n, K and party are in range, a whole round is played, for one account of a meter with any totals or of
+ * one that was carried over, and then some of its calls again with one fault each, two bytes too large, or a bad account besides, whose
+ * answer is known. All eight totals are looked at after every garbling.
  *
  * Every buffer lies against a page that faults when it is touched; what a call only reads is lent by a mapping that faults when it is
  * written. What a call writes is filled first with 255, which is below no modulus: so a byte that an accepted call leaves out shows, and so
@@ -21,7 +22,7 @@
 #include <sys/mman.h>
 #include <unistd.h>
 
-enum { MOST_WIRES = 1024, MOST_OUTPUTS = 256, MOST_WORDS = 1 << 16, MOST_ROWS = 1 << 19, PRIMES = 54, NUMBERS = 25 };
+enum { MOST_WIRES = 1024, MOST_OUTPUTS = 256, MOST_WORDS = 1 << 16, MOST_ROWS = 1 << 19, PRIMES = 54, NUMBERS = 26, ACCOUNTS = 8 };
 enum { FILL = 255, SLACK = 256 };   /* what written buffers hold before a call, and how far around them it is looked at afterwards */
 enum { MOST_PERMUTATIONS = 60000 }; /* of a round: about 20 ms; a dearer one is not played */
 enum { MOST_R = 10, MOST_PART = 139 }; /* primes of a bundle, and words of a part */
@@ -47,17 +48,18 @@ struct fault {
 
 struct head {
     uint8_t mode;  /* 0 the file as it stands, 2 mended and damaged, 1 and 3 mended; modulo 4 */
-    uint8_t lying; /* bit 0: buffers begin, not end, at a guard page; bit 1: an empty buffer is NULL */
+    uint8_t lying; /* bit 0: buffers begin, not end, at a guard page; bit 1: an empty buffer is NULL; bit 2: a round's meter is carried */
     uint8_t style; /* how contributions are drawn */
     uint8_t loose; /* what loose calls are filled with */
-    uint32_t n, k, party, meter, seed, damage, round;
+    uint32_t n, k, party, account, seed, damage, round;
+    uint32_t totals[ACCOUNTS];
     struct fault faults[FAULTS];
     uint32_t r, first, a, b; /* of the calls of bundles */
     uint64_t integer;
 };
 
 static struct head head;
-_Static_assert(sizeof head == 72, "fuzz/run writes heads of 72 bytes");
+_Static_assert(sizeof head == 104, "fuzz/run writes heads of 104 bytes");
 
 static uint64_t random_state;
 
@@ -177,7 +179,7 @@ static size_t entries; /* of all tables */
 static uint8_t primes[PRIMES], modulus[MOST_WIRES], owner[MOST_WIRES], records_of[MOST_WIRES], row_modulus[MOST_ROWS];
 static uint8_t contribution_modulus[128 * PRIMES + 129 * 3 * MOST_WIRES];
 static uint16_t output_wire[MOST_OUTPUTS], own_wire[MOST_WIRES];
-static uint32_t n, k, party, round_number, opened_rows, own;
+static uint32_t n, k, party, round_number, account, carried, opened_rows, own; /* carried: the old total that a meter is made of */
 
 static int is_prime(unsigned m) {
     return memchr(primes, (int)m, PRIMES) != NULL && m != 0;
@@ -290,8 +292,8 @@ static struct {
 /* The length that a buffer must have, and below what each of its bytes must be. A part's depends on the call; here it is that of a sum. */
 static size_t exact(const struct buffer *b) {
     const size_t row = (size_t)n * k;
-    return b == &numbers ? 24 : b == &count || b == &meter || b == &written_words || b == &part_words ? 4 : b == &integer ? 8
-        : b == &residues ? bundle.r % (MOST_R + 1) : b == &part ? 4 * (bundle.r % (MOST_R + 1))
+    return b == &numbers ? 24 : b == &count || b == &written_words || b == &part_words ? 4 : b == &integer ? 8
+        : b == &meter ? sizeof(lupiknam_meter) : b == &residues ? bundle.r % (MOST_R + 1) : b == &part ? 4 * (bundle.r % (MOST_R + 1))
         : b == &records ? (counts.wires + counts.outputs) * sizeof(lupiknam_record) : b == &tables ? entries
         : b == &written_file ? file.length
         : b == &contributions ? n * contribution_size() : b == &contribution ? contribution_size()
@@ -311,7 +313,8 @@ static unsigned modulus_at(const struct buffer *b, size_t i) {
 
 /* ---- one call, and what holds of every call */
 
-enum call { READ, INPUTS_OF, PLAIN, GARBLE, EXTERNALS, INPUT_KEYS, OPEN, DECODE, RECORDS, WRITE, SPLIT, JOIN, ADD, MULTIPLY, SCALE, CALLS };
+enum call { READ, INPUTS_OF, PLAIN, GARBLE, EXTERNALS, INPUT_KEYS, OPEN, DECODE, RECORDS, WRITE, SPLIT, JOIN, ADD, MULTIPLY, SCALE, CARRY,
+    CALLS };
 enum { TAKES_N = 1, TAKES_K = 2, TAKES_PARTY = 4 };
 #define BITS(from, to) ((2u << (to)) - (1u << (from)))
 
@@ -324,7 +327,7 @@ static const struct {
     {"read", 0, BITS(1, 10), {0}, {&numbers}},
     {"inputs_of", TAKES_N | TAKES_PARTY, BITS(1, 13), {0}, {&count}},
     {"plain", 0, BITS(1, 10) | BITS(14, 15), {&values}, {&figures}},
-    {"garble", TAKES_N | TAKES_K, BITS(1, 11) | BITS(13, 14) | BITS(16, 17) | BITS(21, 21), {&contributions},
+    {"garble", TAKES_N | TAKES_K, BITS(1, 11) | BITS(13, 14) | BITS(16, 17) | BITS(21, 21) | BITS(25, 25), {&contributions},
         {&rows, &input_masks, &output_masks, &meter}},
     {"externals", TAKES_N | TAKES_PARTY, BITS(1, 15), {&own_values, &own_masks}, {&own_externals}},
     {"input_keys", TAKES_N | TAKES_K | TAKES_PARTY, BITS(1, 17), {&contribution, &externals}, {&own_keys}},
@@ -337,7 +340,12 @@ static const struct {
     {"bundle_add", 0, BITS(5, 5) | BITS(8, 8) | BITS(22, 23), {0}, {&part, &part_words}},
     {"bundle_multiply", 0, BITS(5, 5) | BITS(8, 8) | BITS(22, 23), {0}, {&part, &part_words}},
     {"bundle_scale", 0, BITS(5, 5) | BITS(8, 8) | BITS(22, 24), {0}, {&part, &part_words}},
+    {"meter_carry", 0, 0, {0}, {&meter}},
 };
+
+static int of_bundles(enum call c) {
+    return c >= SPLIT && c <= SCALE;
+}
 
 /* What libFuzzer is told besides its own coverage of this file: which call gave which answer, which word or record met which refusal. */
 #define COUNTERS __attribute__((section("__libfuzzer_extra_counters")))
@@ -353,31 +361,32 @@ static size_t record_count(void) {
     return records.length / sizeof(lupiknam_record);
 }
 
-static lupiknam_answer call(enum call c) {
-    uint32_t *u = (uint32_t *)(void *)bytes(&numbers), *m = (uint32_t *)(void *)bytes(&meter);
-    const uint8_t *f = shown(&file);
 #define IN(b) shown(&b), b.length
 #define OUT(b) lent(&b), b.length
+
+static lupiknam_answer call(enum call c) {
+    uint32_t *u = (uint32_t *)(void *)bytes(&numbers);
+    lupiknam_meter *m = (lupiknam_meter *)(void *)bytes(&meter);
     switch (c) {
     case READ:
-        return lupiknam_read(f, file.length, u, u + 1, u + 2, u + 3, u + 4, u + 5);
+        return lupiknam_read(IN(file), u, u + 1, u + 2, u + 3, u + 4, u + 5);
     case INPUTS_OF:
-        return lupiknam_inputs_of(f, file.length, n, party, (uint32_t *)(void *)bytes(&count));
+        return lupiknam_inputs_of(IN(file), n, party, (uint32_t *)(void *)bytes(&count));
     case PLAIN:
-        return lupiknam_plain(f, file.length, IN(values), OUT(figures));
+        return lupiknam_plain(IN(file), IN(values), OUT(figures));
     case GARBLE:
-        return lupiknam_garble(f, file.length, n, k, round_number, IN(contributions), OUT(rows), OUT(input_masks), OUT(output_masks), m);
+        return lupiknam_garble(IN(file), n, k, round_number, account, IN(contributions), OUT(rows), OUT(input_masks), OUT(output_masks), m);
     case EXTERNALS:
-        return lupiknam_externals(f, file.length, n, party, IN(own_values), IN(own_masks), OUT(own_externals));
+        return lupiknam_externals(IN(file), n, party, IN(own_values), IN(own_masks), OUT(own_externals));
     case INPUT_KEYS:
-        return lupiknam_input_keys(f, file.length, n, k, party, IN(contribution), IN(externals), OUT(own_keys));
+        return lupiknam_input_keys(IN(file), n, k, party, IN(contribution), IN(externals), OUT(own_keys));
     case OPEN:
-        return lupiknam_open(f, file.length, n, k, party, round_number, IN(contribution), IN(externals), IN(keys), IN(rows),
+        return lupiknam_open(IN(file), n, k, party, round_number, IN(contribution), IN(externals), IN(keys), IN(rows),
             OUT(wire_keys), OUT(wire_externals));
     case DECODE:
-        return lupiknam_decode(f, file.length, IN(wire_externals), IN(output_masks), OUT(decoded));
+        return lupiknam_decode(IN(file), IN(wire_externals), IN(output_masks), OUT(decoded));
     case RECORDS:
-        return lupiknam_records(f, file.length, (lupiknam_record *)(void *)lent(&records), record_count(), OUT(tables));
+        return lupiknam_records(IN(file), (lupiknam_record *)(void *)lent(&records), record_count(), OUT(tables));
     case WRITE:
         return lupiknam_write((const lupiknam_record *)(const void *)shown(&records), record_count(), IN(tables), OUT(written_file),
             (uint32_t *)(void *)bytes(&written_words));
@@ -389,8 +398,11 @@ static lupiknam_answer call(enum call c) {
         return lupiknam_bundle_add(bundle.r, bundle.first, bundle.a, bundle.b, OUT(part), (uint32_t *)(void *)bytes(&part_words));
     case MULTIPLY:
         return lupiknam_bundle_multiply(bundle.r, bundle.first, bundle.a, bundle.b, OUT(part), (uint32_t *)(void *)bytes(&part_words));
-    default:
+    case SCALE:
         return lupiknam_bundle_scale(bundle.r, bundle.first, bundle.integer, bundle.a, OUT(part), (uint32_t *)(void *)bytes(&part_words));
+    default: /* this one answers nothing */
+        lupiknam_meter_carry(carried, m);
+        return (lupiknam_answer){0, 0};
     }
 }
 
@@ -420,9 +432,15 @@ static int place_fits(enum call c, lupiknam_answer a) {
         return a.place < counts.inputs;
     case 20:
         return a.place >= counts.inputs && a.place < counts.wires && records_of[a.place] > 0;
-    default: /* 0, 1, 11, 14 and 21 name no place */
+    default: /* 0, 1, 11, 14, 21 and 25 name no place */
         return a.number >= 2 && a.number <= 9 ? a.place < words : a.number == 10 ? a.place <= words : a.place == 0;
     }
+}
+
+/* 21 is for a named total that has no space, whatever the others have, and 25 for an account that there is not. */
+static int account_refused(uint32_t number, const lupiknam_meter *before) {
+    return number == 21 ? account < ACCOUNTS && (uint64_t)before->totals[account] + counts.rows > UINT32_MAX
+        : number != 25 || account >= ACCOUNTS;
 }
 
 /* What writing laid down: the reader takes it back to the same records and tables; the buffer is as it was past the words. */
@@ -517,12 +535,30 @@ static void judge_bundle(enum call c, uint32_t number) {
         judge_part();
 }
 
+/* All totals after a garbling: an accepted one adds its rows to the named account's, and no other moves. Past 2^32 none wraps around. */
+static void judge_charged(uint32_t number, const lupiknam_meter *before) {
+    check(number != 0 || account < ACCOUNTS, "an accepted garbling names one of the accounts");
+    for (uint32_t i = 0; i < ACCOUNTS; i++) {
+        const uint64_t due = before->totals[i] + (number == 0 && i == account ? (uint64_t)counts.rows : 0);
+        check(word_at(bytes(&meter), i) == due, number == 0 ? "accepted rows are added to the named account's total, and to no other"
+                                                            : "a refused garbling leaves all totals as they were");
+    }
+}
+
+/* All totals after carrying over, whatever stood there. */
+static void judge_carried(void) {
+    for (uint32_t i = 0; i < ACCOUNTS; i++)
+        check(word_at(bytes(&meter), i) == (i == 0 ? carried : 0), "the carried total is account 0's, and the others are 0");
+}
+
 /* A written buffer after a call: nothing around it is changed, and its bytes are as the answer says. */
-static void judge_written(const struct buffer *b, uint32_t number, uint32_t meter_before) {
+static void judge_written(enum call c, const struct buffer *b, uint32_t number, const lupiknam_meter *before) {
     const uint8_t *from = bytes(b), *to = from + b->length;
     check(all_are(slack_start(b), from, FILL) && all_are(to, slack_end(b), FILL), "nothing is written around a lent buffer");
-    if (b == &meter)
-        check((uint64_t)word_at(from, 0) == meter_before + (number == 0 ? (uint64_t)counts.rows : 0), "the meter counts accepted rows");
+    if (c == CARRY)
+        judge_carried();
+    else if (b == &meter)
+        judge_charged(number, before);
     else if (number != 0)
         check(all_are(from, to, number == 20 ? 0 : FILL), "a refused call leaves written buffers as they were, or zero after 20");
     else if (b == &numbers || b == &count || b == &records || b == &tables || b == &written_words || b == &integer || b == &part
@@ -537,23 +573,25 @@ static void judge_written(const struct buffer *b, uint32_t number, uint32_t mete
 
 static lupiknam_answer make(enum call c) {
     struct buffer *const *written = calls[c].written;
-    uint32_t before = word_at(bytes(&meter), 0);
+    lupiknam_meter before;
+    memcpy(&before, bytes(&meter), sizeof before);
     for (int i = 0; i < 4 && written[i]; i++)
         memset(slack_start(written[i]), FILL, (size_t)(slack_end(written[i]) - slack_start(written[i])));
-    memcpy(bytes(&meter), &before, 4);
+    memcpy(bytes(&meter), &before, sizeof before);
     list_part(c);
     lupiknam_answer a = call(c);
     check(a.number == 0 || (a.number < NUMBERS && calls[c].refusals >> a.number & 1), "a call answers with one of its own numbers");
     check(place_fits(c, a), "the place of an answer is one that there is");
+    check(account_refused(a.number, &before), "an account is refused only with reason");
     if (c == READ)
         reading = a;
     if (c == WRITE)
         met_record[a.number][a.place < record_count() ? record(a.place)->kind % 16 : 0] = 1;
-    else if (c > WRITE)
+    else if (of_bundles(c))
         judge_bundle(c, a.number);
-    else if (reading.number != 0)
+    else if (c < WRITE && reading.number != 0)
         check(a.number == reading.number && a.place == reading.place, "every call refuses a bad file alike");
-    else
+    else if (c < WRITE)
         check(a.number == 0 || a.number > 10, "no call finds a fault in an accepted file");
     met_answer[c][a.number] = 1;
     met[c][a.number]++;
@@ -563,7 +601,7 @@ static lupiknam_answer make(enum call c) {
     if (c == READ && a.number == 0)
         list_circuit();
     for (int i = 0; i < 4 && written[i]; i++)
-        judge_written(written[i], a.number, before);
+        judge_written(c, written[i], a.number, &before);
     return a;
 }
 
@@ -758,8 +796,9 @@ static void call_loosely(void) {
         if (all[i] != &numbers && all[i] != &count && all[i] != &meter && all[i] != &written_words && all[i] != &integer
             && all[i] != &part_words)
             loosen(all[i]);
+    carried = ~head.totals[0]; /* another number than stands there */
     for (enum call c = INPUTS_OF; c < CALLS; c++) {
-        memcpy(bytes(&meter), &head.meter, 4);
+        memcpy(bytes(&meter), head.totals, sizeof head.totals);
         if (c == JOIN) /* splitting has written them */
             loosen(&residues);
         make(c);
@@ -1122,14 +1161,14 @@ static void try_bundles(void) {
     must(SPLIT, 0, 0);
     must(JOIN, 0, 0);
     check(joined() == bundle.integer, "what is split joins again");
-    for (enum call c = ADD; c < CALLS; c++) {
+    for (enum call c = ADD; c <= SCALE; c++) {
         list_part(c);
         set_length(&part, 4 * (size_t)due_count + (head.loose & 1 ? drawn(64) : 0));
         must(c, 0, 0);
     }
     compute(ADD + head.seed % 3);
     for (int i = 0; i < BUNDLE_TRIALS; i++)
-        try_fault(SPLIT + drawn(CALLS - SPLIT), drawn(BUNDLE_FAULTS), drawn(1 << 16));
+        try_fault(SPLIT + drawn(SCALE + 1 - SPLIT), drawn(BUNDLE_FAULTS), drawn(1 << 16));
 }
 
 /* ---- a round */
@@ -1212,8 +1251,27 @@ static void open_at_all(uint32_t last) {
     check(memcmp(first_externals, bytes(&externals), externals.length) == 0, "the external values of inputs are those lent");
 }
 
+/* A total to which the rows can be added. */
+static uint32_t with_space(uint32_t total) {
+    const uint32_t most = UINT32_MAX - counts.rows;
+    return total < most ? total : most;
+}
+
+/* The meter that a round is garbled with: the head's totals, with space in the named one, or a carried total. */
+static void start_meter(void) {
+    uint32_t totals[ACCOUNTS];
+    memcpy(totals, head.totals, sizeof totals);
+    totals[account] = with_space(totals[account]);
+    memcpy(bytes(&meter), totals, sizeof totals);
+    if (head.lying & 4) {
+        carried = with_space(~head.totals[0]);
+        must(CARRY, 0, 0);
+    }
+}
+
 static void play(void) {
-    const uint32_t last = party, space = UINT32_MAX - counts.rows, start_at = head.meter < space ? head.meter : space;
+    const uint32_t last = party;
+    account %= ACCOUNTS;
     list_contribution();
     for (size_t i = 1; i < BUFFERS; i++) {
         set_length(all[i], exact(all[i]));
@@ -1222,7 +1280,7 @@ static void play(void) {
     for (uint32_t w = 0; w < counts.inputs; w++)
         bytes(&values)[w] = (uint8_t)drawn(modulus[w]);
     draw_contributions();
-    memcpy(bytes(&meter), &start_at, 4);
+    start_meter();
     must(PLAIN, 0, 0);
     must(GARBLE, 0, 0);
     exchange();
@@ -1230,11 +1288,20 @@ static void play(void) {
     rounds++;
 }
 
-/* ---- calls of the round again, each with one fault or two bytes too large; all else is right, so the answer is known */
+/* ---- calls of the round again, each with one fault, two bytes too large or a bad account besides; all else is right, so the answer is
+   known */
 
 enum { BAD_N, BAD_K, BAD_PARTY, OWNER_ABSENT, BAD_LENGTH, BAD_BYTE, ZERO_OFFSET, OTHER_KEY, OTHER_ROW, OTHER_ROUND, FULL_METER,
-    FAULT_KINDS };
-COUNTERS static uint8_t met_fault[CALLS][FAULT_KINDS];
+    BAD_ACCOUNT, FAULT_KINDS };
+COUNTERS static uint8_t met_fault[CALLS][FAULT_KINDS][2]; /* the account good, or bad */
+
+/* The answer that is due to a fault; where the account is bad besides, 25 stands directly after 14. */
+static void must_spoiled(enum call c, uint32_t number, size_t place) {
+    if (c == GARBLE && account >= ACCOUNTS && (number == 0 || number > 14))
+        must(GARBLE, 25, 0);
+    else
+        must(c, number, place);
+}
 
 static const uint32_t odd_numbers[] = {0, 129, 255, 256, 258, 1 << 16 | 3, UINT32_MAX, 1u << 31 | 2, 1u << 24 | 16};
 
@@ -1242,20 +1309,20 @@ static void spoil_number(enum call c, struct fault f) {
     const uint32_t odd = odd_numbers[f.where % 9], n_was = n, k_was = k, party_was = party;
     if (f.kind == BAD_N) {
         n = f.where / 9 % 3 == 0 ? 1 : f.where / 9 % 3 == 1 ? 9 : odd;
-        must(c, 11, 0);
+        must_spoiled(c, 11, 0);
     } else if (f.kind == BAD_K) {
         k = odd;
-        must(c, 11, 0);
+        must_spoiled(c, 11, 0);
     } else if (f.kind == BAD_PARTY) {
         party = odd < n ? n : odd;
-        must(c, 12, party);
+        must_spoiled(c, 12, party);
     } else {
         uint32_t w = 0;
         n = 2 + f.where % (n - 1);
         while (w < counts.inputs && owner[w] < n)
             w++;
         if (w < counts.inputs && (party < n || !(calls[c].given & TAKES_PARTY)))
-            must(c, 13, w);
+            must_spoiled(c, 13, w);
     }
     n = n_was, k = k_was, party = party_was;
 }
@@ -1277,7 +1344,7 @@ static void spoil_length(enum call c, struct fault f) {
     const size_t was = b->length;
     const long other = (long)was + steps[f.where / 8 % 5];
     set_length(b, other < 0 ? was + 1 : (size_t)other);
-    must(c, 14, 0);
+    must_spoiled(c, 14, 0);
     b->length = was;
 }
 
@@ -1298,7 +1365,7 @@ static void spoil_bytes(enum call c, struct fault f) {
     const uint8_t was = bytes(b)[at], was_behind = bytes(then)[behind];
     change(then, behind, 1, drawn(256));
     change(b, at, 1, f.where / 8);
-    must(c, b == &keys || b == &rows ? 18 : b == &contribution || b == &contributions ? 16 : 15, at);
+    must_spoiled(c, b == &keys || b == &rows ? 18 : b == &contribution || b == &contributions ? 16 : 15, at);
     bytes(then)[behind] = was_behind;
     bytes(b)[at] = was;
 }
@@ -1310,7 +1377,7 @@ static void spoil_offset(enum call c, struct fault f) {
     uint8_t *offset = bytes(b) + j * contribution_size() + q * k;
     memcpy(was, offset, k);
     memset(offset, 0, k);
-    must(c, 17, contribution_modulus[q * k]);
+    must_spoiled(c, 17, contribution_modulus[q * k]);
     memcpy(offset, was, k);
 }
 
@@ -1344,12 +1411,14 @@ static void spoil_round(struct fault f) {
     round_number = was;
 }
 
+/* The named account at its limit, once the rows are added, or past it; the others full, empty or as they come, which does not matter. */
 static void spoil_meter(struct fault f) {
-    uint32_t full = UINT32_MAX - counts.rows;
-    if (counts.rows > 0 && f.where & 1)
-        full += 1 + f.where % counts.rows;
-    memcpy(bytes(&meter), &full, 4);
-    must(GARBLE, full > UINT32_MAX - counts.rows ? 21 : 0, 0);
+    const uint32_t most = UINT32_MAX - counts.rows, past = f.where & 1 && counts.rows > 0 ? 1 + f.where % counts.rows : 0;
+    for (uint32_t i = 0; i < ACCOUNTS; i++) {
+        const uint32_t other = f.where & 2 ? head.totals[i] : f.where & 4 ? UINT32_MAX : 0, total = i == account ? most + past : other;
+        memcpy(bytes(&meter) + 4 * i, &total, 4);
+    }
+    must_spoiled(GARBLE, past > 0 ? 21 : 0, 0);
 }
 
 /* Whether a call can have a fault. */
@@ -1357,17 +1426,23 @@ static int can_have(enum call c, unsigned kind) {
     const uint32_t given = calls[c].given;
     return kind == BAD_N || kind == OWNER_ABSENT ? given & TAKES_N : kind == BAD_K || kind == ZERO_OFFSET ? given & TAKES_K
         : kind == BAD_PARTY ? given & TAKES_PARTY : kind == BAD_LENGTH || kind == BAD_BYTE ? calls[c].read[0] != NULL
-        : kind == FULL_METER ? c == GARBLE : c == OPEN;
+        : kind == FULL_METER || kind == BAD_ACCOUNT ? c == GARBLE : c == OPEN;
 }
 
 static void spoil(struct fault f) {
+    static const uint32_t odd_accounts[] = {8, 9, 15, 255, 256, 256 + 7, 1 << 16 | 3, 1u << 31, UINT32_MAX};
     const uint64_t before = made_calls;
+    const uint32_t account_was = account;
     enum call c = INPUTS_OF + f.call % (DECODE + 1 - INPUTS_OF);
     f.kind %= FAULT_KINDS;
     while (!can_have(c, f.kind))
         c = c < DECODE ? c + 1 : INPUTS_OF;
-    met_fault[c][f.kind] = 1;
-    if (f.kind <= OWNER_ABSENT)
+    if (f.kind == BAD_ACCOUNT || (c == GARBLE && drawn(4) == 0))
+        account = odd_accounts[drawn(9)];
+    met_fault[c][f.kind][account >= ACCOUNTS] = 1;
+    if (f.kind == BAD_ACCOUNT)
+        must_spoiled(GARBLE, 0, 0);
+    else if (f.kind <= OWNER_ABSENT)
         spoil_number(c, f);
     else if (f.kind == BAD_LENGTH)
         spoil_length(c, f);
@@ -1381,6 +1456,7 @@ static void spoil(struct fault f) {
         spoil_meter(f);
     else
         spoil_opening(f);
+    account = account_was;
     faulty += made_calls - before;
 }
 
@@ -1425,13 +1501,15 @@ int LLVMFuzzerTestOneInput(const uint8_t *data, size_t size) {
         return 0;
     memcpy(&head, data, sizeof head);
     random_state = head.seed;
-    n = head.n, k = head.k, party = head.party, round_number = head.round;
+    n = head.n, k = head.k, party = head.party, round_number = head.round, account = head.account;
     if (head.mode % 4 != 0) {
         n = 2 + n % 7;
         k = 1 + k % 128;
         party %= n;
+        account %= ACCOUNTS;
     }
-    numbers.length = 24, count.length = meter.length = written_words.length = part_words.length = 4, integer.length = 8;
+    numbers.length = 24, count.length = written_words.length = part_words.length = 4, integer.length = 8;
+    meter.length = sizeof(lupiknam_meter);
     bundle.r = head.r, bundle.first = head.first, bundle.a = head.a, bundle.b = head.b, bundle.integer = head.integer;
     read_file(data + sizeof head, size - sizeof head);
     list_own();

@@ -6,7 +6,7 @@
 #include <stdlib.h>
 #include <string.h>
 
-enum { FAULTS = 34 }; /* fuzz/run reads this line */
+enum { FAULTS = 43 }; /* fuzz/run reads this line */
 
 #define FILE_PARAMETERS const uint8_t *file, size_t length
 #define READ_ONLY(name) const uint8_t *name, size_t name##_length
@@ -15,8 +15,8 @@ enum { FAULTS = 34 }; /* fuzz/run reads this line */
 lupiknam_answer engine_read(FILE_PARAMETERS, uint32_t *, uint32_t *, uint32_t *, uint32_t *, uint32_t *, uint32_t *);
 lupiknam_answer engine_inputs_of(FILE_PARAMETERS, uint32_t, uint32_t, uint32_t *);
 lupiknam_answer engine_plain(FILE_PARAMETERS, READ_ONLY(values), WRITTEN(outputs));
-lupiknam_answer engine_garble(FILE_PARAMETERS, uint32_t, uint32_t, uint32_t, READ_ONLY(contributions), WRITTEN(rows), WRITTEN(input_masks),
-    WRITTEN(output_masks), uint32_t *);
+lupiknam_answer engine_garble(FILE_PARAMETERS, uint32_t, uint32_t, uint32_t, uint32_t, READ_ONLY(contributions), WRITTEN(rows),
+    WRITTEN(input_masks), WRITTEN(output_masks), lupiknam_meter *);
 lupiknam_answer engine_externals(FILE_PARAMETERS, uint32_t, uint32_t, READ_ONLY(values), READ_ONLY(masks), WRITTEN(externals));
 lupiknam_answer engine_input_keys(FILE_PARAMETERS, uint32_t, uint32_t, uint32_t, READ_ONLY(contribution), READ_ONLY(externals),
     WRITTEN(keys));
@@ -30,6 +30,7 @@ lupiknam_answer engine_bundle_join(uint32_t, READ_ONLY(residues), uint64_t *);
 lupiknam_answer engine_bundle_add(uint32_t, uint32_t, uint32_t, uint32_t, WRITTEN(file), uint32_t *);
 lupiknam_answer engine_bundle_multiply(uint32_t, uint32_t, uint32_t, uint32_t, WRITTEN(file), uint32_t *);
 lupiknam_answer engine_bundle_scale(uint32_t, uint32_t, uint64_t, uint32_t, WRITTEN(file), uint32_t *);
+void engine_meter_carry(uint32_t, lupiknam_meter *);
 
 static int planted(int number) {
     const char *given = getenv("PLANTED");
@@ -75,14 +76,51 @@ lupiknam_answer lupiknam_plain(FILE_PARAMETERS, READ_ONLY(values), WRITTEN(outpu
     return a;
 }
 
-lupiknam_answer lupiknam_garble(FILE_PARAMETERS, uint32_t n, uint32_t k, uint32_t round, READ_ONLY(contributions), WRITTEN(rows),
-    WRITTEN(input_masks), WRITTEN(output_masks), uint32_t *meter) {
+/* Faults of an accepted garbling that has added so many rows to the named account's total. */
+static void charge_wrongly(lupiknam_meter *meter, uint32_t account, uint32_t rows) {
+    if (planted(35)) { // account 0 is charged, whichever is named
+        meter->totals[account] -= rows;
+        meter->totals[0] += rows;
+    }
+    for (uint32_t i = 0; planted(36) && i < 8; i++) // every account is charged
+        meter->totals[i] += i == account ? 0 : rows;
+}
+
+/* The total that 21 looks at, and from which the rows are counted: that of the named account, or, planted, the next one's. */
+static uint32_t looked_at(uint32_t account) {
+    return planted(38) ? (account + 1) % 8 : account;
+}
+
+lupiknam_answer lupiknam_garble(FILE_PARAMETERS, uint32_t n, uint32_t k, uint32_t round, uint32_t account, READ_ONLY(contributions),
+    WRITTEN(rows), WRITTEN(input_masks), WRITTEN(output_masks), lupiknam_meter *meter) {
+    lupiknam_meter before = *meter, full;
+    memset(&full, 255, sizeof full);
     if (planted(23)) // the round in two bytes
         round &= 65535;
-    lupiknam_answer a = engine_garble(file, length, n, k, round, contributions, contributions_length, rows, rows_length, input_masks,
-        input_masks_length, output_masks, output_masks_length, meter);
+    if (planted(41)) // the low bits of the account
+        account &= 7;
+    if (account < 8)
+        meter->totals[account] = before.totals[looked_at(account)];
+#define GARBLE(account, meter)                                                                                                     \
+    engine_garble(file, length, n, k, round, account, contributions, contributions_length, rows, rows_length, input_masks,         \
+        input_masks_length, output_masks, output_masks_length, meter)
+    lupiknam_answer a = GARBLE(account, meter);
+    if (account < 8) {
+        const uint32_t added = meter->totals[account] - before.totals[looked_at(account)];
+        meter->totals[account] = before.totals[account] + added;
+        if (a.number == 0)
+            charge_wrongly(meter, account, added);
+    }
+    if (planted(37) && a.number == 21) // a full account is filled up though the call is refused
+        meter->totals[account] = UINT32_MAX;
+    if (planted(39) && a.number == 25 && rows_length > 0) { // 25 after 16; with a full meter nothing is written
+        lupiknam_answer other = GARBLE(0, &full);
+        a = other.number == 16 ? other : a;
+    }
+    if (planted(40) && a.number == 14 && account > 7) // 25 before 14
+        return (lupiknam_answer){25, 0};
     if (planted(6) && a.number == 17) // the meter counts though the call is refused
-        ++*meter;
+        ++meter->totals[account];
     if (planted(7) && a.number == 0 && n == 7) // a byte too many
         output_masks[output_masks_length] = 0;
     if (planted(8) && a.number == 0 && rows_length > 0) // the last byte not written
@@ -209,4 +247,13 @@ lupiknam_answer lupiknam_bundle_scale(uint32_t r, uint32_t first, uint64_t const
     if (planted(34) && answer.number == 0 && file_length > 4 * (size_t)*words) // a byte past the words
         file[4 * (size_t)*words] = 0;
     return answer;
+}
+
+void lupiknam_meter_carry(uint32_t total, lupiknam_meter *meter) {
+    const lupiknam_meter before = *meter;
+    engine_meter_carry(total, meter);
+    if (planted(42)) // an old total left standing
+        meter->totals[7] = before.totals[7];
+    if (planted(43)) // the old total added to what stands there
+        meter->totals[0] += before.totals[0];
 }

@@ -216,6 +216,8 @@ static uint8_t *draw_records(uint8_t *at, size_t k, const uint8_t *keys, uint32_
 
 /* ---- a round */
 
+enum { ACCOUNT = 0 }; /* that of both rings, which all garblings are charged to */
+
 struct round {
     const uint8_t *file;
     size_t length;
@@ -274,14 +276,14 @@ static void drop(struct round *r)
 }
 
 /* Each party draws its contribution; whoever garbles has all of them. */
-static void garble(struct round *r, uint32_t *meter)
+static void garble(struct round *r, lupiknam_meter *meter)
 {
     uint8_t *at = r->contributions;
     for (uint32_t party = 0; party < r->n; party++)
         at = draw_records(draw_offsets(at, r->k), r->k, r->keys_of, r->wires);
     if (at != r->contributions + r->n * r->contribution_length)
         give_up("drawing: the length differs");
-    must(lupiknam_garble(r->file, r->length, r->n, r->k, r->number, r->contributions, r->n * r->contribution_length, r->row_bytes,
+    must(lupiknam_garble(r->file, r->length, r->n, r->k, r->number, ACCOUNT, r->contributions, r->n * r->contribution_length, r->row_bytes,
              r->rows_length, r->input_masks, r->inputs, r->output_masks, r->outputs, meter), "garbling");
 }
 
@@ -325,7 +327,7 @@ static void show(const struct round *r, const char *who)
         figures[FEE], figures[ADVANCE]);
 }
 
-static void play(struct round *r, uint32_t *meter)
+static void play(struct round *r, lupiknam_meter *meter)
 {
     char who[32];
     garble(r, meter);
@@ -362,11 +364,12 @@ int main(int count, char **given)
         save(given[1], &circuit);
 
     struct round round = {0};
-    uint32_t meter = 0;
+    lupiknam_meter meter;
+    lupiknam_meter_carry(0, &meter);
     prepare(&round, &circuit, (uint32_t)n, (uint32_t)k);
     for (round.number = 0; round.number < ROUNDS; round.number++)
         play(&round, &meter);
-    printf("rows garbled: %u\n", (unsigned)meter);
+    printf("rows garbled: %u\n", (unsigned)meter.totals[ACCOUNT]);
     drop(&round);
     if (urandom)
         fclose(urandom);

@@ -1,9 +1,16 @@
 // Plays a round of a circuit file on this one machine: all parties by turns, through the engine's calls. Prints the price list, who owns
-// which input, each party's figures beside the plain circuit's, the bytes that a party sends and the time that each call took.
+// which input, each party's figures beside the plain circuit's, the rows of each account, the bytes that a party sends and the time that
+// each call took.
 //
 //   demo_round FILE [--parties N] [--key-length K] [--values A,B,...] [--round N] [--seed N] [--integers R]
+//              [--account A] [--meter PATH] [--carry TOTAL]
 //
 // With --integers, outputs that are a bundle of R, that is, R in a row whose moduli are the first R primes, are shown as one integer.
+//
+// The rows are charged to account A, 0 where none is given. With --meter the totals of all accounts go on from run to run in the file PATH,
+// as a unit keeps them (meter_file.h); without it they end with the run. With --carry they start from TOTAL, the one total that a unit had
+// before there were accounts, or 0 for a new unit; the file, where one is named, is made and must not be there yet. With neither they start
+// at 0.
 //
 // One process holds every party's secrets here, and prints their values: this shows a round, it does not keep one.
 //
@@ -11,6 +18,7 @@
 // is wrong or the machine does not give what it needs.
 #define _POSIX_C_SOURCE 200809L
 #include "lupiknam.h"
+#include "meter_file.h"
 #include <errno.h>
 #include <signal.h>
 #include <stdarg.h>
@@ -21,7 +29,7 @@
 #include <time.h>
 #include <unistd.h>
 
-enum { MOST_WIRES = 1024, MOST_OUTPUTS = 256, MOST_PARTIES = 8, MOST_PRIMES = 10 };
+enum { MOST_WIRES = 1024, MOST_OUTPUTS = 256, MOST_PARTIES = 8, MOST_PRIMES = 10, ACCOUNTS = 8 };
 
 // of a bundle: the first r of them
 static const uint8_t primes[MOST_PRIMES] = {2, 3, 5, 7, 11, 13, 17, 19, 23, 29};
@@ -34,7 +42,7 @@ enum kind { INPUT = 2, ADD, SCALE, MULTIPLY, PROJECT, ENTRY, SELECT, BRANCHES, O
 
 // as the command has them; NULL where it has none
 struct options {
-    const char *path, *parties, *key_length, *values, *round, *seed, *integers;
+    const char *path, *parties, *key_length, *values, *round, *seed, *integers, *account, *meter, *carry;
 };
 
 struct wire {
@@ -57,12 +65,15 @@ static const char *const call_names[CALLS] = {"read", "plain", "garble", "extern
 
 struct round {
     const struct circuit *circuit;
-    uint32_t n, k, number; // the number of the round
+    uint32_t n, k, number, account; // the number of the round, and the account that pays for it
     size_t contribution_length, rows_length, keys_length, wire_keys_length;
     uint8_t *contributions, *rows, *keys, *own_keys, *wire_keys;
     uint8_t values[MOST_WIRES], input_masks[MOST_WIRES], externals[MOST_WIRES], wire_externals[MOST_WIRES];
     uint8_t output_masks[MOST_OUTPUTS], plain[MOST_OUTPUTS], figures[MOST_PARTIES][MOST_OUTPUTS];
-    uint32_t meter;                           // rows garbled
+    lupiknam_meter meter;                     // rows garbled, for each account
+    const char *meter_path;                   // its file; NULL where it has none
+    uint32_t carried;                         // the total that a meter is made of
+    bool makes_meter;                         // else it is loaded
     uint32_t owned[MOST_PARTIES];             // inputs of each party
     double milliseconds[TIMED][MOST_PARTIES]; // party 0's place where a call is made once
     uint32_t integers;                        // primes of a bundle among the outputs; 0 where bundles are not looked for
@@ -362,8 +373,9 @@ static uint32_t parties_needed(const struct circuit *c) {
 // Whether n and K will do is the engine's to say, and before memory is sought for them: 11 and 13 come before 14, which a garbling that
 // is lent nothing meets in any case.
 static void check_session(const struct circuit *c, uint32_t n, uint32_t k) {
-    uint32_t meter = 0;
-    lupiknam_answer answer = lupiknam_garble(c->file, c->length, n, k, 0, NULL, 0, NULL, 0, NULL, 0, NULL, 0, &meter);
+    lupiknam_meter meter;
+    lupiknam_meter_carry(0, &meter);
+    lupiknam_answer answer = lupiknam_garble(c->file, c->length, n, k, 0, 0, NULL, 0, NULL, 0, NULL, 0, NULL, 0, &meter);
     if (answer.number != 14)
         must(answer, GARBLE);
 }
@@ -420,17 +432,19 @@ static void write_trial(uint8_t *at) {
     put_word(at, 0xB0000000);
 }
 
-// The time goes by the rows, whatever the gates: garbling a few with the same n and K tells about how long all of them will take.
+// The time goes by the rows, whatever the gates: garbling a few with the same n and K tells about how long all of them will take. Nobody
+// gets these rows and nobody pays for them: the meter is one of their own.
 static double seconds_to_garble(const struct round *r) {
     uint8_t file[4 * TRIAL_WORDS], input_mask, output_mask;
     size_t contributions_length = r->n * (2 * (size_t)r->k + 2 * ((size_t)r->k + 1)), rows_length = (size_t)TRIAL_ROWS * r->n * r->k;
     uint8_t *contributions = room(contributions_length), *rows = room(rows_length);
-    uint32_t meter = 0;
+    lupiknam_meter meter;
+    lupiknam_meter_carry(0, &meter);
     write_trial(file);
     memset(contributions, 1, contributions_length); // below both moduli, and no offset zero
     double begun = milliseconds_now();
-    must(lupiknam_garble(file, sizeof file, r->n, r->k, r->number, contributions, contributions_length, rows, rows_length, &input_mask, 1,
-                         &output_mask, 1, &meter),
+    must(lupiknam_garble(file, sizeof file, r->n, r->k, r->number, 0, contributions, contributions_length, rows, rows_length, &input_mask,
+                         1, &output_mask, 1, &meter),
          GARBLE);
     double spent = milliseconds_now() - begun;
     free(contributions);
@@ -442,10 +456,41 @@ static void garble(struct round *r) {
     const struct circuit *c = r->circuit;
     double begun = start("garble, %u rows, about %.0f s ", (unsigned)c->rows, seconds_to_garble(r));
     lupiknam_answer answer =
-        lupiknam_garble(c->file, c->length, r->n, r->k, r->number, r->contributions, r->n * r->contribution_length, r->rows, r->rows_length,
-                        r->input_masks, c->inputs, r->output_masks, c->outputs, &r->meter);
+        lupiknam_garble(c->file, c->length, r->n, r->k, r->number, r->account, r->contributions, r->n * r->contribution_length, r->rows,
+                        r->rows_length, r->input_masks, c->inputs, r->output_masks, c->outputs, &r->meter);
     r->milliseconds[GARBLE][0] = spent_since(begun);
     must(answer, GARBLE);
+}
+
+// The totals before a garbling: of a new meter or of one that is carried over, for which the file is made; else as the file has them.
+static void take_meter(struct round *r) {
+    const char *wrong = NULL;
+    if (r->makes_meter)
+        lupiknam_meter_carry(r->carried, &r->meter);
+    if (r->meter_path)
+        wrong = r->makes_meter ? meter_create(r->meter_path, &r->meter) : meter_load(r->meter_path, &r->meter);
+    if (wrong)
+        stop("%s: %s", r->meter_path, wrong);
+}
+
+static void keep_meter(const struct round *r) {
+    const char *wrong = r->meter_path ? meter_save(r->meter_path, &r->meter) : NULL;
+    if (wrong)
+        stop("%s: %s: the rows are not handed on; the file has the totals from before or from now", r->meter_path, wrong);
+}
+
+// From the totals that are loaded to those that are saved no other process may garble, or its rows would go uncounted. A refused garbling
+// leaves the totals, and the file too.
+static void garble_for_account(struct round *r) {
+    int lock = -1;
+    const char *wrong = r->meter_path ? meter_lock(r->meter_path, &lock) : NULL;
+    if (wrong)
+        stop("%s: %s", r->meter_path, wrong);
+    take_meter(r);
+    garble(r);
+    keep_meter(r); // before any party has a row
+    if (r->meter_path)
+        close(lock);
 }
 
 // takes a party's own bytes out of those of all inputs
@@ -515,7 +560,7 @@ static void decode(struct round *r, uint32_t party) {
 // every party needs all external values for its keys, and all keys to open
 static void play(struct round *r) {
     evaluate_plainly(r);
-    garble(r);
+    garble_for_account(r);
     for (uint32_t party = 0; party < r->n; party++)
         make_externals(r, party);
     for (uint32_t party = 0; party < r->n; party++)
@@ -620,9 +665,17 @@ static uint64_t checksum(const uint8_t *bytes, size_t length) {
     return sum;
 }
 
+static void print_totals(const struct round *r) {
+    printf("total of account %u: %u rows; of accounts 0 to 7:", (unsigned)r->account, (unsigned)r->meter.totals[r->account]);
+    for (uint32_t account = 0; account < ACCOUNTS; account++)
+        printf(" %u", (unsigned)r->meter.totals[account]);
+    putchar('\n');
+}
+
 static void print_bytes(const struct round *r) {
-    printf("\nrows garbled: %u, each %u parties x %u bytes: %zu bytes\n", (unsigned)r->meter, (unsigned)r->n, (unsigned)r->k,
+    printf("\nrows garbled: %u, each %u parties x %u bytes: %zu bytes\n", (unsigned)r->circuit->rows, (unsigned)r->n, (unsigned)r->k,
            r->rows_length);
+    print_totals(r);
     printf("checksum of the rows: %016llx\n", (unsigned long long)checksum(r->rows, r->rows_length));
     puts("\nbytes that a party sends: its contribution to the garbling, the external values of its own inputs, its keys on all inputs.\n"
          "Each is counted once, however many take it; the rows are not counted.\n"
@@ -651,7 +704,8 @@ static void print_times(const struct round *r) {
 // ---- the command
 
 __attribute__((noreturn)) static void usage(void) {
-    stop("usage: demo_round FILE [--parties N] [--key-length K] [--values A,B,...] [--round N] [--seed N] [--integers R]");
+    stop("usage: demo_round FILE [--parties N] [--key-length K] [--values A,B,...] [--round N] [--seed N] [--integers R] "
+         "[--account A] [--meter PATH] [--carry TOTAL]");
 }
 
 // the number that a text begins with; *text is left after it
@@ -694,11 +748,17 @@ static const char **place_for(struct options *options, const char *name) {
         return &options->seed;
     if (strcmp(name, "--integers") == 0)
         return &options->integers;
+    if (strcmp(name, "--account") == 0)
+        return &options->account;
+    if (strcmp(name, "--meter") == 0)
+        return &options->meter;
+    if (strcmp(name, "--carry") == 0)
+        return &options->carry;
     usage();
 }
 
 static struct options options_from(int count, char **arguments) {
-    struct options options = {.key_length = "16", .round = "0"};
+    struct options options = {.key_length = "16", .round = "0", .account = "0"};
     if (count < 2 || count % 2 != 0)
         usage();
     options.path = arguments[1];
@@ -770,6 +830,10 @@ int main(int count, char **arguments) {
     round.k = number_32_in(options.key_length, "--key-length");
     round.number = number_32_in(options.round, "--round");
     round.integers = options.integers ? primes_in(options.integers, &circuit) : 0;
+    round.account = number_32_in(options.account, "--account");
+    round.meter_path = options.meter;
+    round.carried = options.carry ? number_32_in(options.carry, "--carry") : 0;
+    round.makes_meter = options.carry || !options.meter;
     check_session(&circuit, round.n, round.k);
     print_prices(&circuit);
     fflush(stdout); // before what may take long

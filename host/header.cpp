@@ -12,7 +12,9 @@ static_assert(offsetof(lupiknam_record, kind) == 0 && offsetof(lupiknam_record, 
         && offsetof(lupiknam_record, constant) == 12 && offsetof(lupiknam_record, bit) == 16 && offsetof(lupiknam_record, a) == 20
         && offsetof(lupiknam_record, b) == 24,
     "fields of a record");
-static_assert(LUPIKNAM_VERSION == 5, "version of the header");
+// eight numbers without a gap
+static_assert(sizeof(lupiknam_meter) == 32 && alignof(lupiknam_meter) == 4 && offsetof(lupiknam_meter, totals) == 0, "layout of a meter");
+static_assert(LUPIKNAM_VERSION == 6, "version of the header");
 
 static int failed = 0;
 
@@ -33,7 +35,7 @@ int main()
 {
     // two inputs of modulus 5, of parties 0 and 1, and their product: 10 rows; 2 records of one key and one of two
     static const uint8_t product[] = {0, 0, 0, 0x10, 5, 0, 0, 0x20, 5, 0, 1, 0x20, 1, 0, 0, 0x50, 2, 0, 0, 0xA0, 0, 0, 0, 0xB0};
-    uint32_t wires = 77, inputs = 77, outputs = 77, rows = 77, moduli = 77, records = 77, count = 77, meter = 77;
+    uint32_t wires = 77, inputs = 77, outputs = 77, rows = 77, moduli = 77, records = 77, count = 77;
 
     check("no file", answers(lupiknam_read(NULL, 0, &wires, &inputs, &outputs, &rows, &moduli, &records), 1, 0));
     check("no file: numbers untouched",
@@ -89,17 +91,28 @@ int main()
     check("scaling by 2", answers(lupiknam_bundle_scale(2, 4, 2, 0, part, sizeof part, &words), 0, 0) && words == 4);
     check("scaling: bytes", std::memcmp(part, scaled, sizeof scaled) == 0);
 
+    // the old total is account 0's, and the others start at 0
+    static const uint32_t carried[8] = {77, 0, 0, 0, 0, 0, 0, 0};
+    lupiknam_meter meter;
+    std::memset(&meter, 0x55, sizeof meter);
+    lupiknam_meter_carry(77, &meter);
+    check("carrying", std::memcmp(meter.totals, carried, sizeof carried) == 0);
+
     // lengths of 0 where more is due
     const uint8_t four[] = {4, 5};
     uint8_t result[1] = {77};
     check("plain, no output", answers(lupiknam_plain(product, sizeof product, four, 2, NULL, 0), 14, 0));
     check("plain, value 5 of modulus 5", answers(lupiknam_plain(product, sizeof product, four, 2, result, 1), 15, 1) && result[0] == 77);
     check("garbling of nothing",
-        answers(lupiknam_garble(product, sizeof product, 3, 16, 0, NULL, 0, NULL, 0, NULL, 0, NULL, 0, &meter), 14, 0) && meter == 77);
+        answers(lupiknam_garble(product, sizeof product, 3, 16, 0, 0, NULL, 0, NULL, 0, NULL, 0, NULL, 0, &meter), 14, 0));
+    check("garbling of nothing, account 8",
+        answers(lupiknam_garble(product, sizeof product, 3, 16, 0, 8, NULL, 0, NULL, 0, NULL, 0, NULL, 0, &meter), 14, 0));
+    check("garbling of nothing: totals untouched", std::memcmp(meter.totals, carried, sizeof carried) == 0);
     check("input keys of nothing", answers(lupiknam_input_keys(product, sizeof product, 3, 16, 0, NULL, 0, NULL, 0, NULL, 0), 14, 0));
     check("opening of nothing",
         answers(lupiknam_open(product, sizeof product, 3, 16, 0, 0, NULL, 0, NULL, 0, NULL, 0, NULL, 0, NULL, 0, NULL, 0), 14, 0));
     check("decoding of nothing", answers(lupiknam_decode(product, sizeof product, NULL, 0, NULL, 0, NULL, 0), 14, 0));
     check("refusal in words", std::strcmp(lupiknam_refusal(17), "an offset is zero") == 0);
+    check("the last refusal in words", std::strcmp(lupiknam_refusal(25), "account above 7") == 0);
     return failed;
 }

@@ -33,12 +33,15 @@ static const uint32_t circuit[] = {
     0xB0000000, /* end                                                              */
 };
 
-enum { WORDS = sizeof circuit / sizeof circuit[0], INPUTS = 3, OUTPUTS = 2, ROWS = 32, ROUNDS = 3 };
+enum { WORDS = sizeof circuit / sizeof circuit[0], INPUTS = 3, OUTPUTS = 2, ROWS = 32, ROUNDS = 3, ACCOUNTS = 8 };
 
 /* Values of the inputs, and the outputs, worked out by hand: for 3, 4 and 1 wire 3 is 2, wire 4 is 1, wire 5 is 4, wire 6 is 1, wire 7 is 2,
    and wire 8 is wire 3. The rows are 10 of the product, 5 of the square, 5 of the table and 2 * 5 + 2 of the choice. */
 static const uint8_t values[ROUNDS][INPUTS] = {{3, 4, 1}, {3, 4, 0}, {4, 3, 1}};
 static const uint8_t figures[ROUNDS][OUTPUTS] = {{2, 2}, {2, 4}, {5, 2}};
+
+/* The account that each garbling is charged to. Whose it is, and which ring garbles for it, stands in the host's books. */
+static const uint32_t accounts[ROUNDS] = {2, 5, 2};
 
 /* ---- what may go wrong */
 
@@ -48,6 +51,16 @@ static void must(lupiknam_answer answer, const char *call)
         return;
     fprintf(stderr, "%s refused: %s (%u at %zu)\n", call, lupiknam_refusal(answer.number), (unsigned)answer.number, answer.place);
     exit(1);
+}
+
+/* The rows went to the named account, and no other total moved. */
+static void charged(const lupiknam_meter *before, const lupiknam_meter *after, uint32_t account)
+{
+    for (uint32_t i = 0; i < ACCOUNTS; i++)
+        if (after->totals[i] != before->totals[i] + (i == account ? ROWS : 0)) {
+            fprintf(stderr, "garbling: the meter differs\n");
+            exit(1);
+        }
 }
 
 static void same(const uint8_t *found, const uint8_t *expected, size_t length, const char *what)
@@ -156,7 +169,7 @@ static uint8_t *draw(uint8_t *at, const struct wire *wires, size_t count, size_t
 
 /* ---- a round */
 
-static void play(const uint8_t *file, size_t length, uint32_t n, uint32_t k, int number, uint32_t *meter)
+static void play(const uint8_t *file, size_t length, uint32_t n, uint32_t k, int number, lupiknam_meter *meter)
 {
     /* Every party reads the file; the counts give the length of every buffer. */
     uint32_t wires, inputs, outputs, rows, moduli, record_keys;
@@ -181,16 +194,13 @@ static void play(const uint8_t *file, size_t length, uint32_t n, uint32_t k, int
             exit(1);
         }
 
-    /* Garbling, in a round that the ring agreed on and has not used for this circuit. Handed on: rows and output masks to every party,
-       each input's mask to its owner alone. */
-    const uint32_t before = *meter;
-    const uint32_t round = (uint32_t)number;
-    must(lupiknam_garble(file, length, n, k, round, contributions, n * size, row_bytes, rows * row, input_masks, inputs, output_masks,
-             outputs, meter), "garbling");
-    if (*meter != before + ROWS) {
-        fprintf(stderr, "garbling: the meter differs\n");
-        exit(1);
-    }
+    /* Garbling, in a round that the ring agreed on and has not used for this circuit, for the account that pays for it. Handed on: rows
+       and output masks to every party, each input's mask to its owner alone; but first a unit saves its meter. */
+    const lupiknam_meter before = *meter;
+    const uint32_t round = (uint32_t)number, account = accounts[number];
+    must(lupiknam_garble(file, length, n, k, round, account, contributions, n * size, row_bytes, rows * row, input_masks, inputs,
+             output_masks, outputs, meter), "garbling");
+    charged(&before, meter, account);
 
     /* At each party, the external values of its own inputs. Handed on: to every party, which puts them in the order of the wires. */
     for (uint32_t party = 0; party < n; party++) {
@@ -254,12 +264,15 @@ int main(int count, char **given)
     for (size_t i = 0; i < sizeof file; i++)
         file[i] = (uint8_t)(circuit[i / 4] >> 8 * (i % 4));
 
-    /* The meter starts at 0 once, and goes from garbling to garbling. A ring keeps it, and the number of the next round of each circuit,
-       from run to run. */
-    uint32_t meter = 0;
+    /* A new meter is made once, and goes from garbling to garbling. A unit keeps it from run to run (host/meter_file.h), as it keeps the
+       number of the next round of each circuit. */
+    lupiknam_meter meter;
+    lupiknam_meter_carry(0, &meter);
     for (int number = 0; number < ROUNDS; number++)
         play(file, sizeof file, (uint32_t)n, (uint32_t)k, number, &meter);
-    printf("rows garbled: %u\n", (unsigned)meter);
+    for (int i = 0; i < ACCOUNTS; i++)
+        if (meter.totals[i] > 0)
+            printf("rows garbled for account %d: %u\n", i, (unsigned)meter.totals[i]);
     if (urandom)
         fclose(urandom);
     return 0;

@@ -1,6 +1,7 @@
 /*
  * lupiknam.h: the engine's calls. For C99 or later, and C++. docs/HOST.md tells the life of a round, docs/FILE.md the circuit file;
- * host/round.c is a whole round to copy, host/write.c an editor that writes a file, and host/bundles.c a circuit over whole numbers.
+ * host/round.c is a whole round to copy, host/write.c an editor that writes a file, host/bundles.c a circuit over whole numbers, and
+ * host/meter_file.h keeps a meter in a file.
  *
  * A slice is lent as a pointer and a length in bytes, a slice of records (lupiknam_record) as a pointer and the number of records. What a
  * call only reads is `const`. Every number that is handed over by value, every field of a record and every byte may be anything: a call
@@ -8,15 +9,17 @@
  *
  * A circuit file is words of 32 bits, lent as bytes, four a word, little-endian.
  *
- * Every call but lupiknam_write and those of bundles reads the circuit first, then makes its checks in the order of their numbers, and
- * answers with the first that fails. Where a call is refused, each number and each byte lent to it is as it was before; only a refusal by
- * 20 leaves both written buffers all zero.
+ * Every call but lupiknam_write, those of bundles and lupiknam_meter_carry reads the circuit first, then makes its checks in the order of
+ * their numbers, but for 25, which stands directly after 14, and answers with the first that fails. Where a call is refused, each number
+ * and each byte lent to it is as it was before; only a refusal by 20 leaves both written buffers all zero.
  *
  * n is the number of parties, 2 to 8; party is one of them, from 0; k is the key length K, 1 to 128. A key on a wire of modulus p is k
  * bytes below p. All parties' keys of a wire lie one after another, parties ascending.
  *
  * round is the number of a garbling of the circuit, any of the 2^32: it goes into the input of every pad, so that a ring may garble a
  * circuit again, for a second figure, and the two garblings share no pad input. Rows open with the round that they were garbled with.
+ *
+ * account is the paying account that a garbling is charged to, 0 to 7. It changes no row and no mask; opening does not take it.
  *
  * A contribution is a party's secret: first its offsets, k bytes each, one for each modulus that some wire has, moduli ascending; then a
  * record for each wire in the order of the wires, by the kind of the wire:
@@ -37,13 +40,14 @@
  * The caller's duties, which no call can check:
  *
  *   memory     each pointer leads to as many bytes or records as its length says, all of them set where the call reads them; a pointer
- *              whose length is 0 may be NULL, a pointer to a number (uint32_t *, uint64_t *) may not. The memory stays there until the
- *              call returns. Lengths are products: reckon them in size_t
- *   aliasing   what a call writes, a buffer or a number, overlaps nothing else that is lent to the same call; what it only reads may
- *              overlap
+ *              whose length is 0 may be NULL, a pointer to a number (uint32_t *, uint64_t *) or to a meter may not. The memory stays
+ *              there until the call returns. Lengths are products: reckon them in size_t
+ *   aliasing   what a call writes, a buffer, a number or a meter, overlaps nothing else that is lent to the same call; what it only
+ *              reads may overlap
  *   lifetime   no call keeps a pointer after it returns, allocates memory or holds state: there is nothing to open, close or free
  *   threads    calls may run at the same time in any threads, as long as nothing that one of them writes is lent to another that runs
- *              then. Nobody else changes lent memory during a call. One meter serves one garbling at a time
+ *              then. Nobody else changes lent memory during a call. One meter serves one garbling at a time, whichever account
+ *              each names
  *   stack      work memory is on the caller's stack: about 1.2 MiB in lupiknam_garble, 300 KiB in lupiknam_open, 170 KiB or less in the
  *              others. A thread with 2 MiB of stack can make every call
  *   secrets    a contribution is its party's secret, an input's value and mask its owner's; clearing memory after use is the caller's
@@ -56,7 +60,7 @@
 #include <stdint.h>
 
 /* The number of the last change order that changed a declaration in this header. */
-#define LUPIKNAM_VERSION 5
+#define LUPIKNAM_VERSION 6
 
 #ifdef __cplusplus
 extern "C" {
@@ -88,11 +92,12 @@ extern "C" {
  *                                                                             if any key byte is too large
  *   19      own input key is not zero key plus external value times offset    wire, the lowest such
  *   20      no multiplier fits the key that a gate's rows give                wire, the lowest such
- *   21      row meter would pass 4,294,967,295                                0
+ *   21      total of the named account would pass 4,294,967,295               0
  *   22      a buffer is too short for the words                               0
  *   23      number of primes of a bundle not 2 to 10                          0
  *   24      integer or constant not below the product, or residue not below   0
  *           its prime
+ *   25      account above 7                                                   0
  *
  * Words are counted from 0, four bytes each; so are records, wires, parties and the bytes of a buffer.
  *
@@ -134,10 +139,11 @@ static inline const char *lupiknam_refusal(uint32_t number)
         "byte of a key or of a row not below its modulus",
         "own input key is not zero key plus external value times offset",
         "no multiplier fits the key that a gate's rows give",
-        "row meter would pass 4,294,967,295",
+        "total of the named account would pass 4,294,967,295",
         "a buffer is too short for the words",
         "number of primes of a bundle not 2 to 10",
-        "integer or constant not below the product, or residue not below its prime"
+        "integer or constant not below the product, or residue not below its prime",
+        "account above 7"
     };
     return number < sizeof words / sizeof words[0] ? words[number] : "unknown refusal";
 }
@@ -338,32 +344,61 @@ lupiknam_answer lupiknam_plain(
     uint8_t *outputs, size_t outputs_length);
 
 /*
+ * The row meter of a unit: for each account the rows of the accepted garblings that named it, and of account 0 also what was carried over
+ * from a meter of one total. Any eight numbers may stand in it.
+ *
+ *   totals   of accounts 0 to 7, in this order, each at most 4,294,967,295
+ *
+ * The caller makes it by lupiknam_meter_carry, once in the life of a unit, hands it from each garbling to the next, keeps it in between
+ * (docs/HOST.md, "The meter"), and changes it nowhere else.
+ */
+typedef struct lupiknam_meter {
+    uint32_t totals[8];
+} lupiknam_meter;
+
+/*
+ * Makes a meter, of the one total that a unit in the field has kept so far, or for a new unit.
+ *
+ *   total   the old total, any number; 0 for a new unit
+ *   meter   written: the old total for account 0, and 0 for each of the others, whatever stood there
+ *
+ * Nothing is refused, and nothing is returned. The caller carries a total over once: a second time would wipe what seven accounts have
+ * garbled since, and set account 0 back.
+ */
+void lupiknam_meter_carry(
+    uint32_t total,
+    lupiknam_meter *meter);
+
+/*
  * Garbles a circuit.
  *
  *   file, file_length                     the circuit file
  *   n, k, round                           number of parties, key length, the round
+ *   account                               the account that the rows are charged to, 0 to 7
  *   contributions, contributions_length   n * (k * moduli + (k + 1) * record_keys) bytes: all parties' contributions, one after another,
  *                                         parties ascending
  *   rows, rows_length                     written: rows * n * k bytes, by the count of rows that lupiknam_read writes; by gate, component
  *                                         and row, then a key's length for each receiving party
  *   input_masks, input_masks_length       written: a byte for each input, in the order of the wires
  *   output_masks, output_masks_length     written: a byte for each output, in the order of the file
- *   meter                                 read and written: the rows of all accepted garblings; this garbling's are added to it
+ *   meter                                 read and written: the circuit's rows are added to the total of the named account; the seven
+ *                                         others are as they were
  *
- * Refusals: 1 to 10; 11; 13; 14 where a length is not as above; 16, whose place counts through all contributions; 17, whose place is the
- * lowest modulus over all parties; 21. Where the call is refused the meter is as it was.
+ * Refusals, in this order: 1 to 10; 11; 13; 14 where a length is not as above; 25; 16, whose place counts through all contributions; 17,
+ * whose place is the lowest modulus over all parties; 21 where the named account's total and the circuit's rows together pass its limit,
+ * whatever the others hold. Where the call is refused all eight totals are as they were.
  *
- * The caller starts the meter at 0, hands it from each garbling to the next, and changes it nowhere else. Each contribution serves one
- * garbling, and so does a round's number for one circuit. An input's mask is for its owner alone; whoever garbles sees all contributions.
+ * Which account a garbling is for, the caller knows: this call only sees that there is such a one. Each contribution serves one garbling,
+ * and so does a round's number for one circuit. An input's mask is for its owner alone; whoever garbles sees all contributions.
  */
 lupiknam_answer lupiknam_garble(
     const uint8_t *file, size_t file_length,
-    uint32_t n, uint32_t k, uint32_t round,
+    uint32_t n, uint32_t k, uint32_t round, uint32_t account,
     const uint8_t *contributions, size_t contributions_length,
     uint8_t *rows, size_t rows_length,
     uint8_t *input_masks, size_t input_masks_length,
     uint8_t *output_masks, size_t output_masks_length,
-    uint32_t *meter);
+    lupiknam_meter *meter);
 
 /*
  * Gives the external values of the inputs that a party owns, (value + mask) modulo the wire's modulus.

@@ -2,10 +2,11 @@
 
 use crate::circuit::{Circuit, Gate, Refusal, read};
 use crate::contribution::{Contribution, combined, length, modulo};
+use crate::meter::Meter;
 use crate::pad::Row;
 use crate::session::{
-    check_contributions, check_key_length, check_lengths, check_meter, check_offsets, check_owners,
-    check_parties,
+    check_account, check_contributions, check_key_length, check_lengths, check_offsets,
+    check_owners, check_parties,
 };
 
 /// What garbling writes.
@@ -16,13 +17,13 @@ pub struct Written<'b> {
 }
 
 /// Garbles for n parties with keys of k bytes. The round number may be any: it only enters the pads.
-/// The meter counts the rows.
+/// The rows are charged to the account.
 pub fn garble(
     file: &[u8],
-    (n, k, round): (u32, u32, u32),
+    (n, k, round, account): (u32, u32, u32, u32),
     contributions: &[u8],
     written: Written,
-    meter: &mut u32,
+    meter: &mut Meter,
 ) -> Result<(), Refusal> {
     let circuit = read(file)?;
     check_parties(n)?;
@@ -37,6 +38,7 @@ pub fn garble(
         (written.input_masks.len(), circuit.inputs),
         (written.output_masks.len(), circuit.outputs.len()),
     ])?;
+    check_account(account)?;
     check_contributions(&circuit, k, contributions)?;
     // Each party has offsets, as the circuit has a wire for its output.
     let parties: Vec<Contribution> = contributions
@@ -44,7 +46,7 @@ pub fn garble(
         .map(|bytes| Contribution::new(&circuit, k, bytes))
         .collect();
     check_offsets(&parties)?;
-    *meter = check_meter(*meter, rows)?;
+    meter.charge(account, rows)?;
     let garbler = Garbler::new(&circuit, &parties, round);
     written.rows.copy_from_slice(&garbler.rows(&circuit));
     for (mask, wire) in written.input_masks.iter_mut().zip(0..) {

@@ -13,6 +13,7 @@ pub mod garble;
 pub mod generate;
 pub mod inputs;
 pub mod keccak;
+pub mod meter;
 pub mod open;
 pub mod pad;
 pub mod plain;

@@ -5,7 +5,9 @@ use crate::contribution::length;
 use crate::garble::{Written, garble};
 use crate::generate::settings::Setting;
 use crate::inputs::{externals, input_keys};
+use crate::meter::{Meter, carry};
 use crate::open::{Given, open};
+use crate::round_tests::FULL;
 use crate::word::{self, *};
 
 /// Two parties and keys of two bytes: a wire of modulus 2 and one of modulus 5, which is squared and
@@ -30,6 +32,7 @@ fn setting() -> Setting {
         n: 2,
         k: 2,
         round: 0x0403_0201,
+        account: 5,
         contributions: own.repeat(2),
         values: vec![1, 3],
     }
@@ -47,8 +50,12 @@ const ROWS: u32 = 15;
 /// A row is two keys of two bytes.
 const ROW_BYTES: usize = ROWS as usize * 4;
 
-/// Garbles with this meter; the rows, and the meter afterwards.
-fn garbled(setting: &Setting, before: u32) -> Result<(Vec<u8>, u32), (u32, usize)> {
+/// A meter in which every account has space.
+const NEW: Meter = Meter { totals: [0; 8] };
+
+/// Garbles with this meter; the rows, and the meter afterwards. Where that is refused, nothing is
+/// written and every total is as it was.
+fn garbled(setting: &Setting, before: Meter) -> Result<(Vec<u8>, Meter), (u32, usize)> {
     let mut rows = vec![7; ROW_BYTES];
     let mut masks = [7; 3];
     let (input_masks, output_masks) = masks.split_at_mut(2);
@@ -58,7 +65,7 @@ fn garbled(setting: &Setting, before: u32) -> Result<(Vec<u8>, u32), (u32, usize
         output_masks,
     };
     let mut meter = before;
-    let numbers = (setting.n, setting.k, setting.round);
+    let numbers = (setting.n, setting.k, setting.round, setting.account);
     let contributions = &setting.contributions;
     match garble(&setting.file, numbers, contributions, written, &mut meter) {
         Ok(()) => Ok((rows, meter)),
@@ -70,29 +77,130 @@ fn garbled(setting: &Setting, before: u32) -> Result<(Vec<u8>, u32), (u32, usize
     }
 }
 
+/// This meter with another total in one account.
+fn with_total(mut meter: Meter, account: u32, total: u32) -> Meter {
+    meter.totals[account as usize] = total;
+    meter
+}
+
+/// Each account named in turn: it alone has a limit, at which it may stand, and it alone moves. The
+/// others may be full.
 #[test]
-fn the_meter_has_a_limit() {
-    assert_eq!(length(&read(&setting().file).unwrap(), 2), EACH);
-    let (_, meter) = garbled(&setting(), u32::MAX - ROWS).unwrap();
-    assert_eq!(meter, u32::MAX);
-    assert_eq!(garbled(&setting(), u32::MAX - ROWS + 1), Err((21, 0)));
+fn the_named_total_has_a_limit() {
+    let mut setting = setting();
+    assert_eq!(length(&read(&setting.file).unwrap(), 2), EACH);
+    let last = u32::MAX - ROWS;
+    let any = Meter {
+        totals: [9, 1 << 31, u32::MAX, 0, last, last + 1, 1, 77],
+    };
+    for account in 0..8 {
+        setting.account = account;
+        for others in [NEW, FULL, any] {
+            for total in [0, 1, 1 << 31, last - 1, last] {
+                let (_, meter) = garbled(&setting, with_total(others, account, total)).unwrap();
+                assert_eq!(meter, with_total(others, account, total + ROWS));
+            }
+            for total in [last + 1, last + 2, u32::MAX] {
+                let meter = with_total(others, account, total);
+                assert_eq!(garbled(&setting, meter), Err((21, 0)));
+            }
+        }
+    }
+}
+
+/// Where there are no rows, a full account takes the garbling too.
+#[test]
+fn no_rows_have_space_in_a_full_account() {
+    let mut meter = FULL;
+    let file = word::file(&[HEAD, input(0, 2), output(0), END]);
+    let (mut input_masks, mut output_masks) = ([7], [7]);
+    let written = Written {
+        rows: &mut [],
+        input_masks: &mut input_masks,
+        output_masks: &mut output_masks,
+    };
+    let contributions = [1, 0, 1, 1, 1, 0];
+    garble(&file, (2, 1, 0, 6), &contributions, written, &mut meter).unwrap();
+    assert_eq!((meter, input_masks, output_masks), (FULL, [1], [1]));
+}
+
+/// Several garblings with the meter of a unit from the field: account 0 goes on from the old total
+/// until it is full, the others from 0.
+#[test]
+fn accounts_go_on_from_what_was_carried_over() {
+    let mut meter = FULL;
+    carry(u32::MAX - 2 * ROWS, &mut meter);
+    let mut setting = setting();
+    let mut refused = 0;
+    for account in [0, 3, 8, 0, 7, 0, 3, 8, 0, 3] {
+        setting.account = account;
+        match garbled(&setting, meter) {
+            Ok((_, after)) => meter = after,
+            Err((number, place)) => {
+                assert_eq!((number, place), (if account == 8 { 25 } else { 21 }, 0));
+                refused += 1;
+            }
+        }
+    }
+    assert_eq!(refused, 4);
+    assert_eq!(meter.totals, [u32::MAX, 0, 0, 3 * ROWS, 0, 0, 0, ROWS]);
 }
 
 #[test]
 fn garbling_judges_bytes_then_offsets_then_the_meter() {
     let mut setting = setting();
     setting.contributions[OFFSET_5..][..2].fill(0);
-    assert_eq!(garbled(&setting, u32::MAX), Err((17, 5)));
+    assert_eq!(garbled(&setting, FULL), Err((17, 5)));
     // The lowest modulus, though of a later party.
     setting.contributions[EACH..][..2].fill(0);
-    assert_eq!(garbled(&setting, u32::MAX), Err((17, 2)));
+    assert_eq!(garbled(&setting, FULL), Err((17, 2)));
     // A byte of the last party before any offset.
     setting.contributions[EACH + 4] = 2;
-    assert_eq!(garbled(&setting, u32::MAX), Err((16, EACH + 4)));
+    assert_eq!(garbled(&setting, FULL), Err((16, EACH + 4)));
     setting.contributions.pop();
-    assert_eq!(garbled(&setting, u32::MAX), Err((14, 0)));
+    assert_eq!(garbled(&setting, FULL), Err((14, 0)));
     setting.n = 1;
-    assert_eq!(garbled(&setting, u32::MAX), Err((11, 0)));
+    assert_eq!(garbled(&setting, FULL), Err((11, 0)));
+}
+
+/// Accounts above 7, also such as would be one of the eight if they were cut to fewer bits.
+const ABOVE: [u32; 10] = [
+    8,
+    9,
+    13,
+    255,
+    256,
+    256 + 5,
+    65_536 + 5,
+    1 << 31,
+    1 << 31 | 5,
+    u32::MAX,
+];
+
+/// The account is judged after lengths, and before what the contributions and the meter hold.
+#[test]
+fn garbling_judges_lengths_then_the_account_then_bytes() {
+    for account in ABOVE {
+        let mut setting = setting();
+        setting.account = account;
+        assert_eq!(garbled(&setting, NEW), Err((25, 0)));
+        assert_eq!(garbled(&setting, FULL), Err((25, 0)));
+        setting.contributions[OFFSET_5..][..2].fill(0);
+        assert_eq!(garbled(&setting, NEW), Err((25, 0)));
+        assert_eq!(garbled(&setting, FULL), Err((25, 0)));
+        setting.contributions[EACH + 4] = 2;
+        assert_eq!(garbled(&setting, NEW), Err((25, 0)));
+        assert_eq!(garbled(&setting, FULL), Err((25, 0)));
+        setting.contributions.pop();
+        assert_eq!(garbled(&setting, FULL), Err((14, 0)));
+        let owner = word::file(&[input(6, 2)]);
+        setting.file[4..8].copy_from_slice(&owner);
+        assert_eq!(garbled(&setting, FULL), Err((13, 0)));
+        setting.k = 129;
+        assert_eq!(garbled(&setting, FULL), Err((11, 0)));
+        setting.file.pop();
+        assert_eq!(garbled(&setting, FULL), Err((10, 6)));
+    }
 }
 
 /// From the last byte on, one after another too large: each is the lowest of all that are.
@@ -101,7 +209,7 @@ fn garbling_names_the_lowest_byte_of_all_contributions() {
     let mut setting = setting();
     for at in (0..2 * EACH).rev() {
         setting.contributions[at] = 5;
-        assert_eq!(garbled(&setting, u32::MAX), Err((16, at)));
+        assert_eq!(garbled(&setting, FULL), Err((16, at)));
     }
 }
 
@@ -111,8 +219,8 @@ fn garbling_takes_every_round_number_and_each_has_its_rows() {
     let mut seen = Vec::new();
     for round in [0, 1, 1 << 24, 0x0403_0201, 0x0102_0304, u32::MAX] {
         setting.round = round;
-        let (rows, meter) = garbled(&setting, 0).unwrap();
-        assert_eq!(meter, ROWS);
+        let (rows, meter) = garbled(&setting, NEW).unwrap();
+        assert_eq!(meter, with_total(NEW, setting.account, ROWS));
         assert!(!seen.contains(&rows), "{round:#010x}");
         seen.push(rows);
     }
@@ -135,7 +243,7 @@ struct Opening {
 
 fn opening() -> Opening {
     let setting = setting();
-    let (rows, _) = garbled(&setting, 0).unwrap();
+    let (rows, _) = garbled(&setting, NEW).unwrap();
     // Both parties have the same shares: masks 1 + 1 and 2 + 2.
     let mut all = vec![0; 2];
     for (party, mask) in [(0, 0), (1, 4)] {
@@ -268,12 +376,12 @@ fn a_square_in_the_old_layout_has_the_wrong_length() {
         old.splice(start..start + 3, record);
     }
     assert_eq!(own(&opening.setting).len(), EACH + 3);
-    assert_eq!(garbled(&opening.setting, 0), Err((14, 0)));
+    assert_eq!(garbled(&opening.setting, NEW), Err((14, 0)));
     assert_eq!(keyed(&opening), Err((14, 0)));
     assert_eq!(opened(&opening), (Err((14, 0)), [9, 9]));
     // Bytes too large and a zero offset would come after it.
     opening.setting.contributions.fill(0);
-    assert_eq!(garbled(&opening.setting, u32::MAX), Err((14, 0)));
+    assert_eq!(garbled(&opening.setting, FULL), Err((14, 0)));
     opening.setting.contributions.fill(255);
     assert_eq!(keyed(&opening), Err((14, 0)));
     assert_eq!(opened(&opening), (Err((14, 0)), [9, 9]));

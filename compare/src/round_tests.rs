@@ -6,6 +6,7 @@ use crate::decode::decode;
 use crate::garble::{Written, garble};
 use crate::generate::settings::{Setting, setting};
 use crate::inputs::{externals, input_keys};
+use crate::meter::Meter;
 use crate::open::{Given, open};
 use crate::pad::Row;
 use crate::plain::plain;
@@ -24,6 +25,12 @@ pub struct Played {
     pub decoded: Vec<u8>,
 }
 
+/// A meter in which no account has space for a row.
+pub const FULL: Meter = Meter {
+    totals: [u32::MAX; 8],
+};
+
+/// Plays a round. The account that garbling names has space and no other has: it is enough.
 pub fn play(setting: &Setting) -> Played {
     let Setting { file, n, k, .. } = setting;
     let circuit = read(file).unwrap();
@@ -37,10 +44,13 @@ pub fn play(setting: &Setting) -> Played {
         input_masks: &mut input_masks,
         output_masks: &mut output_masks,
     };
-    let mut meter = 7;
-    let numbers = (*n, *k, setting.round);
+    let mut meter = FULL;
+    meter.totals[setting.account as usize] = 7;
+    let mut charged = meter;
+    charged.totals[setting.account as usize] = 7 + counts.rows;
+    let numbers = (*n, *k, setting.round, setting.account);
     garble(file, numbers, &setting.contributions, written, &mut meter).unwrap();
-    assert_eq!(meter, 7 + counts.rows);
+    assert_eq!(meter, charged);
     let externals = all_externals(setting, &circuit, &input_masks);
     let input_keys = all_keys(setting, &circuit, &externals);
     let mut wire_keys = vec![0; circuit.wires.len() * size];
@@ -107,6 +117,7 @@ fn rounds_decode_the_plain_outputs() {
     let mut rng = Rng::new(5);
     for case in 1000..1100 {
         let setting = setting(case, &mut rng);
+        assert_eq!(u64::from(setting.account), case % 8);
         let played = play(&setting);
         let mut outputs = vec![0; played.decoded.len()];
         plain(&setting.file, &setting.values, &mut outputs).unwrap();
@@ -150,6 +161,7 @@ fn product(v_b: u8) -> Played {
         n: 2,
         k: 1,
         round: EXAMPLES,
+        account: 0,
         contributions: vec![
             2, 1, 1, 0, 4, 4, 3, 2, 4, // offset; wire 0; wire 1; product
             3, 2, 3, 4, 2, 1, 1, 3, 3,
@@ -200,6 +212,7 @@ fn the_selects_of_the_examples() {
             n: 2,
             k: 1,
             round: EXAMPLES,
+            account: 7,
             contributions: contributions.clone(),
             values: vec![bit, 2, 4],
         });
@@ -227,6 +240,7 @@ fn rows_of_another_implementation() {
         n: 2,
         k: 1,
         round: EXAMPLES,
+        account: 0,
         contributions: vec![1, 100, 1, 0, 33, 17, 1, 9, 0, 1, 250, 90],
         values: vec![1],
     });

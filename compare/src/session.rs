@@ -1,7 +1,8 @@
-//! Checks on what a call is given beside the circuit: parties, lengths and values.
+//! Checks on what a call is given beside the circuit: parties, lengths, accounts and values.
 
 use crate::circuit::{Circuit, Refusal, read};
 use crate::contribution::{Contribution, byte_moduli};
+use crate::meter::ACCOUNTS;
 
 /// How many inputs a party owns in a circuit for n parties.
 pub fn inputs_of(file: &[u8], n: u32, party: u32) -> Result<u32, Refusal> {
@@ -37,6 +38,11 @@ pub fn check_owners(circuit: &Circuit, n: u32) -> Result<(), Refusal> {
 pub fn check_lengths(lengths: &[(usize, usize)]) -> Result<(), Refusal> {
     let exact = lengths.iter().all(|(lent, due)| lent == due);
     refuse_unless(exact, 14, 0)
+}
+
+/// 25: the account is one of those that the meter has. It stands directly after 14.
+pub fn check_account(account: u32) -> Result<(), Refusal> {
+    refuse_unless(account < ACCOUNTS as u32, 25, 0)
 }
 
 /// 15: each byte is below its modulus.
@@ -89,14 +95,6 @@ pub fn check_rows(circuit: &Circuit, size: usize, rows: &[u8]) -> Result<(), Ref
 pub fn row_moduli(circuit: &Circuit) -> Vec<u8> {
     let of = |wire: &crate::circuit::Wire| vec![wire.modulus; wire.rows() as usize];
     circuit.wires.iter().flat_map(of).collect()
-}
-
-/// 21: the meter stays within its limit; what it then holds.
-pub fn check_meter(meter: u32, rows: u32) -> Result<u32, Refusal> {
-    meter.checked_add(rows).ok_or(Refusal {
-        number: 21,
-        place: 0,
-    })
 }
 
 /// Refuses by this number unless the check holds.

@@ -62,7 +62,7 @@ fn counts_and_lengths_of_a_variance_circuit() {
 /// Of 1, 2 and 3: the sum is 6, the squares add up to 14, and 3·14 − 36 is 6.
 #[test]
 fn a_variance_is_decoded() {
-    let numbers = (2, 3, ROUND);
+    let numbers = (2, 3, ROUND, 0);
     let mut setting = Setting::new(word::file(&VARIANCE), numbers, &mut Rng::new(1));
     setting.values = vec![1, 2, 3];
     let played = play(&setting);
@@ -108,6 +108,7 @@ fn square_of_three() -> Setting {
         n: 2,
         k: 1,
         round: ROUND,
+        account: 3,
         contributions: vec![
             2, 1, 0, 4, 2, // offset; zero key and mask share of the wire, and of its square
             3, 3, 4, 1, 1,
@@ -168,7 +169,7 @@ fn a_bit_times_itself_has_two_rows() {
     // 1·1 + 2·(1 + 1), for a bit and its square.
     assert_eq!(length(&circuit, 1), 5);
     for bit in [0, 1] {
-        let mut setting = Setting::new(file.clone(), (2, 1, ROUND), &mut Rng::new(3));
+        let mut setting = Setting::new(file.clone(), (2, 1, ROUND, 3), &mut Rng::new(3));
         setting.values = vec![bit];
         assert_eq!(play(&setting).decoded, [bit]);
     }
@@ -180,7 +181,7 @@ fn squares_of_every_modulus_are_decoded() {
     let mut rng = Rng::new(7);
     for p in all_moduli() {
         let file = word::file(&[HEAD, input(0, p), multiply(0, 0), output(1), END]);
-        let mut setting = Setting::new(file, (2, 1, ROUND), &mut rng);
+        let mut setting = Setting::new(file, (2, 1, ROUND, 3), &mut rng);
         setting.values = vec![p as u8 - 1];
         let played = play(&setting);
         assert_eq!(played.rows.len(), 2 * p as usize);

@@ -10,6 +10,7 @@ use compare::bundle::join;
 use compare::circuit::{MOST_WIRES, read};
 use compare::generate::bundle_circuits::Draft;
 use compare::generate::bundle_numbers::integer;
+use compare::generate::meters::account_of;
 use compare::generate::round_numbers::round_number;
 use compare::generate::settings::{Setting, cost};
 use compare::rng::Rng;
@@ -186,9 +187,10 @@ impl Case<'_> {
             k = 1;
         }
         let round = round_number(self.number, &mut self.rng);
+        let numbers = (n, k, round, account_of(self.number));
         Setting {
             values,
-            ..Setting::new(file, (n, k, round), &mut self.rng)
+            ..Setting::new(file, numbers, &mut self.rng)
         }
     }
 

@@ -5,6 +5,7 @@ pub mod bundle_numbers;
 pub mod circuits;
 pub mod damage;
 mod drawing;
+pub mod meters;
 pub mod old_layout;
 pub mod record_sweep;
 pub mod records;

@@ -1,7 +1,8 @@
-//! Settings of whole rounds: a circuit, the parties, the round number, the contributions and the
-//! inputs' values.
+//! Settings of whole rounds: a circuit, the parties, the round number, the account, the contributions
+//! and the inputs' values.
 
 use super::circuits::{accepted, at_limit};
+use super::meters::account_of;
 use super::round_numbers::round_number;
 use super::round_sweep;
 use crate::circuit::{Circuit, read};
@@ -17,14 +18,18 @@ pub struct Setting {
     pub k: u32,
     /// The round number.
     pub round: u32,
+    /// The account that garbling names.
+    pub account: u32,
     /// All parties' contributions, one after another.
     pub contributions: Vec<u8>,
     pub values: Vec<u8>,
 }
 
 impl Setting {
-    /// Draws contributions and values for an accepted circuit.
-    pub fn new(file: Vec<u8>, (n, k, round): (u32, u32, u32), rng: &mut Rng) -> Self {
+    /// Draws contributions and values for an accepted circuit. The numbers are those of the parties,
+    /// the key length, the round and the account.
+    pub fn new(file: Vec<u8>, numbers: (u32, u32, u32, u32), rng: &mut Rng) -> Self {
+        let (n, k, round, account) = numbers;
         let circuit = read(&file).expect("an accepted circuit");
         let contributions = contributions(&circuit, n as usize, k as usize, rng);
         let moduli: Vec<u8> = circuit.input_moduli().collect();
@@ -35,6 +40,7 @@ impl Setting {
             n,
             k,
             round,
+            account,
             file,
         }
     }
@@ -59,19 +65,38 @@ pub fn cost(rows: u32, n: u32, k: u32) -> u64 {
 
 /// The setting of one case of a run: first the sweep, then random ones.
 pub fn setting(case: u64, rng: &mut Rng) -> Setting {
-    let round = round_number(case, rng);
+    let (round, account) = (round_number(case, rng), account_of(case));
     match round_sweep::circuit(case, rng) {
         Some((words, n, k)) => {
             let file = word::file(&with_owners(words, n, rng));
-            Setting::new(file, (n, k, round), rng)
+            Setting::new(file, (n, k, round, account), rng)
         }
-        None => random(round, rng),
+        None => random(round, account, rng),
+    }
+}
+
+/// The most permutations that the garbling of a small setting takes.
+const SMALL: u64 = 600;
+
+/// A setting whose garbling takes few permutations, so that there can be many garblings of it. Mostly
+/// it has rows. Which account pays is left to whoever garbles it.
+pub fn small(rng: &mut Rng) -> Setting {
+    loop {
+        let (n, k) = (rng.between(2, 4) as u32, rng.between(1, 3) as u32);
+        let words = with_owners(accepted(rng), n, rng);
+        let numbers = (n, k, rng.next_u32(), 0);
+        let setting = Setting::new(word::file(&words), numbers, rng);
+        match setting.cost() {
+            1..=SMALL => return setting,
+            0 if rng.once_in(8) => return setting,
+            _ => {}
+        }
     }
 }
 
 /// A setting of any sort, whose garbling takes no more permutations than a limit that is mostly
 /// small.
-fn random(round: u32, rng: &mut Rng) -> Setting {
+fn random(round: u32, account: u32, rng: &mut Rng) -> Setting {
     let limit = match rng.below(400) {
         0 => 600_000,
         1..=9 => 60_000,
@@ -91,7 +116,7 @@ fn random(round: u32, rng: &mut Rng) -> Setting {
         n = 2;
     }
     let file = word::file(&with_owners(words, n, rng));
-    Setting::new(file, (n, k, round), rng)
+    Setting::new(file, (n, k, round, account), rng)
 }
 
 fn parties(rng: &mut Rng) -> u32 {

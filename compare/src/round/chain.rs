@@ -14,7 +14,8 @@ pub struct Made {
     pub engines: After,
 }
 
-/// The calls of a round, what each party decoded, and whether that is what plain evaluation gives.
+/// The calls of a round, of which the first is its garbling, what each party decoded, and whether that
+/// is what plain evaluation gives.
 pub struct Round {
     pub steps: Vec<Step>,
     pub decoded: Vec<Vec<u8>>,
@@ -77,25 +78,8 @@ impl Player<'_> {
 
     /// Makes a call of both programs, and gives what the engine wrote.
     fn written(&mut self, name: Name, party: u32, given: Vec<Vec<u8>>) -> Vec<Vec<u8>> {
-        let Setting { n, k, round, .. } = *self.setting;
-        let lengths = name.lengths(self.circuit, n as usize, k as usize, party);
-        let mut buffers = given;
-        // What is to be written holds anything before.
-        for length in &lengths[buffers.len()..] {
-            buffers.push(self.rng.bytes(*length));
-        }
-        let rows = self.circuit.counts().rows;
-        let step = Step {
-            name,
-            file: self.setting.file.clone(),
-            n,
-            k,
-            party,
-            round,
-            meter: self.rng.pick(&[0, 1, 1 << 31, u32::MAX - rows]),
-            buffers,
-            nulls: self.rng.once_in(2),
-        };
+        let call = (name, party);
+        let step = Step::new(self.setting, self.circuit, call, given, self.rng);
         let made = (self.make)(&step);
         self.accepted &= made.engines.answer == ACCEPTED;
         self.steps.push(step);

@@ -5,6 +5,7 @@ use super::step::Step;
 use crate::call::After;
 use crate::hex;
 use crate::smallest::{self, Sort};
+use compare::meter::ACCOUNTS;
 
 /// A longer file is not printed, but can be made again.
 const SHOWN_BYTES: usize = 1200;
@@ -50,8 +51,7 @@ impl Difference {
     fn print_buffers(&self) {
         let Made { ours, engines } = &self.made;
         if ours.loan.numbers != engines.loan.numbers {
-            let (one, other) = (ours.loan.numbers[0], engines.loan.numbers[0]);
-            println!("  meter: second {one}, engine {other}");
+            print_meters(&ours.loan.numbers, &engines.loan.numbers);
         }
         if ours.loan.file != engines.loan.file {
             println!("  the engine wrote into the file or around it");
@@ -71,5 +71,16 @@ impl Difference {
             }
             println!();
         }
+    }
+}
+
+/// A meter as each program left it, and whether the engine wrote into the number behind, which was
+/// not lent.
+pub fn print_meters(ours: &[u32], engines: &[u32]) {
+    let [(one, past_one), (other, past_other)] =
+        [ours, engines].map(|numbers| numbers.split_at(ACCOUNTS));
+    println!("  meter: second {one:?}, engine {other:?}");
+    if past_one != past_other {
+        println!("  the engine wrote past the meter");
     }
 }

@@ -1,7 +1,16 @@
-//! The calls of a round as the engine answers them, across its C face.
+//! The calls of a round, and carrying an old total over, as the engine answers them, across its C
+//! face.
 
+use super::carry::{Carry, Held};
 use super::step::{Name, Step};
 use crate::call::{After, Answer, Lent, Loan};
+use compare::meter::ACCOUNTS;
+
+/// The meter as C has it.
+#[repr(C)]
+struct Meter {
+    totals: [u32; ACCOUNTS],
+}
 
 #[link(name = "engine", kind = "static")]
 unsafe extern "C" {
@@ -11,6 +20,7 @@ unsafe extern "C" {
         n: u32,
         k: u32,
         round: u32,
+        account: u32,
         contributions: *const u8,
         contributions_length: usize,
         rows: *mut u8,
@@ -19,8 +29,10 @@ unsafe extern "C" {
         input_masks_length: usize,
         output_masks: *mut u8,
         output_masks_length: usize,
-        meter: *mut u32,
+        meter: *mut Meter,
     ) -> Answer;
+
+    fn lupiknam_meter_carry(total: u32, meter: *mut Meter);
 
     fn lupiknam_externals(
         file: *const u8,
@@ -101,7 +113,21 @@ fn pointers<const N: usize>(buffers: &mut [Lent]) -> [(*mut u8, usize); N] {
     all.try_into().expect("each call is lent its own number")
 }
 
-// SAFETY, of all calls below: the slices and the number are live for the call and do not overlap.
+/// The meter that the first numbers are. The pointer may reach those behind it too, since a stray
+/// write is what they are there to show.
+fn meter_of(numbers: &mut [u32]) -> *mut Meter {
+    assert!(numbers.len() > ACCOUNTS);
+    numbers.as_mut_ptr().cast()
+}
+
+// SAFETY, of all calls below: the slices and the meter are live for the call and do not overlap.
+
+/// Carries an old total over into a meter.
+pub fn carry(carry: &Carry) -> Held {
+    let mut held = carry.lent();
+    unsafe { lupiknam_meter_carry(carry.total, meter_of(&mut held)) };
+    held
+}
 
 fn garble(step: &Step, loan: &mut Loan) -> Answer {
     let (file, size) = loan.file.pointer();
@@ -111,7 +137,7 @@ fn garble(step: &Step, loan: &mut Loan) -> Answer {
         (input_masks, i),
         (output_masks, o),
     ] = pointers(&mut loan.buffers);
-    let meter = &mut loan.numbers[0];
+    let meter = meter_of(&mut loan.numbers);
     unsafe {
         lupiknam_garble(
             file,
@@ -119,6 +145,7 @@ fn garble(step: &Step, loan: &mut Loan) -> Answer {
             step.n,
             step.k,
             step.round,
+            step.account,
             contributions,
             c,
             rows,

@@ -6,7 +6,9 @@
 use super::step::{Name, Step};
 use compare::circuit::{Circuit, read};
 use compare::contribution::{combined, length};
+use compare::generate::meters::{with_space, without_space, wrong_account};
 use compare::generate::round_numbers::others;
+use compare::meter::ACCOUNTS;
 use compare::rng::Rng;
 
 /// A good call with some faults.
@@ -39,7 +41,7 @@ struct Spoiler<'s> {
 impl Spoiler<'_> {
     /// Puts in one fault, or what might be one.
     fn spoil(&mut self, step: &mut Step) {
-        match self.rng.below(22) {
+        match self.rng.below(23) {
             0 => step.n = self.number(step.n, 8),
             1 => step.k = self.number(step.k, 128),
             2 => step.party = self.party(step),
@@ -54,6 +56,7 @@ impl Spoiler<'_> {
             17 | 18 => self.meter(step),
             19 => self.raise_both(step),
             20 => self.round(step),
+            21 => self.account(step),
             _ => self.file(step),
         }
     }
@@ -241,16 +244,26 @@ impl Spoiler<'_> {
         wires.map(|wire| wire.rows() as usize).collect()
     }
 
-    /// The meter around its limit.
+    /// The named total around its limit, and the others too.
     fn meter(&mut self, step: &mut Step) {
         if step.name != Name::Garble {
             return self.raise(step);
         }
-        let last = u32::MAX - self.circuit.counts().rows;
-        let past = [last.saturating_add(1), last.saturating_add(2), u32::MAX];
+        let rows = self.circuit.counts().rows;
         step.meter = match self.rng.below(3) {
-            0 => self.rng.pick(&[last, last - 1, 0]),
-            _ => self.rng.pick(&past),
+            0 => with_space(step.account, rows, self.rng),
+            _ => without_space(step.account, rows, self.rng),
+        };
+    }
+
+    /// Another account, or a number that no account has.
+    fn account(&mut self, step: &mut Step) {
+        if step.name != Name::Garble {
+            return self.change(step);
+        }
+        step.account = match self.rng.below(3) {
+            0 => self.rng.below(ACCOUNTS) as u32,
+            _ => wrong_account(step.account, self.rng),
         };
     }
 
@@ -276,7 +289,7 @@ impl Spoiler<'_> {
 }
 
 /// A byte not below this modulus.
-fn high(rng: &mut Rng, p: u8) -> u8 {
+pub fn high(rng: &mut Rng, p: u8) -> u8 {
     let any = rng.between(usize::from(p), 255) as u8;
     rng.pick(&[p, p, p + 1, 255, any])
 }

@@ -2,6 +2,7 @@
 
 use super::step::{NAMES, Name, Step};
 use compare::circuit::read;
+use compare::generate::meters::any_meter;
 use compare::generate::random_file;
 use compare::generate::settings::{below, contributions};
 use compare::rng::Rng;
@@ -20,7 +21,8 @@ pub fn loose(file: &[u8], rng: &mut Rng) -> Step {
         k,
         party,
         round: rng.next_u32(),
-        meter: rng.next_u32(),
+        account: rng.below(10) as u32,
+        meter: any_meter(rng),
         buffers: Vec::new(),
         nulls: rng.once_in(2),
     };
@@ -55,7 +57,8 @@ pub fn on_any_file(rng: &mut Rng) -> Step {
         k: rng.below(4) as u32,
         party: rng.below(4) as u32,
         round: rng.next_u32(),
-        meter: rng.next_u32(),
+        account: rng.below(10) as u32,
+        meter: any_meter(rng),
         nulls: rng.once_in(2),
     }
 }

@@ -1,13 +1,14 @@
 //! The runs: many cases, or one of them.
 
-use super::chain::{Made, play};
+use super::caller::Caller;
+use super::chain::play;
 use super::faults::spoiled;
 use super::loose::{loose, on_any_file};
 use super::reopened::reopen;
 use super::squares::lend_old_layout;
 use super::step::{Name, Step};
 use super::tally::Tally;
-use super::{engine, second};
+use super::{carry, order, sequence};
 use compare::generate::settings::setting;
 use compare::rng::Rng;
 use std::process::ExitCode;
@@ -31,22 +32,17 @@ pub fn one(seed: u64, case: u64) -> ExitCode {
 }
 
 /// A case: a whole round, openings of it with other round numbers, calls lent the squares' old
-/// layout, and calls with faults.
+/// layout, calls with faults, old totals carried over, and a sequence of garblings.
 fn play_case(seed: u64, case: u64, tally: &mut Tally, print: bool) {
     let mut rng = Rng::of_case(seed, case);
     let setting = setting(case, &mut rng);
     let before = tally.wrong();
-    let mut count = |step: &Step| {
-        let made = make(step);
-        if print {
-            println!(
-                "{step}: second {}, engine {}",
-                made.ours.answer, made.engines.answer
-            );
-        }
-        tally.count(case, step, &made);
-        made
+    let mut caller = Caller {
+        case,
+        tally: &mut *tally,
+        print,
     };
+    let mut count = |step: &Step| caller.make(step);
     let round = play(&setting, &mut rng, &mut count);
     let reopened = reopen(&round, &mut rng, &mut count);
     let old_layout = lend_old_layout(&round, &mut rng, &mut count);
@@ -58,7 +54,13 @@ fn play_case(seed: u64, case: u64, tally: &mut Tally, print: bool) {
         count(&loose(&setting.file, &mut rng));
         count(&on_any_file(&mut rng));
     }
-    tally.count_round(&setting, round.right, &reopened);
+    // A round begins with its garbling.
+    order::play(&round.steps[0], &mut rng, &mut caller);
+    for carry in carry::drawn(&mut rng) {
+        caller.carry(&carry);
+    }
+    sequence::play(&mut rng, &mut caller);
+    tally.count_round(&setting, &round, &reopened);
     tally.count_old_layout(&old_layout);
     tally.close_case(before);
 }
@@ -80,13 +82,5 @@ fn faulty_calls(cost: u64) -> usize {
         0..=10_000 => 24,
         10_001..=100_000 => 8,
         _ => 3,
-    }
-}
-
-/// Makes a call of both programs.
-pub fn make(step: &Step) -> Made {
-    Made {
-        ours: second::run(step),
-        engines: engine::run(step),
     }
 }

@@ -1,11 +1,13 @@
-//! The calls of a round as this program answers them.
+//! The calls of a round, and carrying an old total over, as this program answers them.
 
+use super::carry::{Carry, Held};
 use super::step::{Name, Step};
 use crate::call::{ACCEPTED, After, Answer, Lent, Loan};
 use compare::circuit::Refusal;
 use compare::decode::decode;
 use compare::garble::{Written, garble};
 use compare::inputs::{externals, input_keys};
+use compare::meter::{self, ACCOUNTS, Meter};
 use compare::open::{Given, open};
 
 /// Makes a call of this program.
@@ -16,6 +18,24 @@ pub fn run(step: &Step) -> After {
         Err(Refusal { number, place }) => Answer { number, place },
     };
     After { answer, loan }
+}
+
+/// Carries an old total over into a meter.
+pub fn carry(carry: &Carry) -> Held {
+    let mut held = carry.lent();
+    changed(&mut held, |meter| meter::carry(carry.total, meter));
+    held
+}
+
+/// Changes the meter that the first numbers are.
+fn changed<A>(numbers: &mut [u32], change: impl FnOnce(&mut Meter) -> A) -> A {
+    let (totals, _) = numbers
+        .split_first_chunk_mut::<ACCOUNTS>()
+        .expect("a meter is lent");
+    let mut meter = Meter { totals: *totals };
+    let answer = change(&mut meter);
+    *totals = meter.totals;
+    answer
 }
 
 fn made(step: &Step, loan: &mut Loan) -> Result<(), Refusal> {
@@ -30,8 +50,10 @@ fn made(step: &Step, loan: &mut Loan) -> Result<(), Refusal> {
                 input_masks: input_masks.content_mut(),
                 output_masks: output_masks.content_mut(),
             };
-            let meter = &mut loan.numbers[0];
-            garble(file, (n, k, round), contributions.content(), written, meter)
+            let (numbers, given) = ((n, k, round, step.account), contributions.content());
+            changed(&mut loan.numbers, |meter| {
+                garble(file, numbers, given, written, meter)
+            })
         }
         (Name::Externals, [values, masks, written]) => externals(
             file,

@@ -3,6 +3,10 @@
 use crate::call::{Lent, Loan};
 use compare::circuit::Circuit;
 use compare::contribution::{byte_moduli, length};
+use compare::generate::meters::with_space;
+use compare::generate::settings::Setting;
+use compare::meter::Meter;
+use compare::rng::Rng;
 use compare::session::row_moduli;
 use std::fmt;
 
@@ -31,10 +35,10 @@ impl Name {
         }
     }
 
-    /// The refusals that this call can give, beside 1 to 10.
+    /// The refusals that this call can give, beside 1 to 10, in the order of its checks.
     pub fn refusals(self) -> &'static [u32] {
         match self {
-            Garble => &[11, 13, 14, 16, 17, 21],
+            Garble => &[11, 13, 14, 25, 16, 17, 21],
             Externals => &[11, 12, 13, 14, 15],
             InputKeys => &[11, 12, 13, 14, 15, 16, 17],
             Open => &[11, 12, 13, 14, 15, 16, 17, 18, 19, 20],
@@ -136,13 +140,43 @@ pub struct Step {
     pub k: u32,
     pub party: u32,
     pub round: u32,
-    pub meter: u32,
+    pub account: u32,
+    pub meter: Meter,
     pub buffers: Vec<Vec<u8>>,
     /// Whether an empty buffer is lent as a null pointer.
     pub nulls: bool,
 }
 
 impl Step {
+    /// A call of a round with no fault, lent these buffers to read. What is to be written holds
+    /// anything before, and the total that garbling names has space.
+    pub fn new(
+        setting: &Setting,
+        circuit: &Circuit,
+        (name, party): (Name, u32),
+        given: Vec<Vec<u8>>,
+        rng: &mut Rng,
+    ) -> Self {
+        let Setting { n, k, account, .. } = *setting;
+        let mut buffers = given;
+        let lengths = name.lengths(circuit, n as usize, k as usize, party);
+        for length in &lengths[buffers.len()..] {
+            buffers.push(rng.bytes(*length));
+        }
+        Step {
+            name,
+            file: setting.file.clone(),
+            n,
+            k,
+            party,
+            round: setting.round,
+            account,
+            meter: with_space(account, circuit.counts().rows, rng),
+            buffers,
+            nulls: rng.once_in(2),
+        }
+    }
+
     /// The modulus of each byte of the buffers that are only read.
     pub fn moduli(&self, circuit: &Circuit) -> Vec<Vec<u8>> {
         let (n, k) = (self.n as usize, self.k as usize);
@@ -151,7 +185,7 @@ impl Step {
 
     pub fn loan(&self) -> Loan {
         let numbers = match self.name {
-            Garble => vec![self.meter],
+            Garble => self.meter.totals.to_vec(),
             _ => Vec::new(),
         };
         let lent = |buffer: &Vec<u8>| Lent::of(buffer).null_if_empty(self.nulls);
@@ -164,12 +198,21 @@ impl Step {
 
 impl fmt::Display for Step {
     fn fmt(&self, to: &mut fmt::Formatter) -> fmt::Result {
-        let Step { n, k, party, .. } = self;
+        let Step {
+            n,
+            k,
+            party,
+            account,
+            ..
+        } = self;
         // In hexadecimal, as the pads take its bytes.
         let round = format!("{:#010x}", self.round);
         write!(to, "{}", self.name.text())?;
         match self.name {
-            Garble => write!(to, " n={n} k={k} round={round} meter={}", self.meter),
+            Garble => {
+                write!(to, " n={n} k={k} round={round} account={account}")?;
+                write!(to, " meter={:?}", self.meter.totals)
+            }
             Externals => write!(to, " n={n} party={party}"),
             InputKeys => write!(to, " n={n} k={k} party={party}"),
             Open => write!(to, " n={n} k={k} party={party} round={round}"),

@@ -1,7 +1,10 @@
 //! What a run has met.
 
-use super::chain::Made;
+use super::account_tally::AccountTally;
+use super::carry::{self, Carried, Carry};
+use super::chain::{Made, Round};
 use super::difference::Difference;
+use super::laws::Laws;
 use super::reopened::Reopened;
 use super::several::sorts;
 use super::squares::{self, SORTS};
@@ -15,8 +18,8 @@ use std::collections::BTreeMap;
 use std::process::ExitCode;
 
 /// A run of this many cases must meet every refusal that each call can give, 16 and 18 with several
-/// bytes too large, the round numbers below, squares of each sort at every modulus, and the refusals
-/// of their old layout.
+/// bytes too large, the round numbers below, squares of each sort at every modulus, the refusals of
+/// their old layout, what is counted of accounts, and each law.
 const THOROUGH: u64 = 1000;
 
 /// A sort of round numbers, by its name.
@@ -52,18 +55,22 @@ pub struct Tally {
     squares: BTreeMap<(&'static str, u8), u64>,
     /// How often each call refused a contribution in the squares' old layout.
     old_layout: BTreeMap<Name, u64>,
+    pub accounts: AccountTally,
+    pub laws: Laws,
     smallest: Smallest<Difference>,
+    smallest_carries: Smallest<carry::Difference>,
 }
 
 impl Tally {
     /// Counts a call, and keeps it if the two programs differ.
     pub fn count(&mut self, case: u64, step: &Step, made: &Made) {
         self.calls += 1;
-        let answer = (step.name, made.ours.answer.number);
-        *self.met.entry(answer).or_default() += 1;
-        for (sort, is) in sorts(step, made.ours.answer.number) {
+        let number = made.ours.answer.number;
+        *self.met.entry((step.name, number)).or_default() += 1;
+        for (sort, is) in sorts(step, number) {
             *self.several.entry((step.name, sort)).or_default() += u64::from(is);
         }
+        self.accounts.count_call(step, number);
         if made.ours == made.engines {
             return;
         }
@@ -75,15 +82,31 @@ impl Tally {
         });
     }
 
+    /// Counts an old total carried over, and keeps it if the two programs differ.
+    pub fn count_carry(&mut self, case: u64, carry: &Carry, carried: &Carried) {
+        self.calls += 1;
+        self.accounts.count_carry(carry);
+        if carried.ours != carried.engines {
+            self.differences += 1;
+            self.smallest_carries.keep(carry::Difference {
+                case,
+                carry: *carry,
+                carried: *carried,
+            });
+        }
+    }
+
     /// Counts a whole round, and the openings of it with other round numbers. Where there are no
     /// rows no pad is made, so that the numbers show nothing and are not counted.
-    pub fn count_round(&mut self, setting: &Setting, right: bool, reopened: &[Reopened]) {
+    pub fn count_round(&mut self, setting: &Setting, round: &Round, reopened: &[Reopened]) {
+        let right = round.right;
         self.rounds += 1;
         self.wrong_rounds += u64::from(!right);
         if setting.rows() == 0 {
             return;
         }
         if right {
+            self.accounts.count_round(&round.steps[0]);
             for sort in squares::sorts(setting) {
                 *self.squares.entry(sort).or_default() += 1;
             }
@@ -121,17 +144,22 @@ impl Tally {
 
     /// All that went wrong so far.
     pub fn wrong(&self) -> u64 {
-        self.differences + self.wrong_rounds + self.wrong_refusals
+        self.differences + self.wrong_rounds + self.wrong_refusals + self.laws.broken()
     }
 
     pub fn print_differences(&self, seed: u64) {
         for difference in self.smallest.shown() {
             difference.print("round", seed);
         }
+        for difference in self.smallest_carries.shown() {
+            difference.print(seed);
+        }
+        self.laws.print_broken(seed);
     }
 
-    /// Prints the counts; the run failed if anything differs, or if a long run missed a refusal, a
-    /// sort of several bytes too large, a sort of round numbers or a sort of squares.
+    /// Prints the counts; the run failed if anything is wrong, or if a long run missed a refusal, a
+    /// sort of several bytes too large, a sort of round numbers, a sort of squares, something of
+    /// accounts or a law.
     pub fn report(mut self) -> ExitCode {
         let count = self.passed + self.failed;
         let mut missed = Vec::new();
@@ -143,6 +171,8 @@ impl Tally {
         missed.extend(self.line_of_reopened());
         missed.extend(self.line_of_squares());
         missed.extend(self.line_of_old_layout());
+        missed.extend(self.accounts.lines());
+        missed.extend(self.laws.lines());
         println!(
             "{} rounds, {} of them wrong; {} calls, {} differences",
             self.rounds, self.wrong_rounds, self.calls, self.differences

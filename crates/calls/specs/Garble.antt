@@ -1,4 +1,5 @@
--- The call for garbling in a round: from all n contributions, rows, one mask byte per input and one per output; the row meter in and back.
+-- The call for garbling in a round: from all n contributions, rows, one mask byte per input and one per output; the row meter in and
+-- back, the named account charged.
 -- Assumes nothing.
 use mathlib.Core.Path.{_≡_}
 use mathlib.Core.List.{List, [], _∷_}
@@ -6,7 +7,7 @@ use Prim.Native.Nat.{ℕ, _*_}
 use lib.ListN.{length}
 use Rattle.checks.specs.declared.Answer.{Answer}
 use Rattle.checks.specs.Checked.{Reports, andThen, afterwards}
-use Rattle.meter.specs.Meter.{meterChecked, charged}
+use Rattle.meter.specs.Meter.{Charge, accountChecked, meterChecked, charged}
 use Rattle.words.specs.declared.gate.Wire.{Wire}
 use Rattle.circuit.specs.Wires.{inputsIn}
 use Rattle.circuit.specs.File.{readFile}
@@ -22,6 +23,10 @@ use Rattle.scheme.specs.Bytes.{contributionsChecked, offsetsChecked}
 abbrev pub garbleBytes : ℕ → ℕ → List Wire → List ℕ → Answer
 garbleBytes n K wires contributions = andThen (contributionsChecked n K wires contributions) (offsetsChecked n K wires contributions)
 
+-- 25, then those
+abbrev pub garbleNamed : ℕ → ℕ → List Wire → List ℕ → ℕ → Answer
+garbleNamed n K wires contributions account = andThen (accountChecked account) (garbleBytes n K wires contributions)
+
 module _ (n K : ℕ) (wires : List Wire) (outputs contributions : List ℕ) where
   -- 14, where so many bytes are lent for the rows, the input masks and the output masks
   abbrev pub garbleLengths : ℕ → ℕ → ℕ → Answer
@@ -29,20 +34,20 @@ module _ (n K : ℕ) (wires : List Wire) (outputs contributions : List ℕ) wher
       lengthsChecked (length contributions ∷ rows ∷ masks ∷ outs ∷ [])
       (n * contributionSize K wires ∷ rowsIn wires * (n * K) ∷ inputsIn wires ∷ length outputs ∷ [])
 
-  -- 14, then 16 and 17
-  abbrev pub garbleLent : ℕ → ℕ → ℕ → Answer
-  garbleLent rows masks outs = andThen (garbleLengths rows masks outs) (garbleBytes n K wires contributions)
+  -- 14, then 25, 16 and 17, where this account is named
+  abbrev pub garbleLent : ℕ → ℕ → ℕ → ℕ → Answer
+  garbleLent rows masks outs account = andThen (garbleLengths rows masks outs) (garbleNamed n K wires contributions account)
 
   -- 13, then those
-  abbrev pub garbleOwned : ℕ → ℕ → ℕ → Answer
-  garbleOwned rows masks outs = andThen (ownersChecked n wires) (garbleLent rows masks outs)
+  abbrev pub garbleOwned : ℕ → ℕ → ℕ → ℕ → Answer
+  garbleOwned rows masks outs account = andThen (ownersChecked n wires) (garbleLent rows masks outs account)
 
   -- 11, then those
-  abbrev pub garbleAsked : ℕ → ℕ → ℕ → Answer
-  garbleAsked rows masks outs = andThen (sessionChecked n K) (garbleOwned rows masks outs)
+  abbrev pub garbleAsked : ℕ → ℕ → ℕ → ℕ → Answer
+  garbleAsked rows masks outs account = andThen (sessionChecked n K) (garbleOwned rows masks outs account)
 
--- the call: the file first, the meter last
-module _ (file : List ℕ) (n K : ℕ) (contributions rows masks outs : List ℕ) (meter : ℕ) where
+-- the call: the file first, the meter's limit last
+module _ (file : List ℕ) (n K : ℕ) (contributions rows masks outs : List ℕ) (meter : Charge) where
   abbrev wires : List Wire
   wires = readFile file .wires
 
@@ -54,7 +59,7 @@ module _ (file : List ℕ) (n K : ℕ) (contributions rows masks outs : List ℕ
 
   unfoldable pub garbleChecked : Answer
   garbleChecked =
-      andThen (andThen (fileChecked file) (garbleAsked n K wires outputs contributions (length rows) (length masks) (length outs)))
+      andThen (andThen (fileChecked file) (garbleAsked n K wires outputs contributions (length rows) (length masks) (length outs) (meter .account)))
       (meterChecked meter (rowsIn wires))
 
   -- afterwards: input masks, output masks, meter, and the rows, which alone depend on the pad
@@ -64,21 +69,21 @@ module _ (file : List ℕ) (n K : ℕ) (contributions rows masks outs : List ℕ
   unfoldable pub garbleOutputMasks : List ℕ
   garbleOutputMasks = afterwards garbleChecked (outputMasks wires outputs draw) outs
 
-  unfoldable pub garbleMeter : ℕ
-  garbleMeter = afterwards garbleChecked (charged meter (rowsIn wires)) meter
+  unfoldable pub garbleMeter : List ℕ
+  garbleMeter = afterwards garbleChecked (charged meter (rowsIn wires)) (meter .totals)
 
-module _ (pad : Pad) (file : List ℕ) (n K : ℕ) (contributions rows masks outs : List ℕ) (meter : ℕ) where
+module _ (pad : Pad) (file : List ℕ) (n K : ℕ) (contributions rows masks outs : List ℕ) (meter : Charge) where
   unfoldable pub garbleRows : List ℕ
   garbleRows =
       afterwards (garbleChecked file n K contributions rows masks outs meter)
       (garbledRows pad n K file (readFile file .wires) (drawn n K (readFile file .wires) contributions)) rows
 
 -- the call's promise, in the round given, which may be any number and enters by the pads alone: the number and place that it answers, and what
--- the bytes lent for the rows, the input masks and the output masks, and the row meter hold afterwards
-pub record GarbleCall (file : List ℕ) (n K round : ℕ) (contributions rows₀ masks₀ outs₀ : List ℕ) (meter₀ : ℕ)
-    (number place : ℕ) (rows masks outs : List ℕ) (meter : ℕ) : Type 0 where
+-- the bytes lent for the rows, the input masks and the output masks, and the row meter's totals hold afterwards
+pub record GarbleCall (file : List ℕ) (n K round : ℕ) (contributions rows₀ masks₀ outs₀ : List ℕ) (meter₀ : Charge)
+    (number place : ℕ) (rows masks outs totals : List ℕ) : Type 0 where
   pub answer : Reports (garbleChecked file n K contributions rows₀ masks₀ outs₀ meter₀) number place
   pub rowsIs : rows ≡ garbleRows (shakePad round) file n K contributions rows₀ masks₀ outs₀ meter₀
   pub inputMasksIs : masks ≡ garbleInputMasks file n K contributions rows₀ masks₀ outs₀ meter₀
   pub outputMasksIs : outs ≡ garbleOutputMasks file n K contributions rows₀ masks₀ outs₀ meter₀
-  pub meterIs : meter ≡ garbleMeter file n K contributions rows₀ masks₀ outs₀ meter₀
+  pub meterIs : totals ≡ garbleMeter file n K contributions rows₀ masks₀ outs₀ meter₀

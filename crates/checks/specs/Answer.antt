@@ -2,7 +2,7 @@
 -- Assumes nothing.
 use Prim.Native.Nat.{ℕ}
 use Rattle.checks.specs.declared.Refusal.{Refusal}
-use Rattle.checks.specs.declared.Refusal.the-variants.{NoHead, UnknownWord, NotDue, NotPrime, NotMade, ModuliDiffer, OutOfRange, TooMany, NoOutput, WrongEnd, SessionRange, NoSuchParty, OwnerAbsent, WrongLength, ValueTooLarge, ContributionTooLarge, ZeroOffset, KeyOrRowTooLarge, WrongInputKey, NoMultiplier, MeterFull, TooShort, BundleRange, IntegerTooLarge}
+use Rattle.checks.specs.declared.Refusal.the-variants.{NoHead, UnknownWord, NotDue, NotPrime, NotMade, ModuliDiffer, OutOfRange, TooMany, NoOutput, WrongEnd, SessionRange, NoSuchParty, OwnerAbsent, WrongLength, ValueTooLarge, ContributionTooLarge, ZeroOffset, KeyOrRowTooLarge, WrongInputKey, NoMultiplier, MeterFull, TooShort, BundleRange, IntegerTooLarge, NoSuchAccount}
 use Rattle.checks.specs.declared.Answer.{Answer}
 use Rattle.checks.specs.declared.Answer.the-variants.{Accepted, Refused}
 
@@ -47,7 +47,7 @@ numberOf KeyOrRowTooLarge = 18
 numberOf WrongInputKey = 19
 -- no multiplier fits
 numberOf NoMultiplier = 20
--- the row meter would pass its limit
+-- the named total would pass the limit
 numberOf MeterFull = 21
 -- a buffer is too short for the words
 numberOf TooShort = 22
@@ -55,6 +55,8 @@ numberOf TooShort = 22
 numberOf BundleRange = 23
 -- integer or constant not below the product, or residue not below its prime
 numberOf IntegerTooLarge = 24
+-- account named above 7
+numberOf NoSuchAccount = 25
 
 -- an answer's number and place, 0 and 0 where the call is accepted
 abbrev pub numberIn : Answer → ℕ

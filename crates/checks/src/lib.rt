@@ -33,6 +33,7 @@ pub enum Refusal {
     TooShort,
     BundleRange,
     IntegerTooLarge,
+    NoSuchAccount,
 }
 
 pub enum Answer {
@@ -69,6 +70,7 @@ pub fn number(reason: Refusal) -> u32
         Refusal::TooShort => 22,
         Refusal::BundleRange => 23,
         Refusal::IntegerTooLarge => 24,
+        Refusal::NoSuchAccount => 25,
     }
 }
 

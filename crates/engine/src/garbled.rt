@@ -8,35 +8,34 @@ use row_calls::open_rows;
 use session::AskedSeat;
 use session::AskedSession;
 
-// Rows, input masks and output masks of a round, from all contributions, and the row meter charged: 1 to 10, 11, 13, 14, 16, 17, 21.
+// Rows, input masks and output masks of a round, from all contributions, and the named account charged: 1 to 10, 11, 13, 14, 25, 16, 17, 21.
 #[no_mangle]
 pub extern "C" fn lupiknam_garble(
     file: &[u8],
     n: u32,
     k: u32,
     round: u32,
+    account: u32,
     contributions: &[u8],
     rows: &mut [u8],
     input_masks: &mut [u8],
     output_masks: &mut [u8],
-    meter: &mut u32,
+    meter: &mut [u32; 8],
 ) -> Reported
-    ensures { λ r. ⌜ GarbleCall (now (file .entry)) n k round (now (contributions .entry)) (now (rows .entry)) (now («input_masks» .entry)) (now («output_masks» .entry)) (now (meter .entry))
-        (r .number) (r .place) (now (rows .exit)) (now («input_masks» .exit)) (now («output_masks» .exit)) (now (meter .exit)) ⌝ }
+    ensures { λ r. ⌜ GarbleCall (now (file .entry)) n k round (now (contributions .entry)) (now (rows .entry)) (now («input_masks» .entry)) (now («output_masks» .entry))
+        (record { totals = now (meter .entry); account = account }) (r .number) (r .place) (now (rows .exit)) (now («input_masks» .exit)) (now («output_masks» .exit)) (now (meter .exit)) ⌝ }
 {
-    let total = *meter;
     let asked = AskedSession { n, k, round };
-    let done = garble(
+    let answer = garble(
         file,
         asked,
         contributions,
         rows,
         input_masks,
         output_masks,
-        total,
+        account,
+        meter,
     );
-    *meter = done.meter;
-    let answer = done.answer;
     told(answer)
 }
 

@@ -1,8 +1,9 @@
 // The C face: each function here is one of include/lupiknam.h. Refused or not, its contract gives the number and place that it
 // answers and every number and byte lent to it. Thin, since a static library proves it again: the calls themselves stand in `read_calls`,
-// `plain`, `party_calls`, `row_calls`, `writer` and `bundles`.
+// `plain`, `party_calls`, `row_calls`, `writer`, `bundles` and `meter`.
 mod answer;
 mod bundle;
+mod carried;
 mod garbled;
 mod party;
 mod plain_call;
@@ -15,6 +16,7 @@ pub use bundle::lupiknam_bundle_join;
 pub use bundle::lupiknam_bundle_multiply;
 pub use bundle::lupiknam_bundle_scale;
 pub use bundle::lupiknam_bundle_split;
+pub use carried::lupiknam_meter_carry;
 pub use garbled::lupiknam_garble;
 pub use garbled::lupiknam_open;
 pub use party::lupiknam_decode;

@@ -8,6 +8,7 @@ use Prim.Native.Nat.{ℕ, _+_, _%_, _<_}
 use native.Mathlib.Omega.{arith}
 use lib.ListN.{length, getD}
 use borrow.Author.Tests.{lt-ltb}
+use Rattle.meter.specs.Meter.{Charge}
 use Rattle.lists.specs.Blocks.{part}
 use Rattle.lists.proofs.Blocks.{length-tab, getD-tab, is-tab}
 use Rattle.lists.proofs.Parts.{length-part, getD-part}
@@ -76,7 +77,7 @@ bytes-are {file} {values} {r} {first} {at} {z} carries shown bytes e =
     ∙ ap (λ (w : ℕ). getD (plainValues file (readFile file .wires) values) w 0) (shown .wires i l)
     ∙ carries .residues i l)
 
-module _ (file : List ℕ) (n K round : ℕ) (contributions values : List ℕ) (meter : ℕ) (lent : Lent) (results : Results) {r first at z : ℕ}
+module _ (file : List ℕ) (n K round : ℕ) (contributions values : List ℕ) (meter : Charge) (lent : Lent) (results : Results) {r first at z : ℕ}
     (conditions : Conditions file n K contributions values meter lent) (played : Played file n K round contributions values meter lent results)
     (carries : Carries file values r first z) (shown : Shown (readFile file .outputs) at r first) where
   pub decoded-are : (party : ℕ) → party < n → part (results .decoded party) at r ≡ split r z

@@ -6,6 +6,7 @@ use Prim.Native.Nat.{ℕ, _+_, _*_, _%_, _≤_, _<_}
 use lib.ListN.{length, take}
 use Rattle.lists.specs.Blocks.{part}
 use Rattle.checks.specs.declared.Answer.the-variants.{Accepted}
+use Rattle.meter.specs.Meter.{Charge}
 use Rattle.circuit.specs.Wires.{inputsIn}
 use Rattle.circuit.specs.File.{readFile}
 use Rattle.bundles.specs.declared.operation.Operation.{Operation}
@@ -59,7 +60,7 @@ JoinedThenSplit =
 -- bytes of any party, accepts them, and gives the integer modulo the product.
 abbrev pub JoinedIsCarried : Type 0
 JoinedIsCarried =
-    (file : List ℕ) (n K round : ℕ) (contributions values : List ℕ) (meter : ℕ) (lent : Lent) (results : Results)
+    (file : List ℕ) (n K round : ℕ) (contributions values : List ℕ) (meter : Charge) (lent : Lent) (results : Results)
     (r first z at party integer₀ number place integer : ℕ)
     → Conditions file n K contributions values meter lent
     → Played file n K round contributions values meter lent results
@@ -76,7 +77,7 @@ JoinedIsCarried =
 -- result modulo the product.
 abbrev pub JoinedIsResult : Type 0
 JoinedIsResult =
-    (file : List ℕ) (n K round : ℕ) (contributions values : List ℕ) (meter : ℕ) (lent : Lent) (results : Results)
+    (file : List ℕ) (n K round : ℕ) (contributions values : List ℕ) (meter : Charge) (lent : Lent) (results : Results)
     (operation : Operation) (r first a x y at party : ℕ)
     (buffer₀ buffer : List ℕ) (words₀ words place integer₀ number place′ integer : ℕ)
     → Conditions file n K contributions values meter lent

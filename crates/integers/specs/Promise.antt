@@ -7,6 +7,7 @@ use Prim.Native.Nat.{ℕ, _+_, _-_, _*_, _%_, _≤_, _<_}
 use lib.ListN.{length, getD, take}
 use Rattle.lists.specs.Blocks.{part}
 use Rattle.checks.specs.declared.Answer.the-variants.{Accepted}
+use Rattle.meter.specs.Meter.{Charge}
 use Rattle.words.specs.declared.gate.Wire.{Wire}
 use Rattle.words.specs.declared.item.Item.the-variants.{Output, End}
 use Rattle.words.specs.Encode.{wordOf, fileOf}
@@ -57,7 +58,7 @@ pub record Read (n : ℕ) (results : Results) (r at z : ℕ) : Type 0 where
 
 abbrev pub FiguresAreIntegers : Type 0
 FiguresAreIntegers =
-    (file : List ℕ) (n K round : ℕ) (contributions values : List ℕ) (meter : ℕ) (lent : Lent) (results : Results) (r first at z : ℕ)
+    (file : List ℕ) (n K round : ℕ) (contributions values : List ℕ) (meter : Charge) (lent : Lent) (results : Results) (r first at z : ℕ)
     → Conditions file n K contributions values meter lent
     → Played file n K round contributions values meter lent results
     → r ≤ 10
@@ -68,7 +69,7 @@ FiguresAreIntegers =
 -- so it is with a part: the integers that its bundles carry go in, and every party that is promised figures reads the result
 abbrev pub PooledIsRead : Type 0
 PooledIsRead =
-    (file : List ℕ) (n K round : ℕ) (contributions values : List ℕ) (meter : ℕ) (lent : Lent) (results : Results)
+    (file : List ℕ) (n K round : ℕ) (contributions values : List ℕ) (meter : Charge) (lent : Lent) (results : Results)
     (operation : Operation) (r first a x y size at : ℕ)
     → Conditions file n K contributions values meter lent
     → Played file n K round contributions values meter lent results

@@ -1,2 +1,3 @@
 -- Laws of the row meter.
 pub mod Totals
+pub mod Garblings

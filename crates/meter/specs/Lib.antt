@@ -1,2 +1,3 @@
--- The row meter.
+-- The row meter, and what it holds after any garblings.
 pub mod Meter
+pub mod Garblings

@@ -5,6 +5,7 @@ use mathlib.Core.List.{List}
 use Prim.Native.Nat.{ℕ, _*_, _<_}
 use native.Mathlib.Omega.{arith}
 use lib.ListN.{length, replicate, length-replicate}
+use Rattle.meter.specs.Meter.{Charge}
 use Rattle.lists.specs.Blocks.{nthPiece}
 use Rattle.lists.proofs.Parts.{length-part}
 use Rattle.lists.proofs.Sums.{times-fits}
@@ -28,7 +29,7 @@ piece-long : (n size party : ℕ) → party < n → length (nthPiece (zeros (n *
 piece-long n size party h =
     length-part (replicate (n * size) 0) (party * size) size (omega (arith, times-fits party n size h, length-replicate {A = ℕ} (n * size) 0))
 
-module _ (file : List ℕ) (n K : ℕ) (contributions values : List ℕ) (meter : ℕ) where
+module _ (file : List ℕ) (n K : ℕ) (contributions values : List ℕ) (meter : Charge) where
   abbrev wires : List Wire
   wires = readFile file .wires
 
@@ -77,6 +78,7 @@ module _ (file : List ℕ) (n K : ℕ) (contributions values : List ℕ) (meter 
         results = piece-long n (length outputs);
         plain = length-replicate _ 0;
       };
+      account = c .account;
       space = c .space;
     },
     record {
@@ -90,5 +92,5 @@ module _ (file : List ℕ) (n K : ℕ) (contributions values : List ℕ) (meter 
   )
 
 -- two parties, keys of one byte, a circuit with a gate of each kind: what `rehearse` requires, met
-pub instance-serves : Serves example.file 2 1 example.contributions example.values 0
-instance-serves = zeros-serve example.file 2 1 example.contributions example.values 0 conditions
+pub instance-serves : Serves example.file 2 1 example.contributions example.values example.meter
+instance-serves = zeros-serve example.file 2 1 example.contributions example.values example.meter conditions

@@ -4,6 +4,7 @@ use mathlib.Core.Path.{_≡_, subst, _∙_}
 use mathlib.Core.List.{List}
 use Prim.Native.Nat.{ℕ, _*_}
 use lib.ListN.{length}
+use Rattle.meter.specs.Meter.{Charge}
 use Rattle.lists.specs.Blocks.{nthPiece}
 use Rattle.words.specs.declared.gate.Wire.{Wire}
 use Rattle.circuit.specs.Wires.{inputsIn}
@@ -24,12 +25,12 @@ use Rattle.rehearsal.specs.Turns.{KeysOfAll, OpenedByAll, DecodedByAll}
 use Rattle.rehearsal.specs.Rehearsed.{lentOf, resultsOf, Whole, Rehearsed}
 use Rattle.rehearsal.proofs.Gathered.{gathered-all}
 
-module _ {file : List ℕ} {n K round : ℕ} {contributions values : List ℕ} {meter : ℕ}
+module _ {file : List ℕ} {n K round : ℕ} {contributions values : List ℕ} {meter : Charge}
     {rows₀ inputs₀ outputs₀ externals₀ mine₀ keys₀ wkeys₀ wexternals₀ results₀ evaluated₀ : List ℕ}
-    {number place number′ place′ total : ℕ} {rows inputs outputs externals mine keys wkeys wexternals results evaluated : List ℕ}
+    {number place number′ place′ : ℕ} {totals rows inputs outputs externals mine keys wkeys wexternals results evaluated : List ℕ}
     (conditions : Conditions file n K contributions values meter (lentOf file n K rows₀ inputs₀ outputs₀ mine₀ wkeys₀ wexternals₀ results₀ evaluated₀))
     (whole : Whole file n K externals₀ mine₀ keys₀ wkeys₀ wexternals₀ results₀)
-    (garbled : GarbleCall file n K round contributions rows₀ inputs₀ outputs₀ meter number place rows inputs outputs total)
+    (garbled : GarbleCall file n K round contributions rows₀ inputs₀ outputs₀ meter number place rows inputs outputs totals)
     (masked : Masked file n (readFile file .wires) values inputs externals₀ externals)
     (keyed : KeysOfAll file n K contributions (contributionSize K (readFile file .wires)) externals (inputsIn (readFile file .wires) * K) mine₀ mine)
     (put : keys ≡ keysByInput n K (inputsIn (readFile file .wires)) (inputsIn (readFile file .wires) * K) mine)
@@ -44,7 +45,7 @@ module _ {file : List ℕ} {n K round : ℕ} {contributions values : List ℕ} {
   lent = lentOf file n K rows₀ inputs₀ outputs₀ mine₀ wkeys₀ wexternals₀ results₀ evaluated₀
 
   abbrev left : Results
-  left = resultsOf file n K values rows inputs outputs total mine wkeys wexternals results evaluated
+  left = resultsOf file n K values rows inputs outputs totals mine wkeys wexternals results evaluated
 
   externals-is : externals ≡ allExternals file n K round contributions values meter lent left
   externals-is =

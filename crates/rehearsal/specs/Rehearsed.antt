@@ -4,6 +4,7 @@ use mathlib.Core.Path.{_≡_}
 use mathlib.Core.List.{List}
 use Prim.Native.Nat.{ℕ, _*_}
 use lib.ListN.{length, replicate}
+use Rattle.meter.specs.Meter.{Charge}
 use Rattle.lists.specs.Blocks.{nthPiece}
 use Rattle.words.specs.declared.gate.Wire.{Wire}
 use Rattle.circuit.specs.Wires.{inputsIn}
@@ -37,13 +38,13 @@ module _ (file : List ℕ) (n K : ℕ) where
       }
 
   -- the same memory after the calls, and what the meter then holds; a party's external values stand at their wires alone
-  abbrev pub resultsOf : (values rows inputMasks outputMasks : List ℕ) (meter : ℕ) (mine wkeys wexternals results evaluated : List ℕ) → Results
-  resultsOf values rows inputMasks outputMasks meter mine wkeys wexternals results evaluated =
+  abbrev pub resultsOf : (values rows inputMasks outputMasks totals mine wkeys wexternals results evaluated : List ℕ) → Results
+  resultsOf values rows inputMasks outputMasks totals mine wkeys wexternals results evaluated =
       record {
         rows = rows;
         inputMasks = inputMasks;
         outputMasks = outputMasks;
-        meter = meter;
+        totals = totals;
         externals = λ party. ownAfter file n wires values inputMasks party;
         keys = λ party. nthPiece mine (inputsIn wires * K) party;
         wireKeys = λ party. nthPiece wkeys (length wires * (n * K)) party;
@@ -71,7 +72,7 @@ module _ (file : List ℕ) (n K : ℕ) where
     pub resultsLong : length results ≡ n * length outputs
 
   -- what the round comes to
-  pub record Rehearsed (round : ℕ) (contributions values : List ℕ) (meter : ℕ) (lent : Lent) (results : Results) (externals keys : List ℕ) : Type 0 where
+  pub record Rehearsed (round : ℕ) (contributions values : List ℕ) (meter : Charge) (lent : Lent) (results : Results) (externals keys : List ℕ) : Type 0 where
     -- each call was made, on what the calls before it left, and its promise holds
     pub played : Played file n K round contributions values meter lent results
     -- what the host put together: the external values of all inputs in wire order, all parties' keys by input, then party

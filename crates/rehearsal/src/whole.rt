@@ -13,8 +13,8 @@ use engine::lupiknam_plain;
 use party_calls::counted;
 use session::AskedSession;
 
-// Under demand 3's conditions every call accepts, each party opens value plus mask on every wire, and decodes the plain circuit's outputs. Gives back what
-// the row meter then holds.
+// Under demand 3's conditions every call accepts, each party opens value plus mask on every wire, and decodes the plain circuit's outputs. The named
+// account of the row meter is charged.
 pub fn rehearse(
     file: &[u8],
     asked: AskedSession,
@@ -30,15 +30,18 @@ pub fn rehearse(
     wexternals: &mut [u8],
     results: &mut [u8],
     evaluated: &mut [u8],
-    meter: u32,
-) -> u32
-    requires { ⌜ Conditions (now file) (asked .n) (asked .k) (now contributions) (now values) meter
+    account: u32,
+    meter: &mut [u32; 8],
+)
+    requires { ⌜ Conditions (now file) (asked .n) (asked .k) (now contributions) (now values)
+        (record { totals = now meter; account = account })
         (lentOf (now file) (asked .n) (asked .k) (now rows) (now inputs) (now outputs) (now mine) (now wkeys) (now wexternals) (now results) (now evaluated))
         × Whole (now file) (asked .n) (asked .k) (now externals) (now mine) (now keys) (now wkeys) (now wexternals) (now results) ⌝ }
-    ensures { λ r. ⌜ Rehearsed (now (file .entry)) (asked .n) (asked .k) (asked .round) (now (contributions .entry)) (now (values .entry)) meter
+    ensures { λ _. ⌜ Rehearsed (now (file .entry)) (asked .n) (asked .k) (asked .round) (now (contributions .entry)) (now (values .entry))
+        (record { totals = now (meter .entry); account = account })
         (lentOf (now (file .entry)) (asked .n) (asked .k) (now (rows .entry)) (now (inputs .entry)) (now (outputs .entry)) (now (mine .entry))
         (now (wkeys .entry)) (now (wexternals .entry)) (now (results .entry)) (now (evaluated .entry)))
-        (resultsOf (now (file .entry)) (asked .n) (asked .k) (now (values .entry)) (now (rows .exit)) (now (inputs .exit)) (now (outputs .exit)) r (now (mine .exit))
+        (resultsOf (now (file .entry)) (asked .n) (asked .k) (now (values .entry)) (now (rows .exit)) (now (inputs .exit)) (now (outputs .exit)) (now (meter .exit)) (now (mine .exit))
         (now (wkeys .exit)) (now (wexternals .exit)) (now (results .exit)) (now (evaluated .exit)))
         (now (externals .exit)) (now (keys .exit)) ⌝ }
 {
@@ -53,17 +56,17 @@ pub fn rehearse(
     let each = sizes.each;
     let wide = sizes.wide;
     let key = counted(k);
-    let mut total = meter;
     let garbled = lupiknam_garble(
         file,
         n,
         k,
         round,
+        account,
         contributions,
         &mut *rows,
         &mut *inputs,
         &mut *outputs,
-        &mut total,
+        &mut *meter,
     );
     mask_all(file, n, values, &*inputs, &mut *externals);
     keys_of_all(
@@ -97,5 +100,4 @@ pub fn rehearse(
     );
     decode_all(file, n, &*wexternals, made, &*outputs, given, &mut *results);
     let plainly = lupiknam_plain(file, values, &mut *evaluated);
-    total
 }

@@ -5,6 +5,7 @@ use mathlib.Core.List.{List}
 use Prim.Native.Nat.{ℕ, _*_}
 use lib.ListN.{length, getD}
 use Rattle.checks.specs.declared.Answer.the-variants.{Accepted}
+use Rattle.meter.specs.Meter.{Charge}
 use Rattle.words.specs.declared.gate.Wire.{Wire}
 use Rattle.circuit.specs.Wires.{wireAt}
 use Rattle.circuit.specs.Accepted.{AcceptedCircuit}
@@ -51,7 +52,7 @@ module _ {file : List ℕ} {wires : List Wire} {outputs : List ℕ} (circuit : A
       offsets = λ party h. own-offsets-passed n K wires contributions party h size offsets;
     }
 
-pub begun : {pad : Pad} {file : List ℕ} {n K : ℕ} {contributions values : List ℕ} {meter : ℕ} {lent : Lent} → PadSize pad
+pub begun : {pad : Pad} {file : List ℕ} {n K : ℕ} {contributions values : List ℕ} {meter : Charge} {lent : Lent} → PadSize pad
     → Conditions file n K contributions values meter lent → Start pad file n K contributions values meter lent
 begun {pad} {file} {n} {K} {contributions} pads conditions =
     let circuit = accepted file (conditions .accepted) in

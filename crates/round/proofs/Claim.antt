@@ -4,6 +4,7 @@ use mathlib.Core.Path.{_≡_, ap, _∙_}
 use mathlib.Core.List.{List}
 use Prim.Native.Nat.{ℕ, _*_, _<_}
 use lib.ListN.{length, getD}
+use Rattle.meter.specs.Meter.{Charge}
 use Rattle.lists.specs.Blocks.{nthPiece}
 use Rattle.pads.specs.Pad.{Pad}
 use Rattle.round.specs.Round.{Lent}
@@ -16,7 +17,7 @@ use Rattle.round.proofs.Keys.{has-keys}
 use Rattle.round.proofs.Opens.{opens, opened-external, opened-key}
 use Rattle.round.proofs.Decoded.{evaluates, plain-decoded, decodes, decoded}
 
-promise : {pad : Pad} {file : List ℕ} {n K : ℕ} {contributions values : List ℕ} {meter : ℕ} {lent : Lent}
+promise : {pad : Pad} {file : List ℕ} {n K : ℕ} {contributions values : List ℕ} {meter : Charge} {lent : Lent}
     → Start pad file n K contributions values meter lent → Promise pad file n K contributions values meter lent
 promise start = record {
   garbles = garbles start;
@@ -35,7 +36,7 @@ promise start = record {
 
 -- for any pad of K entries
 pub claim : (pad : Pad) → ((q K : ℕ) (input : List ℕ) → 0 < q → length (pad q K input) ≡ K)
-    → (file : List ℕ) (n K : ℕ) (contributions values : List ℕ) (meter : ℕ) (lent : Lent)
+    → (file : List ℕ) (n K : ℕ) (contributions values : List ℕ) (meter : Charge) (lent : Lent)
     → Conditions file n K contributions values meter lent
     → Promise pad file n K contributions values meter lent
 claim pad size file n K contributions values meter lent conditions = promise (begun (record { size = size }) conditions)

@@ -11,6 +11,7 @@ use Rattle.residue.proofs.Vectors.{add-below}
 use Rattle.residue.proofs.Laws.{sub-add}
 use Rattle.checks.proofs.Passed.{andThen-passed, afterwards-passed}
 use Rattle.checks.specs.declared.Answer.the-variants.{Accepted}
+use Rattle.meter.specs.Meter.{Charge}
 use Rattle.words.specs.declared.gate.Wire.{Wire}
 use Rattle.circuit.specs.Wires.{modulusAt}
 use Rattle.circuit.specs.File.{readFile}
@@ -30,7 +31,7 @@ use Rattle.round.proofs.Start.{Start}
 use Rattle.round.proofs.Garbled.{output-masks-size, output-mask-at}
 use Rattle.round.proofs.Opens.{opened-externals, opened-external}
 
-module _ {pad : Pad} {file : List ℕ} {n K : ℕ} {contributions values : List ℕ} {meter : ℕ} {lent : Lent}
+module _ {pad : Pad} {file : List ℕ} {n K : ℕ} {contributions values : List ℕ} {meter : Charge} {lent : Lent}
     (start : Start pad file n K contributions values meter lent) where
   abbrev wires : List Wire
   wires = readFile file .wires

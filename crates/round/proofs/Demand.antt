@@ -1,7 +1,7 @@
 -- Demand 3 of the calls' promises: whoever makes the calls of a round, of any number, under its conditions gets what it promises, whatever else the
 -- calls may do.
 -- Assumes nothing.
-use mathlib.Core.Path.{_≡_, refl, ap, _∙_}
+use mathlib.Core.Path.{_≡_, ap, _∙_}
 use mathlib.Core.List.{List}
 use Prim.Native.Nat.{ℕ, _<_}
 use lib.ListN.{getD}
@@ -13,7 +13,7 @@ use Rattle.words.specs.declared.gate.Wire.{Wire}
 use Rattle.circuit.specs.Wires.{inputsIn}
 use Rattle.circuit.specs.File.{readFile}
 use Rattle.counts.specs.Counts.{rowsIn}
-use Rattle.meter.specs.Meter.{charged}
+use Rattle.meter.specs.Meter.{Charge, charged}
 use Rattle.pads.specs.Pad.{shakePad}
 use Rattle.calls.specs.Garble.{garbleMeter}
 use Rattle.calls.specs.Externals.{externalsAfter}
@@ -25,7 +25,7 @@ use Rattle.round.proofs.Claim.{delivered-as}
 use Rattle.round.proofs.RealPad.{shake-claim}
 use Rattle.round.specs.Played.{Results, Played, Kept, allExternals, allKeys}
 
-module _ (file : List ℕ) (n K round-number : ℕ) (contributions values : List ℕ) (meter : ℕ) (lent : Lent) (r : Results)
+module _ (file : List ℕ) (n K round-number : ℕ) (contributions values : List ℕ) (meter : Charge) (lent : Lent) (r : Results)
     (conditions : Conditions file n K contributions values meter lent) (played : Played file n K round-number contributions values meter lent r) where
   abbrev wires : List Wire
   wires = readFile file .wires
@@ -111,9 +111,9 @@ module _ (file : List ℕ) (n K round-number : ℕ) (contributions values : List
   unfolding round.plainly
   evaluates = passed-zero (played .plainly .holds .answer) (promise .evaluates)
 
-  counted : r .meter ≡ charged meter (rowsIn wires)
+  counted : r .totals ≡ charged meter (rowsIn wires)
   unfolding garbleMeter round.garbling
-  counted = played .garble .holds .meterIs ∙ afterwards-passed (promise .garbles) (charged meter (rowsIn wires)) meter
+  counted = played .garble .holds .meterIs ∙ afterwards-passed (promise .garbles) (charged meter (rowsIn wires)) (meter .totals)
 
   plain-is : r .plain ≡ round.plainFigures (shakePad round-number) file n K contributions values meter lent
   unfolding round.plainFigures

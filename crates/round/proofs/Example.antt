@@ -26,11 +26,11 @@ use Rattle.scheme.specs.Contribution.{offsetAt, contributionSize, contributionM
 use Rattle.pads.specs.Pad.{shakePad}
 use Rattle.plain.specs.Plain.{plainBy, plainTo, plainValues, plainOutputs}
 use Rattle.scheme.specs.Bytes.{allZero, bytesChecked, contributionsChecked, zeroOffset, offsetsChecked}
-use Rattle.meter.specs.Meter.{HasSpace}
+use Rattle.meter.specs.Meter.{accounts, HasSpace}
 use Rattle.round.specs.Round.{ownerAt, figures}
 use Rattle.round.specs.Claim.{LengthsRight, Conditions, Promise}
 use Rattle.words.specs.Encode.{fileOf}
-use Rattle.round.specs.Example.{file, wires, outputs, contributions, values, lent}
+use Rattle.round.specs.Example.{file, wires, outputs, contributions, values, meter, lent}
 use Rattle.round.proofs.RealPad.{shake-claim}
 
 reads : readFile file ≡ accepted wires outputs
@@ -82,8 +82,8 @@ values-size : length values ≡ inputsIn wires
 unfolding values wires inputsIn
 values-size = refl
 
-space : HasSpace 0 (rowsIn wires)
-unfolding wires sumTo recipe
+space : HasSpace meter (rowsIn wires)
+unfolding wires sumTo recipe meter
 space = omega arith
 
 wires-read : readFile file .wires ≡ wires
@@ -96,7 +96,11 @@ outputs-read = ap (λ (r : Read). r .outputs) reads
 as-read : (P : List Wire → Type 0) → P wires → P (readFile file .wires)
 as-read P = subst P (sym wires-read)
 
-pub conditions : Conditions file 2 1 contributions values 0 lent
+account : meter .account < accounts
+unfolding meter
+account = omega arith
+
+pub conditions : Conditions file 2 1 contributions values meter lent
 conditions =
     record {
       accepted = rw reads;
@@ -111,16 +115,17 @@ conditions =
       lengths =
           as-read (λ ws. LengthsRight 2 1 ws (readFile file .outputs) lent)
           (subst (λ (outs : List ℕ). LengthsRight 2 1 wires outs lent) (sym outputs-read) lengths);
-      space = as-read (λ ws. HasSpace 0 (rowsIn ws)) space;
+      account = account;
+      space = as-read (λ ws. HasSpace meter (rowsIn ws)) space;
     }
 
-promise : (round : ℕ) → Promise (shakePad round) file 2 1 contributions values 0 lent
-promise round = shake-claim round file 2 1 contributions values 0 lent conditions
+promise : (round : ℕ) → Promise (shakePad round) file 2 1 contributions values meter lent
+promise round = shake-claim round file 2 1 contributions values meter lent conditions
 
 plain : plainOutputs file wires outputs values ≡ 1 ∷ 3 ∷ []
 unfolding plainOutputs plainValues plainTo plainBy grown extended add mul blocks file fileOf bytesOf wires outputs values
 plain = refl
 
-pub both-decode : (round party : ℕ) → party < 2 → figures (shakePad round) file 2 1 contributions values 0 lent party ≡ 1 ∷ 3 ∷ []
+pub both-decode : (round party : ℕ) → party < 2 → figures (shakePad round) file 2 1 contributions values meter lent party ≡ 1 ∷ 3 ∷ []
 both-decode round party h =
     promise round .delivers .decoded party h ∙ ap₂ (λ (ws : List Wire) (outs : List ℕ). plainOutputs file ws outs values) wires-read outputs-read ∙ plain

@@ -10,6 +10,7 @@ use Rattle.residue.specs.Residue.{add}
 use Rattle.residue.proofs.Vectors.{add-below}
 use Rattle.checks.proofs.Passed.{afterwards-passed}
 use Rattle.checks.specs.declared.Answer.the-variants.{Accepted}
+use Rattle.meter.specs.Meter.{Charge}
 use Rattle.words.specs.declared.gate.Wire.{Wire}
 use Rattle.circuit.specs.Wires.{modulusAt, inputsIn}
 use Rattle.circuit.specs.File.{readFile}
@@ -30,7 +31,7 @@ map-at f [] i h = absurd (not-suc-le-zero h)
 map-at f (x ∷ xs) zero h = refl
 map-at f (x ∷ xs) (suc i) h = map-at f xs i (le-of-suc-le-suc h)
 
-module _ {pad : Pad} {file : List ℕ} {n K : ℕ} {contributions values : List ℕ} {meter : ℕ} {lent : Lent}
+module _ {pad : Pad} {file : List ℕ} {n K : ℕ} {contributions values : List ℕ} {meter : Charge} {lent : Lent}
     (start : Start pad file n K contributions values meter lent) where
   abbrev wires : List Wire
   wires = readFile file .wires

@@ -6,6 +6,7 @@ use Prim.Native.Nat.{ℕ, _<_}
 use lib.ListN.{length, getD}
 use Rattle.checks.proofs.Passed.{afterwards-passed}
 use Rattle.checks.specs.declared.Answer.the-variants.{Accepted}
+use Rattle.meter.specs.Meter.{Charge}
 use Rattle.words.specs.declared.gate.Wire.{Wire}
 use Rattle.circuit.specs.Wires.{inputsIn}
 use Rattle.circuit.specs.File.{readFile}
@@ -20,7 +21,7 @@ use Rattle.round.proofs.Start.{Start}
 use Rattle.round.proofs.Shared.{session-fits, owners-fit}
 use Rattle.round.proofs.Masks.{input-mask, output-mask, output-masks}
 
-module _ {pad : Pad} {file : List ℕ} {n K : ℕ} {contributions values : List ℕ} {meter : ℕ} {lent : Lent}
+module _ {pad : Pad} {file : List ℕ} {n K : ℕ} {contributions values : List ℕ} {meter : Charge} {lent : Lent}
     (start : Start pad file n K contributions values meter lent) where
   abbrev wires : List Wire
   wires = readFile file .wires
@@ -44,6 +45,7 @@ module _ {pad : Pad} {file : List ℕ} {n K : ℕ} {contributions values : List 
         masksLength = start .conditions .lengths .inputMasks;
         outsLength = start .conditions .lengths .outputMasks;
         offsets = start .conditions .offsets;
+        account = start .conditions .account;
         space = start .conditions .space;
       })
 

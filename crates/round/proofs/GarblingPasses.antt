@@ -2,13 +2,12 @@
 -- Assumes nothing.
 use mathlib.Core.Path.{_≡_}
 use mathlib.Core.List.{List}
-use Prim.Native.Nat.{ℕ, _*_}
+use Prim.Native.Nat.{ℕ, _*_, _<_}
 use lib.ListN.{length}
 use Rattle.checks.specs.declared.Answer.the-variants.{Accepted}
 use Rattle.checks.proofs.Passed.{andThen-passed}
-use Rattle.meter.specs.Meter.{HasSpace}
-use Rattle.meter.proofs.Totals.{space-passed}
-use Rattle.words.specs.declared.gate.Wire.{Wire}
+use Rattle.meter.specs.Meter.{accounts, Charge, HasSpace}
+use Rattle.meter.proofs.Totals.{account-passed, space-passed}
 use Rattle.circuit.specs.Wires.{inputsIn}
 use Rattle.circuit.specs.File.{readFile}
 use Rattle.counts.specs.Counts.{rowsIn}
@@ -19,7 +18,7 @@ use Rattle.session.proofs.Sessions.{SessionFits, OwnersFit, session-passed, own
 use Rattle.round.proofs.Contributions.{contributions-passed}
 
 -- what garbling is given
-pub record GarbleFits (file : List ℕ) (n K : ℕ) (contributions rows masks outs : List ℕ) (meter : ℕ) : Type 0 where
+pub record GarbleFits (file : List ℕ) (n K : ℕ) (contributions rows masks outs : List ℕ) (meter : Charge) : Type 0 where
   pub read : readFile file .answer ≡ Accepted
   pub session : SessionFits n K
   pub owners : OwnersFit n (readFile file .wires)
@@ -28,9 +27,10 @@ pub record GarbleFits (file : List ℕ) (n K : ℕ) (contributions rows masks ou
   pub masksLength : length masks ≡ inputsIn (readFile file .wires)
   pub outsLength : length outs ≡ length (readFile file .outputs)
   pub offsets : offsetsChecked n K (readFile file .wires) contributions ≡ Accepted
+  pub account : meter .account < accounts
   pub space : HasSpace meter (rowsIn (readFile file .wires))
 
-module _ (file : List ℕ) (n K : ℕ) (contributions rows masks outs : List ℕ) (meter : ℕ) where
+module _ (file : List ℕ) (n K : ℕ) (contributions rows masks outs : List ℕ) (meter : Charge) where
   pub garble-passed : GarbleFits file n K contributions rows masks outs meter → garbleChecked file n K contributions rows masks outs meter ≡ Accepted
   unfolding garbleChecked
   garble-passed r =
@@ -39,6 +39,7 @@ module _ (file : List ℕ) (n K : ℕ) (contributions rows masks outs : List ℕ
       (andThen-passed (session-passed (r .session))
       (andThen-passed (owners-passed (r .owners))
       (andThen-passed (lengths-passed (rw (r .contributed .size, r .rowsLength, r .masksLength, r .outsLength)))
+      (andThen-passed (account-passed (meter .account) (r .account))
       (andThen-passed (contributions-passed n K (readFile file .wires) contributions (r .contributed))
-      (r .offsets))))))
+      (r .offsets)))))))
       (space-passed meter (rowsIn (readFile file .wires)) (r .space))

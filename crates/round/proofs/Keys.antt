@@ -14,6 +14,7 @@ use Rattle.residue.specs.Vector.{keyV}
 use Rattle.residue.proofs.Vectors.{keyV-length, keyV-below}
 use Rattle.checks.proofs.Passed.{afterwards-passed}
 use Rattle.checks.specs.declared.Answer.the-variants.{Accepted}
+use Rattle.meter.specs.Meter.{Charge}
 use Rattle.words.specs.declared.gate.Wire.{Wire}
 use Rattle.circuit.specs.Wires.{modulusAt, inputsIn}
 use Rattle.circuit.specs.File.{readFile}
@@ -34,7 +35,7 @@ use Rattle.round.proofs.Inputs.{input-made, input-recorded, input-zeroK
 use Rattle.round.proofs.Own.{own-contribution, own-alone, own-offsets, own-part}
 use Rattle.round.proofs.External.{externals-size, external-fits}
 
-module _ {pad : Pad} {file : List ℕ} {n K : ℕ} {contributions values : List ℕ} {meter : ℕ} {lent : Lent}
+module _ {pad : Pad} {file : List ℕ} {n K : ℕ} {contributions values : List ℕ} {meter : Charge} {lent : Lent}
     (start : Start pad file n K contributions values meter lent) where
   abbrev wires : List Wire
   wires = readFile file .wires

@@ -1,7 +1,7 @@
 -- At each party opening accepts: its input keys fit, every byte is below its modulus and every search finds its multiplier. So on every wire
 -- it writes the keys and the external value that opening comes to.
 -- Assumes nothing.
-use mathlib.Core.Path.{_≡_, refl, sym, ap, ap₂, _∙_}
+use mathlib.Core.Path.{_≡_, sym, ap, ap₂, _∙_}
 use mathlib.Core.Bool.{not}
 use mathlib.Core.List.{List}
 use Prim.Native.Nat.{ℕ, _*_, _<_}
@@ -17,8 +17,9 @@ use Rattle.residue.proofs.Vectors.{keyV-length}
 use Rattle.checks.specs.declared.Refusal.the-variants.{NoMultiplier}
 use Rattle.checks.proofs.Passed.{andThen-passed, noneBad-passed, afterwards-passed}
 use Rattle.checks.specs.declared.Answer.the-variants.{Accepted}
+use Rattle.meter.specs.Meter.{Charge}
 use Rattle.words.specs.declared.gate.Wire.{Wire}
-use Rattle.circuit.specs.Wires.{wireAt, modulusAt}
+use Rattle.circuit.specs.Wires.{modulusAt}
 use Rattle.circuit.specs.File.{readFile}
 use Rattle.counts.specs.Counts.{rowsOf, rowsIn}
 use Rattle.scheme.specs.Draw.{Draw, drawn}
@@ -46,7 +47,7 @@ use Rattle.round.proofs.RowBytes.{rows-below}
 use Rattle.round.proofs.Parties.{zeroKey-part}
 use Rattle.round.proofs.Wires.{keys-of, externals-long, external-of}
 
-module _ {pad : Pad} {file : List ℕ} {n K : ℕ} {contributions values : List ℕ} {meter : ℕ} {lent : Lent}
+module _ {pad : Pad} {file : List ℕ} {n K : ℕ} {contributions values : List ℕ} {meter : Charge} {lent : Lent}
     (start : Start pad file n K contributions values meter lent) where
   abbrev wires : List Wire
   wires = readFile file .wires

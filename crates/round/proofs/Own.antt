@@ -5,6 +5,7 @@ use mathlib.Core.List.{List}
 use Prim.Native.Nat.{ℕ, _<_}
 use lib.ListN.{length}
 use Rattle.checks.specs.declared.Answer.the-variants.{Accepted}
+use Rattle.meter.specs.Meter.{Charge}
 use Rattle.words.specs.declared.gate.Wire.{Wire}
 use Rattle.circuit.specs.File.{readFile}
 use Rattle.scheme.specs.Contribution.{contributionSize}
@@ -16,7 +17,7 @@ use Rattle.scheme.specs.Drawn.{OwnPart}
 use Rattle.round.specs.Round.{Lent, contributionOf}
 use Rattle.round.proofs.Start.{Start}
 
-module _ {pad : Pad} {file : List ℕ} {n K : ℕ} {contributions values : List ℕ} {meter : ℕ} {lent : Lent}
+module _ {pad : Pad} {file : List ℕ} {n K : ℕ} {contributions values : List ℕ} {meter : Charge} {lent : Lent}
     (start : Start pad file n K contributions values meter lent) (party : ℕ) (h : party < n) where
   abbrev wires : List Wire
   wires = readFile file .wires

@@ -3,6 +3,7 @@
 use mathlib.Core.Path.{ap, subst}
 use mathlib.Core.List.{List}
 use Prim.Native.Nat.{ℕ, _<_}
+use Rattle.meter.specs.Meter.{Charge}
 use Rattle.circuit.specs.File.{readFile}
 use Rattle.pads.specs.Pad.{Pad}
 use Rattle.session.proofs.Sessions.{PartiesFit, SessionFits, OwnersFit}
@@ -10,7 +11,7 @@ use Rattle.round.specs.Round.{Lent, ownerOf}
 use Rattle.scheme.proofs.Bounds.{input-first}
 use Rattle.round.proofs.Start.{Start}
 
-module _ {pad : Pad} {file : List ℕ} {n K : ℕ} {contributions values : List ℕ} {meter : ℕ} {lent : Lent}
+module _ {pad : Pad} {file : List ℕ} {n K : ℕ} {contributions values : List ℕ} {meter : Charge} {lent : Lent}
     (start : Start pad file n K contributions values meter lent) where
   pub parties-fit : PartiesFit n
   parties-fit = record { least = start .conditions .parties .0; most = start .conditions .parties .1 }

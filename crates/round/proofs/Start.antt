@@ -7,6 +7,7 @@ use Prim.Native.Nat.{ℕ, _<_}
 use lib.ListN.{length, getD}
 use Rattle.lists.specs.Blocks.{nthPiece}
 use Rattle.checks.specs.declared.Answer.the-variants.{Accepted}
+use Rattle.meter.specs.Meter.{Charge}
 use Rattle.words.specs.declared.gate.Wire.{Wire}
 use Rattle.circuit.specs.Wires.{inputsIn}
 use Rattle.circuit.specs.File.{readFile}
@@ -39,7 +40,7 @@ pub record Gathers (wires : List Wire) : Type 0 where
   pub inside : (w : ℕ) → w < inputsIn wires → placeAt wires w < length (ownInputs (ownerAt wires w) wires)
   pub there : (w : ℕ) → w < inputsIn wires → getD (ownInputs (ownerAt wires w) wires) (placeAt wires w) 0 ≡ w
 
-pub record Start (pad : Pad) (file : List ℕ) (n K : ℕ) (contributions values : List ℕ) (meter : ℕ) (lent : Lent) : Type 0 where
+pub record Start (pad : Pad) (file : List ℕ) (n K : ℕ) (contributions values : List ℕ) (meter : Charge) (lent : Lent) : Type 0 where
   pub pads : PadSize pad
   pub conditions : Conditions file n K contributions values meter lent
   pub accepted : AcceptedCircuit file (readFile file .wires) (readFile file .outputs)

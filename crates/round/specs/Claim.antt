@@ -19,7 +19,7 @@ use Rattle.scheme.specs.Zero.{zeroKey, mask}
 use Rattle.pads.specs.Pad.{Pad}
 use Rattle.plain.specs.Plain.{plainValues, plainOutputs}
 use Rattle.scheme.specs.Bytes.{contributionsChecked, offsetsChecked}
-use Rattle.meter.specs.Meter.{HasSpace}
+use Rattle.meter.specs.Meter.{accounts, Charge, HasSpace}
 use Rattle.round.specs.Round as round
 use Rattle.round.specs.Round.{Lent, ownerAt, contributionOf}
 
@@ -43,7 +43,7 @@ module _ (file : List ℕ) (n K : ℕ) (contributions values : List ℕ) where
   outputs = readFile file .outputs
 
   -- the conditions of demand 3
-  pub record Conditions (meter : ℕ) (lent : Lent) : Type 0 where
+  pub record Conditions (meter : Charge) (lent : Lent) : Type 0 where
     -- "every circuit that the reader accepts"
     pub accepted : readFile file .answer ≡ Accepted
     -- "two to eight seats taking part"
@@ -60,7 +60,9 @@ module _ (file : List ℕ) (n K : ℕ) (contributions values : List ℕ) where
     pub valuesBelow : (w : ℕ) → w < inputsIn wires → getD values w 0 < modulusAt wires w
     -- "the lent lengths [are] right"
     pub lengths : LengthsRight n K wires outputs lent
-    -- "the row meter [has] space"
+    -- order 6: "accounts 0 to 7, and each garbling names one"
+    pub account : meter .account < accounts
+    -- "the row meter [has] space"; order 6: "the named total must have it"
     pub space : HasSpace meter (rowsIn wires)
 
   -- wire w's value, "being the plain circuit's", and its mask, of what all parties drew
@@ -95,7 +97,7 @@ module _ (file : List ℕ) (n K : ℕ) (contributions values : List ℕ) where
     pub plainDecoded : plain ≡ plainOutputs file wires outputs values
 
 -- what demand 3 promises of the round
-pub record Promise (pad : Pad) (file : List ℕ) (n K : ℕ) (contributions values : List ℕ) (meter : ℕ) (lent : Lent) : Type 0 where
+pub record Promise (pad : Pad) (file : List ℕ) (n K : ℕ) (contributions values : List ℕ) (meter : Charge) (lent : Lent) : Type 0 where
   -- "every call of the round in document 01 accepts, garbling and each seat's opening included"
   pub garbles : round.garbling pad file n K contributions values meter lent ≡ Accepted
   pub hasExternals : (party : ℕ) → party < n → round.externalValues pad file n K contributions values meter lent party ≡ Accepted

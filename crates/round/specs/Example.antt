@@ -8,6 +8,7 @@ use Rattle.words.specs.declared.gate.Wire.{Wire}
 use Rattle.words.specs.Encode.{fileOf}
 use Rattle.circuit.specs.Wires.{inputsIn}
 use Rattle.counts.specs.Counts.{rowsIn, inputsOf}
+use Rattle.meter.specs.Meter.{carried, Charge}
 use Rattle.round.specs.Round.{Lent}
 
 unfoldable pub file : List ℕ
@@ -62,6 +63,10 @@ contributions =
 
 unfoldable pub values : List ℕ
 values = 3 ∷ 4 ∷ 1 ∷ []
+
+-- a unit that had garbled 1,000 rows before it knew accounts; this garbling names account 3
+unfoldable pub meter : Charge
+meter = record { totals = carried 1000; account = 3 }
 
 -- zeros are lent
 unfoldable pub lent : Lent

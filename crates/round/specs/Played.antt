@@ -8,7 +8,7 @@ use Rattle.words.specs.declared.gate.Wire.{Wire}
 use Rattle.circuit.specs.Wires.{inputsIn}
 use Rattle.circuit.specs.File.{readFile}
 use Rattle.counts.specs.Counts.{rowsIn}
-use Rattle.meter.specs.Meter.{charged}
+use Rattle.meter.specs.Meter.{Charge, charged}
 use Rattle.plain.specs.Call.{PlainCall}
 use Rattle.calls.specs.Garble.{GarbleCall}
 use Rattle.calls.specs.Externals.{ExternalsCall}
@@ -29,7 +29,7 @@ pub record Results : Type 0 where
   pub rows : List ℕ
   pub inputMasks : List ℕ
   pub outputMasks : List ℕ
-  pub meter : ℕ
+  pub totals : List ℕ
   pub externals : ℕ → List ℕ
   pub keys : ℕ → List ℕ
   pub wireKeys : ℕ → List ℕ
@@ -37,7 +37,7 @@ pub record Results : Type 0 where
   pub decoded : ℕ → List ℕ
   pub plain : List ℕ
 
-module _ (file : List ℕ) (n K round : ℕ) (contributions values : List ℕ) (meter : ℕ) (lent : Lent) (r : Results) where
+module _ (file : List ℕ) (n K round : ℕ) (contributions values : List ℕ) (meter : Charge) (lent : Lent) (r : Results) where
   abbrev wires : List Wire
   wires = readFile file .wires
 
@@ -54,7 +54,7 @@ module _ (file : List ℕ) (n K round : ℕ) (contributions values : List ℕ) (
   -- the calls, in the order of a round
   pub record Played : Type 0 where
     pub garble : Answered (λ number place. GarbleCall file n K round contributions (lent .rows) (lent .inputMasks) (lent .outputMasks) meter
-        number place (r .rows) (r .inputMasks) (r .outputMasks) (r .meter))
+        number place (r .rows) (r .inputMasks) (r .outputMasks) (r .totals))
     pub externals : (party : ℕ) → party < n → Answered (λ number place. ExternalsCall file n party (ownOf wires values party)
         (ownOf wires (r .inputMasks) party) (lent .externals party) number place (r .externals party))
     pub inputKeys : (party : ℕ) → party < n → Answered (λ number place. InputKeysCall file n K party (contribution party) allExternals
@@ -74,7 +74,7 @@ module _ (file : List ℕ) (n K round : ℕ) (contributions values : List ℕ) (
     pub opens : (party : ℕ) (h : party < n) → played .opening party h .number ≡ 0
     pub decodes : (party : ℕ) (h : party < n) → played .decode party h .number ≡ 0
     pub evaluates : played .plainly .number ≡ 0
-    -- the meter holds the rows of this circuit besides
-    pub counted : r .meter ≡ charged meter (rowsIn wires)
+    -- the named account, and no other, is charged the rows of this circuit
+    pub counted : r .totals ≡ charged meter (rowsIn wires)
     -- and what the rest of it says of what they left
     pub delivers : Delivered file n K contributions values (r .wireKeys) (r .wireExternals) (r .decoded) (r .plain)

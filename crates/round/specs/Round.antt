@@ -6,6 +6,7 @@ use Prim.Native.Nat.{ℕ}
 use lib.ListN.{getD}
 use Rattle.lists.specs.Blocks.{blocks, tab, nthPiece, sumTo}
 use Rattle.checks.specs.declared.Answer.{Answer}
+use Rattle.meter.specs.Meter.{Charge}
 use Rattle.words.specs.declared.gate.Gate.{Gate}
 use Rattle.words.specs.declared.gate.Gate.the-variants.{Input, Add, Scale, Multiply, Project, Select}
 use Rattle.words.specs.declared.gate.Wire.{Wire}
@@ -62,7 +63,7 @@ inWireOrder wires own = tab (inputsIn wires) (λ w. getD (own (ownerAt wires w))
 abbrev pub byInput : ℕ → ℕ → ℕ → (ℕ → List ℕ) → List ℕ
 byInput n K inputs own = blocks inputs (λ w. blocks n (λ party. nthPiece (own party) K w))
 
-module _ (pad : Pad) (file : List ℕ) (n K : ℕ) (contributions values : List ℕ) (meter : ℕ) (lent : Lent) where
+module _ (pad : Pad) (file : List ℕ) (n K : ℕ) (contributions values : List ℕ) (meter : Charge) (lent : Lent) where
   abbrev wires : List Wire
   wires = readFile file .wires
 

@@ -2,7 +2,7 @@
 -- Assumes nothing.
 use mathlib.Core.Path.{_≡_, sym, ap, ap₂, _∙_}
 use mathlib.Core.List.{List, [], _∷_}
-use Prim.Native.Nat.{ℕ, _*_, _≤_}
+use Prim.Native.Nat.{ℕ, _*_, _≤_, _<_}
 use native.Mathlib.Omega.{arith}
 use lib.ListN.{length}
 use Rattle.checks.specs.declared.Answer.{Answer}
@@ -26,14 +26,14 @@ use Rattle.scheme.specs.Rows.{garbledRows, inputMasks, outputMasks}
 use Rattle.session.specs.Session.{sessionChecked, ownersChecked, lengthsChecked}
 use Rattle.session.proofs.Sessions.{SessionFits, session-fits}
 use Rattle.session.proofs.Circuits.{held-of, given-is}
-use Rattle.meter.specs.Meter.{HasSpace, meterChecked, charged}
-use Rattle.meter.proofs.Totals.{passed-space}
-use Rattle.calls.specs.Garble.{garbleBytes, garbleLengths, garbleLent, garbleOwned, garbleAsked, garbleChecked, garbleRows, garbleInputMasks, garbleOutputMasks, garbleMeter, GarbleCall}
+use Rattle.meter.specs.Meter.{accounts, Charge, accountChecked, HasSpace, meterChecked, charged}
+use Rattle.meter.proofs.Totals.{passed-account, passed-space}
+use Rattle.calls.specs.Garble.{garbleBytes, garbleNamed, garbleLengths, garbleLent, garbleOwned, garbleAsked, garbleChecked, garbleRows, garbleInputMasks, garbleOutputMasks, garbleMeter, GarbleCall}
 use Rattle.row_calls.specs.Garbled.{Draws}
 use Rattle.zero.specs.Ready.{Contributed, drawnIn}
 use Rattle.party_calls.proofs.Ending.{lent-is, stage-next, stage-refused, stage-followed, read-met, check-accepted, circuit-accepted}
 
--- ---- 14, and then 16 and 17
+-- ---- 14, and then 25, 16 and 17
 
 four-same : {a b c d x y z t : ℕ} → a ≡ x → b ≡ y → c ≡ z → d ≡ t → _≡_ {A = List ℕ} (a ∷ b ∷ c ∷ d ∷ []) (x ∷ y ∷ z ∷ t ∷ [])
 four-same e f g h = rw (e, f, g, h)
@@ -48,8 +48,8 @@ module _ {circuit : Circuit} (held : Held circuit) (n K : ℕ) (contributions : 
   abbrev lengths : Answer
   lengths = garbleLengths n K (wiresIn circuit) (outputsIn circuit) contributions rows masks outs
 
-  abbrev rest : ℕ → ℕ → Answer
-  rest a b = garbleBytes a b (wiresIn circuit) contributions
+  abbrev rest : ℕ → ℕ → ℕ → Answer
+  rest a b account = garbleNamed a b (wiresIn circuit) contributions account
 
   pub lengths-met : {parties long size raw count : ℕ} → parties ≡ n → long ≡ K → Counts 429056 (contributionSize long (wiresIn circuit)) size
       → Counts 524288 (rowsIn (wiresIn circuit)) raw → count ≡ raw → {answer : Answer}
@@ -70,11 +70,11 @@ module _ {circuit : Circuit} (held : Held circuit) (n K : ℕ) (contributions : 
           size = lent-is _ _ (sym m ∙ e) 0 ∙ ap₂ (λ (a b : ℕ). a * contributionSize b ws) (sym p) (sym l);
         }
 
-    pub draws-next : answer ≡ Accepted → {r : Answer} → r ≡ rest parties long → r ≡ andThen lengths (rest n K)
-    draws-next e k = stage-next m e (k ∙ ap₂ rest p l)
+    pub draws-next : (account : ℕ) → answer ≡ Accepted → {r : Answer} → r ≡ rest parties long account → r ≡ andThen lengths (rest n K account)
+    draws-next account e k = stage-next m e (k ∙ ap₂ (λ (a b : ℕ). rest a b account) p l)
 
-    pub draws-stop : {reason : Refusal} {place : ℕ} → answer ≡ Refused reason place → Refused reason place ≡ andThen lengths (rest n K)
-    draws-stop e = stage-refused m (rest n K) e
+    pub draws-stop : (account : ℕ) {reason : Refusal} {place : ℕ} → answer ≡ Refused reason place → Refused reason place ≡ andThen lengths (rest n K account)
+    draws-stop account e = stage-refused m (rest n K account) e
 
 -- ---- 11
 
@@ -82,18 +82,18 @@ module _ (n K : ℕ) {session : Answer} (m : session ≡ sessionChecked n K) whe
   pub session-in-range : session ≡ Accepted → (n ≤ 8) × (K ≤ 128)
   session-in-range e = let f = session-fits n K (sym m ∙ e) in (f .parties .most, f .most)
 
-  module _ (wires : List Wire) (outputs contributions : List ℕ) (rows masks outs : ℕ) where
-    pub garble-next : session ≡ Accepted → {r : Answer} → r ≡ garbleOwned n K wires outputs contributions rows masks outs
-        → r ≡ garbleAsked n K wires outputs contributions rows masks outs
+  module _ (wires : List Wire) (outputs contributions : List ℕ) (rows masks outs account : ℕ) where
+    pub garble-next : session ≡ Accepted → {r : Answer} → r ≡ garbleOwned n K wires outputs contributions rows masks outs account
+        → r ≡ garbleAsked n K wires outputs contributions rows masks outs account
     garble-next e k = stage-next m e k
 
-    pub garble-stop : {reason : Refusal} {place : ℕ} → session ≡ Refused reason place → Refused reason place ≡ garbleAsked n K wires outputs contributions rows masks outs
-    garble-stop e = stage-refused m (garbleOwned n K wires outputs contributions rows masks outs) e
+    pub garble-stop : {reason : Refusal} {place : ℕ} → session ≡ Refused reason place → Refused reason place ≡ garbleAsked n K wires outputs contributions rows masks outs account
+    garble-stop e = stage-refused m (garbleOwned n K wires outputs contributions rows masks outs account) e
 
 -- ---- the whole call
 
-module _ {reading : Reading} (file : List ℕ) (n K : ℕ) (contributions rows masks outs : List ℕ) (meter : ℕ) (h : Holds reading (readFile file)) {check earlier space answer : Answer} {count : ℕ}
-    (checked : check ≡ garbleAsked n K (wiresIn (reading .circuit)) (outputsIn (reading .circuit)) contributions (length rows) (length masks) (length outs))
+module _ {reading : Reading} (file : List ℕ) (n K : ℕ) (contributions rows masks outs : List ℕ) (meter : Charge) (h : Holds reading (readFile file)) {check earlier space answer : Answer} {count : ℕ}
+    (checked : check ≡ garbleAsked n K (wiresIn (reading .circuit)) (outputsIn (reading .circuit)) contributions (length rows) (length masks) (length outs) (meter .account))
     (joined : earlier ≡ andThen (reading .answer) check) (counted : Counts 524288 (rowsIn (wiresIn (reading .circuit))) count) (spaced : space ≡ meterChecked meter count)
     (last : answer ≡ andThen earlier space) where
   abbrev circuit : Circuit
@@ -116,13 +116,13 @@ module _ {reading : Reading} (file : List ℕ) (n K : ℕ) (contributions rows m
   met =
       stage-followed
       (read-met file h check joined
-      (checked ∙ ap₂ (λ (w : List Wire) (o : List ℕ). garbleAsked n K w o contributions (length rows) (length masks) (length outs)) (h .wires) (h .outputs)))
+      (checked ∙ ap₂ (λ (w : List Wire) (o : List ℕ). garbleAsked n K w o contributions (length rows) (length masks) (length outs) (meter .account)) (h .wires) (h .outputs)))
       (spaced ∙ ap (meterChecked meter) rows-are) last
 
-  abbrev Ends : ℕ → Answer → List ℕ → List ℕ → List ℕ → ℕ → Type 0
+  abbrev Ends : ℕ → Answer → List ℕ → List ℕ → List ℕ → List ℕ → Type 0
   Ends round a = GarbleCall file n K round contributions rows masks outs meter (numberIn a) (placeIn a)
 
-  pub garble-refused : {round : ℕ} {reason : Refusal} {place : ℕ} → answer ≡ Refused reason place → Ends round (Refused reason place) rows masks outs meter
+  pub garble-refused : {round : ℕ} {reason : Refusal} {place : ℕ} → answer ≡ Refused reason place → Ends round (Refused reason place) rows masks outs (meter .totals)
   unfolding garbleRows garbleInputMasks garbleOutputMasks garbleMeter
   garble-refused {round} {reason} {place} e =
       let a : fate ≡ Refused reason place = sym met ∙ e in
@@ -131,7 +131,7 @@ module _ {reading : Reading} (file : List ℕ) (n K : ℕ) (contributions rows m
         rowsIs = afterwards-refused a _ rows;
         inputMasksIs = afterwards-refused a _ masks;
         outputMasksIs = afterwards-refused a _ outs;
-        meterIs = afterwards-refused a _ meter;
+        meterIs = afterwards-refused a _ (meter .totals);
       }
 
   module _ (e : answer ≡ Accepted) where
@@ -139,7 +139,7 @@ module _ {reading : Reading} (file : List ℕ) (n K : ℕ) (contributions rows m
     read = andThen-left earlier space (sym last ∙ e)
 
     abbrev buffers : Answer
-    buffers = garbleLent n K wires outputs contributions (length rows) (length masks) (length outs)
+    buffers = garbleLent n K wires outputs contributions (length rows) (length masks) (length outs) (meter .account)
 
     all : andThen (sessionChecked n K) (andThen (ownersChecked n wires) buffers) ≡ Accepted
     all = sym checked ∙ check-accepted file h check joined read
@@ -150,9 +150,19 @@ module _ {reading : Reading} (file : List ℕ) (n K : ℕ) (contributions rows m
     buffersPassed : buffers ≡ Accepted
     buffersPassed = andThen-right (ownersChecked n wires) buffers (andThen-right (sessionChecked n K) (andThen (ownersChecked n wires) buffers) all)
 
-    lengthsPassed : garbleLengths n K wires outputs contributions (length rows) (length masks) (length outs) ≡ Accepted
-    lengthsPassed =
-        andThen-left (garbleLengths n K wires outputs contributions (length rows) (length masks) (length outs)) (garbleBytes n K wires contributions) buffersPassed
+    abbrev sizes : Answer
+    sizes = garbleLengths n K wires outputs contributions (length rows) (length masks) (length outs)
+
+    abbrev named : Answer
+    named = garbleNamed n K wires contributions (meter .account)
+
+    lengthsPassed : sizes ≡ Accepted
+    lengthsPassed = andThen-left sizes named buffersPassed
+
+    pub garble-account : meter .account < accounts
+    garble-account =
+        passed-account (meter .account)
+        (andThen-left (accountChecked (meter .account)) (garbleBytes n K wires contributions) (andThen-right sizes named buffersPassed))
 
     pub garble-most : K ≤ 128
     garble-most = fits .most
@@ -185,13 +195,13 @@ module _ {reading : Reading} (file : List ℕ) (n K : ℕ) (contributions rows m
       drawn-is =
           ap₂ (λ (a b : ℕ). drawn a b wires contributions) p l ∙ ap (λ (w : List Wire). drawn n K w contributions) (h .wires)
 
-      pub garble-written : {round : ℕ} {rows′ masks′ outs′ : List ℕ} {meter′ : ℕ}
+      pub garble-written : {round : ℕ} {rows′ masks′ outs′ : List ℕ} {totals′ : List ℕ}
           → (rows′ ≡ garbledRows (shakePad round) parties long file (wiresIn (reading .circuit)) (drawnIn (reading .circuit) parties long contributions))
           × ((masks′ ≡ inputMasks (wiresIn (reading .circuit)) (drawnIn (reading .circuit) parties long contributions))
           × (outs′ ≡ outputMasks (wiresIn (reading .circuit)) (outputsIn (reading .circuit)) (drawnIn (reading .circuit) parties long contributions)))
-          → meter′ ≡ charged meter count → Ends round Accepted rows′ masks′ outs′ meter′
+          → totals′ ≡ charged meter count → Ends round Accepted rows′ masks′ outs′ totals′
       unfolding garbleRows garbleInputMasks garbleOutputMasks garbleMeter
-      garble-written {round} {rows′} {masks′} {outs′} {meter′} w r =
+      garble-written {round} {rows′} {masks′} {outs′} {totals′} w r =
           let a : fate ≡ Accepted = sym met ∙ e in
           record {
             answer = reports (sym a);
@@ -206,5 +216,5 @@ module _ {reading : Reading} (file : List ℕ) (n K : ℕ) (contributions rows m
                 ∙ ap (λ (o : List ℕ). outputMasks wires o (drawnIn circuit parties long contributions)) (h .outputs)
                 ∙ ap₂ (λ (v : List Wire) (d : Draw). outputMasks v (readFile file .outputs) d) (h .wires) drawn-is
                 ∙ sym (afterwards-passed a _ outs);
-            meterIs = r ∙ ap (charged meter) rows-are ∙ sym (afterwards-passed a _ meter);
+            meterIs = r ∙ ap (charged meter) rows-are ∙ sym (afterwards-passed a _ (meter .totals));
           }

@@ -1,10 +1,10 @@
-// Garbling as a call: rows, input masks and output masks from the contributions of all parties, and the row meter charged.
+// Garbling as a call: rows, input masks and output masks from the contributions of all parties, and the named account of the row meter charged.
 ghost use mathlib.Core.Path.{_≡_};
 ghost use Prim.Native.Nat.{_≤_};
 ghost use Rattle.checks.specs.Answer.{numberIn, placeIn};
 ghost use Rattle.circuit.specs.File.{readFile};
 ghost use Rattle.circuit.specs.Held.{wiresIn, outputsIn, Held, Holds};
-ghost use Rattle.calls.specs.Garble.{garbleBytes, garbleLengths, garbleLent, garbleOwned, garbleAsked, GarbleCall};
+ghost use Rattle.calls.specs.Garble.{garbleBytes, garbleNamed, garbleLengths, garbleLent, garbleOwned, garbleAsked, GarbleCall};
 ghost use Rattle.row_calls.specs.Garbled.{Draws};
 use checks::Answer;
 use checks::followed;
@@ -14,7 +14,8 @@ use circuit::read;
 use contribution::contribution_size;
 use contribution::contributions_checked;
 use contribution::offsets_checked;
-use meter::charged;
+use meter::account_checked;
+use meter::charge;
 use meter::meter_checked;
 use party_calls::counted;
 use session::AskedSession;
@@ -22,12 +23,6 @@ use session::Session;
 use session::length_checked;
 use session::owners_checked;
 use session::session_checked;
-
-// The answer, and what the row meter then holds.
-pub struct Metered {
-    pub answer: Answer,
-    pub meter: u32,
-}
 
 // How many bytes are lent for the rows, the input masks and the output masks.
 struct Lengths {
@@ -44,6 +39,16 @@ fn draws_checked(circuit: Circuit, n: usize, k: usize, contributions: &[u8]) -> 
     let bytes = contributions_checked(circuit, n, k, contributions);
     let offsets = offsets_checked(circuit, n, k, contributions);
     followed(bytes, offsets)
+}
+
+// The account, and then the bytes.
+fn named_checked(circuit: Circuit, n: usize, k: usize, contributions: &[u8], account: u32) -> Answer
+    requires { ⌜ Draws circuit n k (now contributions) ⌝ }
+    ensures { λ r. ⌜ r ≡ garbleNamed n k (wiresIn circuit) (now (contributions .entry)) account ⌝ }
+{
+    let named = account_checked(account);
+    let draws = draws_checked(circuit, n, k, contributions);
+    followed(named, draws)
 }
 
 // The lengths of what is lent.
@@ -65,38 +70,59 @@ fn lengths_checked(circuit: Circuit, n: u32, k: u32, contributions: &[u8], lent:
     followed(drawn, followed(lines, followed(masks, results)))
 }
 
-// Those, and where they are right the bytes.
-fn buffers_checked(circuit: Circuit, n: u32, k: u32, contributions: &[u8], lent: Lengths) -> Answer
+// Those, and where they are right the account and the bytes.
+fn buffers_checked(
+    circuit: Circuit,
+    n: u32,
+    k: u32,
+    contributions: &[u8],
+    lent: Lengths,
+    account: u32,
+) -> Answer
     requires { ⌜ Held circuit × ((n ≤ 8) × (k ≤ 128)) ⌝ }
-    ensures { λ r. ⌜ r ≡ garbleLent n k (wiresIn circuit) (outputsIn circuit) (now (contributions .entry)) (lent .rows) (lent .inputs) (lent .outputs) ⌝ }
+    ensures { λ r. ⌜ r ≡ garbleLent n k (wiresIn circuit) (outputsIn circuit) (now (contributions .entry)) (lent .rows) (lent .inputs) (lent .outputs) account ⌝ }
 {
     let parties = counted(n);
     let long = counted(k);
     let lengths = lengths_checked(circuit, n, k, contributions, lent);
     match lengths {
-        Answer::Accepted => draws_checked(circuit, parties, long, contributions),
+        Answer::Accepted => named_checked(circuit, parties, long, contributions, account),
         Answer::Refused(reason, place) => Answer::Refused(reason, place),
     }
 }
 
 // The owners, and then what is lent.
-fn garble_owned(circuit: Circuit, n: u32, k: u32, contributions: &[u8], lent: Lengths) -> Answer
+fn garble_owned(
+    circuit: Circuit,
+    n: u32,
+    k: u32,
+    contributions: &[u8],
+    lent: Lengths,
+    account: u32,
+) -> Answer
     requires { ⌜ Held circuit × ((n ≤ 8) × (k ≤ 128)) ⌝ }
-    ensures { λ r. ⌜ r ≡ garbleOwned n k (wiresIn circuit) (outputsIn circuit) (now (contributions .entry)) (lent .rows) (lent .inputs) (lent .outputs) ⌝ }
+    ensures { λ r. ⌜ r ≡ garbleOwned n k (wiresIn circuit) (outputsIn circuit) (now (contributions .entry)) (lent .rows) (lent .inputs) (lent .outputs) account ⌝ }
 {
     let owners = owners_checked(circuit, n);
-    let buffers = buffers_checked(circuit, n, k, contributions, lent);
+    let buffers = buffers_checked(circuit, n, k, contributions, lent, account);
     followed(owners, buffers)
 }
 
 // The session, and where it is in range the rest.
-fn garble_asked(circuit: Circuit, n: u32, k: u32, contributions: &[u8], lent: Lengths) -> Answer
+fn garble_asked(
+    circuit: Circuit,
+    n: u32,
+    k: u32,
+    contributions: &[u8],
+    lent: Lengths,
+    account: u32,
+) -> Answer
     requires { ⌜ Held circuit ⌝ }
-    ensures { λ r. ⌜ r ≡ garbleAsked n k (wiresIn circuit) (outputsIn circuit) (now (contributions .entry)) (lent .rows) (lent .inputs) (lent .outputs) ⌝ }
+    ensures { λ r. ⌜ r ≡ garbleAsked n k (wiresIn circuit) (outputsIn circuit) (now (contributions .entry)) (lent .rows) (lent .inputs) (lent .outputs) account ⌝ }
 {
     let session = session_checked(n, k);
     match session {
-        Answer::Accepted => garble_owned(circuit, n, k, contributions, lent),
+        Answer::Accepted => garble_owned(circuit, n, k, contributions, lent, account),
         Answer::Refused(reason, place) => Answer::Refused(reason, place),
     }
 }
@@ -110,24 +136,26 @@ fn garble_read(
     rows: &mut [u8],
     inputs: &mut [u8],
     outputs: &mut [u8],
-    meter: u32,
-) -> Metered
+    account: u32,
+    meter: &mut [u32; 8],
+) -> Answer
     requires { ⌜ Holds reading (readFile (now file)) ⌝ }
-    ensures { λ r. ⌜ GarbleCall (now (file .entry)) (asked .n) (asked .k) (asked .round) (now (contributions .entry)) (now (rows .entry)) (now (inputs .entry)) (now (outputs .entry)) meter
-        (numberIn (r .answer)) (placeIn (r .answer)) (now (rows .exit)) (now (inputs .exit)) (now (outputs .exit)) (r .meter) ⌝ }
+    ensures { λ r. ⌜ GarbleCall (now (file .entry)) (asked .n) (asked .k) (asked .round) (now (contributions .entry)) (now (rows .entry)) (now (inputs .entry)) (now (outputs .entry))
+        (record { totals = now (meter .entry); account = account })
+        (numberIn r) (placeIn r) (now (rows .exit)) (now (inputs .exit)) (now (outputs .exit)) (now (meter .exit)) ⌝ }
 {
     let read = reading.answer;
     let circuit = reading.circuit;
-    let unraised = meter;
     let lent = Lengths {
         rows: rows.len(),
         inputs: inputs.len(),
         outputs: outputs.len(),
     };
-    let checked = garble_asked(circuit, asked.n, asked.k, contributions, lent);
+    let checked = garble_asked(circuit, asked.n, asked.k, contributions, lent, account);
     let earlier = followed(read, checked);
     let count = counts::rows(circuit);
-    let answer = followed(earlier, meter_checked(meter, count));
+    let space = meter_checked(&*meter, account, count);
+    let answer = followed(earlier, space);
     match answer {
         Answer::Accepted => {
             let parties = counted(asked.n);
@@ -147,19 +175,14 @@ fn garble_read(
                 inputs,
                 outputs,
             );
-            Metered {
-                answer: Answer::Accepted,
-                meter: charged(meter, count),
-            }
+            charge(meter, account, count);
+            Answer::Accepted
         }
-        Answer::Refused(reason, place) => Metered {
-            answer: Answer::Refused(reason, place),
-            meter: unraised,
-        },
+        Answer::Refused(reason, place) => Answer::Refused(reason, place),
     }
 }
 
-// Garbles a circuit. Refused or not, the contract gives the answer, every byte of the three buffers lent, and the meter.
+// Garbles a circuit. Refused or not, the contract gives the answer, every byte of the three buffers lent, and every total of the meter.
 pub fn garble(
     file: &[u8],
     asked: AskedSession,
@@ -167,10 +190,12 @@ pub fn garble(
     rows: &mut [u8],
     inputs: &mut [u8],
     outputs: &mut [u8],
-    meter: u32,
-) -> Metered
-    ensures { λ r. ⌜ GarbleCall (now (file .entry)) (asked .n) (asked .k) (asked .round) (now (contributions .entry)) (now (rows .entry)) (now (inputs .entry)) (now (outputs .entry)) meter
-        (numberIn (r .answer)) (placeIn (r .answer)) (now (rows .exit)) (now (inputs .exit)) (now (outputs .exit)) (r .meter) ⌝ }
+    account: u32,
+    meter: &mut [u32; 8],
+) -> Answer
+    ensures { λ r. ⌜ GarbleCall (now (file .entry)) (asked .n) (asked .k) (asked .round) (now (contributions .entry)) (now (rows .entry)) (now (inputs .entry)) (now (outputs .entry))
+        (record { totals = now (meter .entry); account = account })
+        (numberIn r) (placeIn r) (now (rows .exit)) (now (inputs .exit)) (now (outputs .exit)) (now (meter .exit)) ⌝ }
 {
     let reading = read(file);
     garble_read(
@@ -181,6 +206,7 @@ pub fn garble(
         rows,
         inputs,
         outputs,
+        account,
         meter,
     )
 }

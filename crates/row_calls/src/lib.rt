@@ -4,6 +4,5 @@
 mod garbled;
 mod opened;
 
-pub use garbled::Metered;
 pub use garbled::garble;
 pub use opened::open_rows;

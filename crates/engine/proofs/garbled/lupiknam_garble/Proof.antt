@@ -1,4 +1,4 @@
--- `lupiknam_garble` meets its contract: the call's answer as number and place, and the meter. Assumes nothing.
+-- `lupiknam_garble` meets its contract: the call's answer as number and place, and every total of the meter. Assumes nothing.
 use borrow.Author.Needs.{needs}
 use Rattle.engine.proofs.Faces.{told-so}
 use Rattle.engine.proofs.garbled.lupiknam_garble.Statement.{statement}
@@ -13,4 +13,4 @@ lupiknam-garble-spec =
     (λ c. search needs)
     (λ c. search needs)
     (λ c. search needs)
-    (λ c. let d = c .before .before .before .before .before .before .before .garble .ensures in record { answer = told-so (c .before .before .before .before .before .before .before .garble .result .answer) (d .answer) (c .told .ensures); rowsIs = d .rowsIs; inputMasksIs = d .inputMasksIs; outputMasksIs = d .outputMasksIs; meterIs = d .meterIs }))
+    (λ c. let d = c .before .before .before .before .before .before .before .garble .ensures in record { answer = told-so (c .before .before .before .before .before .before .before .garble .result) (d .answer) (c .told .ensures); rowsIs = d .rowsIs; inputMasksIs = d .inputMasksIs; outputMasksIs = d .outputMasksIs; meterIs = d .meterIs }))

@@ -14,5 +14,5 @@ buffers-checked-spec =
     (λ c. search needs)
     (λ c κs. let s = c .before .before .before .before .before .before in draws-lent (s .pre .0) (s .args .n) (s .args .k) (s .args .contributions .now) (s .args .lent .rows) (s .args .lent .inputs) (s .args .lent .outputs) (c .before .before .lengths-checked .ensures) (c .before .before .before .before .counted .ensures) (c .before .before .before .counted2 .ensures) (s .pre .1 .0) (s .pre .1 .1) (c .enum-told .given .1))
     (λ c. search needs)
-    (λ c. let s = c .before .before .before .before .before .before .before in draws-next (s .pre .0) (s .args .n) (s .args .k) (s .args .contributions .now) (s .args .lent .rows) (s .args .lent .inputs) (s .args .lent .outputs) (c .before .before .before .lengths-checked .ensures) (c .before .before .before .before .before .counted .ensures) (c .before .before .before .before .counted2 .ensures) (c .before .enum-told .given .1) (c .draws-checked .ensures))
-    (λ c. let s = c .before .before .before .before .before .before .before in draws-stop (s .pre .0) (s .args .n) (s .args .k) (s .args .contributions .now) (s .args .lent .rows) (s .args .lent .inputs) (s .args .lent .outputs) (c .before .before .before .lengths-checked .ensures) (c .before .before .before .before .before .counted .ensures) (c .before .before .before .before .counted2 .ensures) (c .before .lengths .given .1)))
+    (λ c. let s = c .before .before .before .before .before .before .before in draws-next (s .pre .0) (s .args .n) (s .args .k) (s .args .contributions .now) (s .args .lent .rows) (s .args .lent .inputs) (s .args .lent .outputs) (c .before .before .before .lengths-checked .ensures) (c .before .before .before .before .before .counted .ensures) (c .before .before .before .before .counted2 .ensures) (s .args .account) (c .before .enum-told .given .1) (c .named-checked .ensures))
+    (λ c. let s = c .before .before .before .before .before .before .before in draws-stop (s .pre .0) (s .args .n) (s .args .k) (s .args .contributions .now) (s .args .lent .rows) (s .args .lent .inputs) (s .args .lent .outputs) (c .before .before .before .lengths-checked .ensures) (c .before .before .before .before .before .counted .ensures) (c .before .before .before .before .counted2 .ensures) (s .args .account) (c .before .lengths .given .1)))

@@ -13,5 +13,5 @@ garble-asked-spec =
     (λ c. search needs)
     (λ c κs. let s = c .before .before .before .before in (s .pre, session-in-range (s .args .n) (s .args .k) (c .before .before .session-checked .ensures) (c .enum-told .given .1)))
     (λ c. search needs)
-    (λ c. let s = c .before .before .before .before .before in garble-next (s .args .n) (s .args .k) (c .before .before .before .session-checked .ensures) (wiresIn (s .args .circuit)) (outputsIn (s .args .circuit)) (s .args .contributions .now) (s .args .lent .rows) (s .args .lent .inputs) (s .args .lent .outputs) (c .before .enum-told .given .1) (c .garble-owned .ensures))
-    (λ c. let s = c .before .before .before .before .before in garble-stop (s .args .n) (s .args .k) (c .before .before .before .session-checked .ensures) (wiresIn (s .args .circuit)) (outputsIn (s .args .circuit)) (s .args .contributions .now) (s .args .lent .rows) (s .args .lent .inputs) (s .args .lent .outputs) (c .before .session .given .1)))
+    (λ c. let s = c .before .before .before .before .before in garble-next (s .args .n) (s .args .k) (c .before .before .before .session-checked .ensures) (wiresIn (s .args .circuit)) (outputsIn (s .args .circuit)) (s .args .contributions .now) (s .args .lent .rows) (s .args .lent .inputs) (s .args .lent .outputs) (s .args .account) (c .before .enum-told .given .1) (c .garble-owned .ensures))
+    (λ c. let s = c .before .before .before .before .before in garble-stop (s .args .n) (s .args .k) (c .before .before .before .session-checked .ensures) (wiresIn (s .args .circuit)) (outputsIn (s .args .circuit)) (s .args .contributions .now) (s .args .lent .rows) (s .args .lent .inputs) (s .args .lent .outputs) (s .args .account) (c .before .session .given .1)))

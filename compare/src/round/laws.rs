@@ -1,0 +1,51 @@
+//! What must hold beside that both programs answer each call alike.
+
+use std::collections::BTreeMap;
+
+pub const FIRST_FAULT: &str = "the first of a garbling's faults is named";
+pub const TOTALS_RECKONED: &str =
+    "after a sequence each total is its start plus the rows accepted in its name";
+pub const TOTAL_CARRIED: &str = "an old total becomes account 0's, the others are 0";
+
+/// All of them; a thorough run looks at each.
+const LAWS: [&str; 3] = [FIRST_FAULT, TOTALS_RECKONED, TOTAL_CARRIED];
+
+#[derive(Default)]
+pub struct Laws {
+    /// How often each was looked at.
+    looked: BTreeMap<&'static str, u64>,
+    /// Of each that did not hold, how often, and the first such case.
+    broken: BTreeMap<&'static str, (u64, u64)>,
+}
+
+impl Laws {
+    /// Counts whether a law holds.
+    pub fn look(&mut self, case: u64, law: &'static str, holds: bool) {
+        *self.looked.entry(law).or_default() += 1;
+        if !holds {
+            self.broken.entry(law).or_insert((0, case)).0 += 1;
+        }
+    }
+
+    /// How often any of them did not hold.
+    pub fn broken(&self) -> u64 {
+        self.broken.values().map(|(times, _)| times).sum()
+    }
+
+    pub fn print_broken(&self, seed: u64) {
+        for (law, (times, first)) in &self.broken {
+            println!("does not hold {times} times: {law}");
+            println!("  from: compare round {seed} {first}");
+        }
+    }
+
+    /// Prints how often each was looked at, and gives those never looked at.
+    pub fn lines(&self) -> Vec<String> {
+        let times = |law: &str| self.looked.get(law).copied().unwrap_or_default();
+        for law in LAWS {
+            println!("looked at: {law}: {}", times(law));
+        }
+        let never = LAWS.into_iter().filter(|law| times(law) == 0);
+        never.map(String::from).collect()
+    }
+}
