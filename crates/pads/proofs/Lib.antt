@@ -3,3 +3,4 @@ pub mod Taken
 pub mod Reduced
 pub mod Sizes
 pub mod Moving
+pub mod Senders

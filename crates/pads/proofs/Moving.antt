@@ -1,11 +1,10 @@
--- Pads put on a buffer or taken off it: one sender after another, and one receiver after another.
+-- Vectors put on a buffer or taken off it, and the pads of a row: one receiver after another.
 -- Assumes nothing.
 use mathlib.Core.Path.{_≡_, refl, sym, ap, subst, _∙_}
-use mathlib.Core.Bool.{Bool, true, false}
+use mathlib.Core.Bool.{Bool, true, false, not}
 use mathlib.Core.List.{List, _++_, zipWith}
 use Prim.Native.Nat.{ℕ, zero, suc, _+_, _-_, _*_, _≤_, _<_}
 use native.Mathlib.Nat.{le-refl}
-use native.Mathlib.Numerals.{add-one}
 use native.Mathlib.Omega.{arith}
 use lib.ListN.{length, getD, take, drop, replicate, length-replicate}
 use Rattle.lists.specs.Blocks.{blocks, part, nthPiece}
@@ -16,16 +15,16 @@ use Rattle.lists.proofs.Sums.{times-fits}
 use Rattle.lists.proofs.Written.{lent}
 use Rattle.lists.proofs.Wrote.{wrote-behind}
 use Rattle.residue.specs.Vector.{addV, subV, AllBelow}
-use Rattle.residue.proofs.Laws.{addV-assoc}
+use Rattle.residue.proofs.Laws.{subV-addV, addV-assoc}
 use Rattle.residue.proofs.Parts.{zip-append, below-take, below-drop}
 use Rattle.residue.proofs.Vectors.{zip-length, zip-below, add-below, sub-below}
 use Rattle.residue.proofs.VectorRing.{vring}
 use Rattle.residue.proofs.VectorRing.VExpr.{vec, _⊞_, _⊟_}
 use Rattle.pads.specs.Moved.{shifted, moved, Asked}
-use Rattle.pads.specs.Pad.{Under, bound, shakePad, padSum, padRow}
+use Rattle.pads.specs.Pad.{Under, shakePad, padSum, padRow}
 use Rattle.pads.proofs.Sizes.{shakePad-length, padSum-length}
 
-moved-length : (minus : Bool) (q : ℕ) (xs ys : List ℕ) → length xs ≡ length ys → length (moved minus q xs ys) ≡ length xs
+pub moved-length : (minus : Bool) (q : ℕ) (xs ys : List ℕ) → length xs ≡ length ys → length (moved minus q xs ys) ≡ length xs
 unfolding moved
 moved-length minus q xs ys e = zip-length (shifted minus q) xs ys e
 
@@ -34,7 +33,7 @@ unfolding shifted
 shifted-below false h a b = add-below h a b
 shifted-below true h a b = sub-below h a b
 
-moved-below : (minus : Bool) {q : ℕ} → 0 < q → (xs ys : List ℕ) → AllBelow q (moved minus q xs ys)
+pub moved-below : (minus : Bool) {q : ℕ} → 0 < q → (xs ys : List ℕ) → AllBelow q (moved minus q xs ys)
 unfolding moved
 moved-below minus {q} h xs ys = record { entry = zip-below (shifted minus q) q (shifted-below minus h) xs ys }
 
@@ -44,7 +43,7 @@ zeros (suc n) zero = refl
 zeros (suc n) (suc i) = zeros n i
 
 -- nothing put on or taken off
-moved-zeros : (minus : Bool) {q : ℕ} → 0 < q → (xs : List ℕ) → AllBelow q xs → moved minus q xs (replicate (length xs) 0) ≡ xs
+pub moved-zeros : (minus : Bool) {q : ℕ} → 0 < q → (xs : List ℕ) → AllBelow q xs → moved minus q xs (replicate (length xs) 0) ≡ xs
 unfolding moved shifted addV subV
 moved-zeros false h xs below =
     vring h (length xs) (vec xs ⊞ vec (replicate (length xs) 0)) (vec xs) (refl, length-replicate {A = ℕ} (length xs) 0) refl tt below (λ i. omega (arith, zeros (length xs) i))
@@ -52,12 +51,18 @@ moved-zeros true h xs below =
     vring h (length xs) (vec xs ⊟ vec (replicate (length xs) 0)) (vec xs) (refl, length-replicate {A = ℕ} (length xs) 0) refl tt below (λ i. omega (arith, zeros (length xs) i))
 
 -- twice is once with the sum
-moved-twice : (minus : Bool) {q : ℕ} → 0 < q → (xs ys zs : List ℕ) → length xs ≡ length ys → length xs ≡ length zs
+pub moved-twice : (minus : Bool) {q : ℕ} → 0 < q → (xs ys zs : List ℕ) → length xs ≡ length ys → length xs ≡ length zs
     → moved minus q (moved minus q xs ys) zs ≡ moved minus q xs (addV q ys zs)
 unfolding moved shifted addV subV
 moved-twice false h xs ys zs s t = addV-assoc h xs ys s zs t
 moved-twice true h xs ys zs s t =
     vring h (length xs) (vec xs ⊟ vec ys ⊟ vec zs) (vec xs ⊟ (vec ys ⊞ vec zs)) (omega arith) (omega arith) tt tt (λ i. omega arith)
+
+-- what was put on is taken off again, and the other way round
+pub moved-back : (minus : Bool) {q : ℕ} → 0 < q → (xs ys : List ℕ) → length xs ≡ length ys → AllBelow q xs → moved minus q (moved (not minus) q xs ys) ys ≡ xs
+unfolding moved shifted addV subV
+moved-back false h xs ys e below = vring h (length xs) (vec xs ⊟ vec ys ⊞ vec ys) (vec xs) (omega arith) refl tt below (λ i. omega arith)
+moved-back true h xs ys e below = subV-addV h xs ys e below
 
 moved-append : (minus : Bool) (q : ℕ) (xs ys xs′ ys′ : List ℕ) → length xs ≡ length ys → moved minus q (xs ++ xs′) (ys ++ ys′) ≡ moved minus q xs ys ++ moved minus q xs′ ys′
 unfolding moved
@@ -73,41 +78,6 @@ moved-blocks minus q K f g (suc n) s t =
     let t′ : (i : ℕ) → i < n → length (g i) ≡ K = λ i h. t i (omega arith) in
     ap (λ (l : List ℕ). l ++ moved minus q (f n) (g n)) (moved-blocks minus q K f g n s′ t′)
     ∙ sym (moved-append minus q (blocks n f) (blocks n g) (f n) (g n) (length-blocks-same n K f s′ ∙ sym (length-blocks-same n K g t′)))
-
--- ---- one sender after another
-
-module _ (round : ℕ) (minus : Bool) (q : ℕ) (under : Under) (keys : List ℕ) (receiver : ℕ) (out₀ : List ℕ) where
-  abbrev pads : ℕ → List ℕ
-  pads j = padSum (shakePad round) (length out₀) q under keys receiver j
-
-  sized : (j : ℕ) → length out₀ ≡ length (pads j)
-  sized j = sym (padSum-length (shakePad round) (length out₀) q (shakePad-length round q (length out₀)) under keys receiver j)
-
-  pub senders-none : Asked q (length out₀) out₀ → out₀ ≡ moved minus q out₀ (pads 0)
-  unfolding padSum
-  senders-none a = sym (moved-zeros minus (omega arith) out₀ (a .below))
-
-  pads-next : (j : ℕ) → pads (j + 1) ≡ addV q (pads j) (shakePad round q (length out₀) (bound under receiver (nthPiece keys (length out₀) j)))
-  unfolding padSum
-  pads-next j = rw add-one refl
-
-  module _ (j : ℕ) {out : List ℕ} (e : out ≡ moved minus q out₀ (pads j)) where
-    pub senders-length : length out ≡ length out₀
-    senders-length = ap length e ∙ moved-length minus q out₀ (pads j) (sized j)
-
-    pub senders-asked : Asked q (length out₀) out₀ → Asked q (length out) out
-    senders-asked a = record { modulus = a .modulus; short = omega (arith, senders-length); below = rw e (moved-below minus (omega arith) out₀ (pads j)) }
-
-    pub senders-more : {key out′ : List ℕ} → 1 < q → key ≡ nthPiece keys (length out₀) j → out′ ≡ moved minus q out (shakePad round q (length out) (bound under receiver key))
-        → out′ ≡ moved minus q out₀ (pads (j + 1))
-    senders-more {key} {out′} h k t =
-        let pad : List ℕ = shakePad round q (length out₀) (bound under receiver (nthPiece keys (length out₀) j)) in
-        t
-        ∙ ap (λ (m : ℕ). moved minus q out (shakePad round q m (bound under receiver key))) senders-length
-        ∙ ap (λ (l : List ℕ). moved minus q out (shakePad round q (length out₀) (bound under receiver l))) k
-        ∙ ap (λ (l : List ℕ). moved minus q l pad) e
-        ∙ moved-twice minus (omega arith) out₀ (pads j) pad (sized j) (sym (shakePad-length round q (length out₀) _))
-        ∙ ap (λ (l : List ℕ). moved minus q out₀ l) (sym (pads-next j))
 
 -- ---- one receiver after another
 

@@ -1,11 +1,11 @@
--- `pads::entries::sub_pad_row` meets its contract: what `move_pad_row` does, on work memory of its own.
+-- `pads::row::sub_pad_row` meets its contract: what `move_pad_row` does, on work memory of its own.
 -- Assumes nothing.
 use mathlib.Core.Path.{sym}
 use borrow.Author.Needs.{needs}
 use Rattle.residue.specs.Vector.{subV}
 use Rattle.pads.specs.Moved.{shifted, moved}
-use Rattle.pads.proofs.entries.sub_pad_row.Statement.{statement}
-use Rattle.pads.proofs.entries.sub_pad_row.Tie as tie
+use Rattle.pads.proofs.row.sub_pad_row.Statement.{statement}
+use Rattle.pads.proofs.row.sub_pad_row.Tie as tie
 
 pub sub-pad-row-spec : {M : Type 1} → statement M
 unfolding moved shifted subV

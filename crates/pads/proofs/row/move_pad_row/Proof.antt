@@ -1,4 +1,4 @@
--- `pads::entries::move_pad_row` meets its contract: receiver by receiver.
+-- `pads::row::move_pad_row` meets its contract: receiver by receiver.
 -- Assumes nothing.
 use mathlib.Core.Path.{_≡_, refl, sym, ap, _∙_}
 use Prim.Native.Nat.{_-_, _*_}
@@ -7,8 +7,8 @@ use lib.ListN.{length}
 use Rattle.lists.proofs.Steps.{level-start, steps-fits, steps-long}
 use Rattle.pads.specs.Binding.{underOf}
 use Rattle.pads.proofs.Moving.{Done, receiver-asked, receivers-more, receivers-all}
-use Rattle.pads.proofs.entries.move_pad_row.Statement.{statement}
-use Rattle.pads.proofs.entries.move_pad_row.Tie as tie
+use Rattle.pads.proofs.row.move_pad_row.Statement.{statement}
+use Rattle.pads.proofs.row.move_pad_row.Tie as tie
 
 abbrev Inv-loop : tie.InvT-loop
 Inv-loop minus q f bound n k keys numbers₀ out₀ at₀ i₀ numbers out at i = (length numbers ≡ 128) × Done (bound .round) minus q (underOf bound) keys n k out₀ i at out
