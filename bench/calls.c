@@ -1,5 +1,5 @@
-// Times the calls of bundles, the writing of a file, and garbling and one party's opening. A call and what it is set against are timed in
-// turn, and medians of many runs are taken, so that a busy machine slows both alike.
+// Times the calls of bundles, the writing of a file, garbling and one party's opening, and both in the two-party form. A call and what it is
+// set against are timed in turn, and medians of many runs are taken, so that a busy machine slows both alike.
 //
 // First the calls of bundles, which need no file: `name ratio=R ns=T`, where T is the time of one call and R that time divided by that of a
 // loop in C that does the same and checks nothing. That is a hard measure: joining has its weights reckoned beforehand, and since the compiler
@@ -10,8 +10,13 @@
 // Of garbling and opening, each line is `name ratio=R ns=T rows=N`: R is the time divided by that of as many of the baseline's Keccak
 // permutations as the call's pads need, N the number of rows garbled or opened.
 //
-// After each such line stands the same measurement as a point, for bench/plot: `point call=C n=N k=K rows=R ms=T permutations=P ratio=Q`.
-// Here R is the number of rows of the circuit, in opening too, and P the permutations that the call's pads need.
+// `pair-garble-kK` and `pair-open-kK` are the same of the two-party form, on the first file with the sum of its branches for each selector
+// and with two owners; before them stand garbling and opening of that circuit by a ring of two. A gate's half, of which a project has one
+// and a product two, has a pad for each value of the wire that it is under, also for the one that has no row; opening has one for each half.
+// `rows=` of `pair-open-kK` is therefore the number of halves opened.
+//
+// After each line of a ring on a file as it is stands the same measurement as a point, for bench/plot: `point call=C n=N k=K rows=R ms=T
+// permutations=P ratio=Q`. Here R is the number of rows of the circuit, in opening too, and P the permutations that the call's pads need.
 //
 // Given circuit files of growing size, the one to time closely first.
 #include "keccak.h"
@@ -85,6 +90,16 @@ static void *room(size_t bytes) {
     return at;
 }
 
+static void count_file(void) {
+    must(lupiknam_read(r.file, r.file_length, &r.wires, &r.inputs, &r.outputs, &r.rows, &r.moduli, &r.records), "read");
+    r.opened_rows = 0;
+    for (size_t at = 0; 4 * at < r.file_length; at++) {
+        uint32_t kind = word(at) >> 28, square = (word(at) >> 10 & 1023) == (word(at) & 1023);
+        // one row of a projection and of a square, two of any other product and of a select
+        r.opened_rows += kind == 6 || (kind == 5 && square) ? 1 : kind == 5 || kind == 8 ? 2 : 0;
+    }
+}
+
 static void read_file(const char *path) {
     FILE *f = fopen(path, "rb");
     if (!f) {
@@ -95,13 +110,7 @@ static void read_file(const char *path) {
     r.file = room(1 << 21);
     r.file_length = fread(r.file, 1, 1 << 21, f);
     fclose(f);
-    must(lupiknam_read(r.file, r.file_length, &r.wires, &r.inputs, &r.outputs, &r.rows, &r.moduli, &r.records), "read");
-    r.opened_rows = 0;
-    for (size_t at = 0; 4 * at < r.file_length; at++) {
-        uint32_t kind = word(at) >> 28, square = (word(at) >> 10 & 1023) == (word(at) & 1023);
-        // one row of a projection and of a square, two of any other product and of a select
-        r.opened_rows += kind == 6 || (kind == 5 && square) ? 1 : kind == 5 || kind == 8 ? 2 : 0;
-    }
+    count_file();
 }
 
 // bytes below every modulus, and offsets that are not zero
@@ -171,14 +180,7 @@ static void open_at_0(void) {
          "open");
 }
 
-// a round must come out right before its calls are timed
-static void play_round(void) {
-    garble();
-    for (uint32_t party = 0; party < r.n; party++)
-        externals(party);
-    for (uint32_t party = 0; party < r.n; party++)
-        input_keys(party);
-    open_at_0();
+static void compare_figures(void) {
     must(lupiknam_decode(r.file, r.file_length, r.wire_externals, r.wires, r.output_masks, r.outputs, r.decoded, r.outputs), "decode");
     must(lupiknam_plain(r.file, r.file_length, r.values, r.inputs, r.plain, r.outputs), "plain");
     if (memcmp(r.decoded, r.plain, r.outputs) != 0) {
@@ -187,10 +189,21 @@ static void play_round(void) {
     }
 }
 
+// a round must come out right before its calls are timed
+static void play_round(void) {
+    garble();
+    for (uint32_t party = 0; party < r.n; party++)
+        externals(party);
+    for (uint32_t party = 0; party < r.n; party++)
+        input_keys(party);
+    open_at_0();
+    compare_figures();
+}
+
 // 17 + K bytes and the padding are taken in, 8K bytes given out, 136 at a time; the first block out needs no permutation of its own
-static size_t permutations(uint32_t rows) {
+static size_t permutations(size_t pads) {
     size_t pad = (17 + r.k) / 136 + 1 + (8 * r.k + 135) / 136 - 1;
-    return (size_t)rows * r.n * r.n * pad;
+    return pads * pad;
 }
 
 static double baseline(size_t count) {
@@ -201,9 +214,10 @@ static double baseline(size_t count) {
     return now() - start;
 }
 
-static void time_call(const char *name, const char *kind, void (*call)(void), uint32_t rows) {
+// kind: what a point is called, NULL where none is printed
+static void time_call(const char *name, const char *kind, void (*call)(void), uint32_t rows, size_t pads) {
     double times[MOST_RUNS], ratios[MOST_RUNS], spent = 0;
-    size_t needed = permutations(rows);
+    size_t needed = permutations(pads);
     int runs = 0;
     while (runs < LEAST_RUNS || (runs < MOST_RUNS && spent < 1e9)) {
         double start = now();
@@ -214,8 +228,9 @@ static void time_call(const char *name, const char *kind, void (*call)(void), ui
     }
     double ratio = median(ratios, runs), time = median(times, runs);
     printf("%s ratio=%.3f ns=%.0f rows=%u\n", name, ratio, time, (unsigned)rows);
-    printf("point call=%s n=%u k=%u rows=%u ms=%.4f permutations=%zu ratio=%.3f\n", kind, (unsigned)r.n, (unsigned)r.k, (unsigned)r.rows,
-           time / 1e6, needed, ratio);
+    if (kind)
+        printf("point call=%s n=%u k=%u rows=%u ms=%.4f permutations=%zu ratio=%.3f\n", kind, (unsigned)r.n, (unsigned)r.k,
+               (unsigned)r.rows, time / 1e6, needed, ratio);
     fflush(stdout);
 }
 
@@ -382,14 +397,87 @@ static void bundles(void) {
     beside_c("part-scale0-r10", scale, scale_in_c);
 }
 
-static void both(const char *what, uint32_t n, uint32_t k) {
+// a row has a pad of each sender for each receiver
+static void both(const char *what, uint32_t n, uint32_t k, int points) {
     char name[60];
     make_room(n, k);
     play_round();
     snprintf(name, sizeof name, "garble%s-n%u-k%u", what, (unsigned)n, (unsigned)k);
-    time_call(name, "garble", garble, r.rows);
+    time_call(name, points ? "garble" : NULL, garble, r.rows, (size_t)r.rows * n * n);
     snprintf(name, sizeof name, "open%s-n%u-k%u", what, (unsigned)n, (unsigned)k);
-    time_call(name, "open", open_at_0, r.opened_rows);
+    time_call(name, points ? "open" : NULL, open_at_0, r.opened_rows, (size_t)r.opened_rows * n * n);
+}
+
+// ---- the two-party form
+
+static struct {
+    uint32_t rows, halves;
+    size_t draw_length, rows_length, keys_length, wire_keys_length;
+    uint8_t *draw, *row_bytes, *keys, *wire_keys;
+} two;
+
+// owners 0 and 1, and for each selector the sum of its branches, which stand in its second word
+static void leave_selectors_out(void) {
+    uint8_t *to = r.file;
+    two.halves = 0;
+    for (size_t at = 0; 4 * at < r.file_length; at++) {
+        uint32_t laid = word(at), kind = laid >> 28;
+        if (kind != 8)
+            to = lay(to, kind == 9 ? 3u << 28 | (laid & 0xFFFFF) : kind == 2 ? laid & ~0xFE0000u : laid);
+        two.halves += kind == 5 ? 2 : kind == 6;
+    }
+    r.file_length = (size_t)(to - r.file);
+    count_file();
+    must(lupiknam_pair_read(r.file, r.file_length, &two.rows), "pair_read");
+}
+
+// bytes below every modulus, and offsets that begin with 1
+static void make_room_for_two(uint32_t k) {
+    r.k = k;
+    two.draw_length = (size_t)k * (r.moduli + r.inputs);
+    two.rows_length = (size_t)k * two.rows;
+    two.keys_length = (size_t)k * r.inputs;
+    two.wire_keys_length = (size_t)k * r.wires;
+    free(two.draw), free(two.row_bytes), free(two.keys), free(two.wire_keys);
+    two.draw = room(two.draw_length);
+    two.row_bytes = room(two.rows_length);
+    two.keys = room(two.keys_length);
+    two.wire_keys = room(two.wire_keys_length);
+    for (size_t at = 0; at < two.draw_length; at++)
+        two.draw[at] = at % k == 0 && at / k < r.moduli ? 1 : random_bit();
+}
+
+static void garble_for_two(void) {
+    lupiknam_meter meter;
+    lupiknam_meter_carry(0, &meter);
+    must(lupiknam_pair_garble(r.file, r.file_length, r.k, 0, 0, two.draw, two.draw_length, two.row_bytes, two.rows_length, r.output_masks,
+                              r.outputs, &meter),
+         "pair_garble");
+}
+
+static void open_for_two(void) {
+    must(lupiknam_pair_open(r.file, r.file_length, r.k, 0, two.keys, two.keys_length, two.row_bytes, two.rows_length, two.wire_keys,
+                            two.wire_keys_length, r.wire_externals, r.wires),
+         "pair_open");
+}
+
+static void play_for_two(void) {
+    garble_for_two();
+    must(lupiknam_pair_input_keys(r.file, r.file_length, r.k, two.draw, two.draw_length, r.values, r.inputs, two.keys, two.keys_length),
+         "pair_input_keys");
+    open_for_two();
+    compare_figures();
+}
+
+static void for_two(uint32_t k) {
+    char name[60];
+    both("-for-two", 2, k, 0);
+    make_room_for_two(k);
+    play_for_two();
+    snprintf(name, sizeof name, "pair-garble-k%u", (unsigned)k);
+    time_call(name, NULL, garble_for_two, two.rows, (size_t)two.rows + two.halves);
+    snprintf(name, sizeof name, "pair-open-k%u", (unsigned)k);
+    time_call(name, NULL, open_for_two, two.halves, two.halves);
 }
 
 int main(int count, char **files) {
@@ -399,15 +487,20 @@ int main(int count, char **files) {
     read_file(files[1]);
     writing();
     for (size_t at = 0; at < 6; at++)
-        both("", (uint32_t[]){3, 5, 8}[at / 2], (uint32_t[]){16, 128}[at % 2]);
+        both("", (uint32_t[]){3, 5, 8}[at / 2], (uint32_t[]){16, 128}[at % 2], 1);
     // growth with the number of parties; the inputs have three owners
     for (uint32_t n = 3; n <= 8; n++)
-        both("-by-n", n, 16);
+        both("-by-n", n, 16, 1);
     // growth with the rows
     for (int at = 1; at < count; at++) {
         read_file(files[at]);
         for (size_t i = 0; i < 3; i++)
-            both("-by-rows", (uint32_t[]){3, 5, 8}[i], 16);
+            both("-by-rows", (uint32_t[]){3, 5, 8}[i], 16, 1);
     }
+    // two parties, in a ring and in their own form
+    read_file(files[1]);
+    leave_selectors_out();
+    for_two(16);
+    for_two(128);
     return 0;
 }

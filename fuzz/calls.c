@@ -1,5 +1,5 @@
 /*
- * Fuzzing of the C face: a libFuzzer harness over the sixteen calls of lupiknam.h. fuzz/run builds and runs it; docs/ROBUSTNESS.md says
+ * Fuzzing of the C face: a libFuzzer harness over the twenty calls of lupiknam.h. fuzz/run builds and runs it; docs/ROBUSTNESS.md says
  * what it can see and what it cannot.
  *
  * An input is a head, `struct head`, and a circuit file. The file is lent as it stands, or mended into one that the reader must accept, or
@@ -8,7 +8,9 @@
  * stand, mended, and with one fault or two; their whole answer is known. A part is also set into a circuit of its own, which is evaluated.
  * Where the circuit is accepted and n, K and party are in range, a whole round is played, for one account of a meter with any totals or of
  * one that was carried over, and then some of its calls again with one fault each, two bytes too large, or a bad account besides, whose
- * answer is known. All eight totals are looked at after every garbling.
+ * answer is known. Where the circuit has no selector and its inputs are of parties 0 and 1, a round of the two-party form is played too,
+ * opened for two lists of values, with one row changed and in another round, and its calls are made again with one to four faults, of which
+ * the first in the order of the checks must be named. All eight totals are looked at after every garbling.
  *
  * Every buffer lies against a page that faults when it is touched; what a call only reads is lent by a mapping that faults when it is
  * written. What a call writes is filled first with 255, which is below no modulus: so a byte that an accepted call leaves out shows, and so
@@ -22,7 +24,7 @@
 #include <sys/mman.h>
 #include <unistd.h>
 
-enum { MOST_WIRES = 1024, MOST_OUTPUTS = 256, MOST_WORDS = 1 << 16, MOST_ROWS = 1 << 19, PRIMES = 54, NUMBERS = 26, ACCOUNTS = 8 };
+enum { MOST_WIRES = 1024, MOST_OUTPUTS = 256, MOST_WORDS = 1 << 16, MOST_ROWS = 1 << 19, PRIMES = 54, NUMBERS = 28, ACCOUNTS = 8 };
 enum { FILL = 255, SLACK = 256 };   /* what written buffers hold before a call, and how far around them it is looked at afterwards */
 enum { MOST_PERMUTATIONS = 60000 }; /* of a round: about 20 ms; a dearer one is not played */
 enum { MOST_R = 10, MOST_PART = 139 }; /* primes of a bundle, and words of a part */
@@ -48,7 +50,8 @@ struct fault {
 
 struct head {
     uint8_t mode;  /* 0 the file as it stands, 2 mended and damaged, 1 and 3 mended; modulo 4 */
-    uint8_t lying; /* bit 0: buffers begin, not end, at a guard page; bit 1: an empty buffer is NULL; bit 2: a round's meter is carried */
+    uint8_t lying; /* bit 0: buffers begin, not end, at a guard page; bit 1: an empty buffer is NULL; bit 2: a round's meter is carried;
+                      bit 3: files are mended for two, without selectors and with owners 0 and 1 */
     uint8_t style; /* how contributions are drawn */
     uint8_t loose; /* what loose calls are filled with */
     uint32_t n, k, party, account, seed, damage, round;
@@ -87,10 +90,13 @@ static struct buffer contributions = ROOM(1 << 22), contribution = ROOM(1 << 20)
 static struct buffer own_keys = ROOM(1 << 18), keys = ROOM(1 << 21), wire_keys = ROOM(1 << 21), wire_externals = ROOM(4096);
 static struct buffer decoded = ROOM(4096), records = ROOM(1 << 21), tables = ROOM(1 << 17), written_file = ROOM(1 << 19);
 static struct buffer written_words = ROOM(4096), residues = ROOM(4096), integer = ROOM(4096), part = ROOM(4096), part_words = ROOM(4096);
+static struct buffer pair_count = ROOM(4096), draw = ROOM(1 << 18), pair_rows = ROOM(1 << 21), pair_masks = ROOM(4096);
+static struct buffer pair_keys = ROOM(1 << 18), pair_wire_keys = ROOM(1 << 18), pair_externals = ROOM(4096);
 
 static struct buffer *const all[] = {&file, &numbers, &count, &meter, &values, &figures, &input_masks, &output_masks, &own_values,
     &own_masks, &own_externals, &externals, &contributions, &contribution, &rows, &own_keys, &keys, &wire_keys, &wire_externals, &decoded,
-    &records, &tables, &written_file, &written_words, &residues, &integer, &part, &part_words};
+    &records, &tables, &written_file, &written_words, &residues, &integer, &part, &part_words, &pair_count, &draw, &pair_rows, &pair_masks,
+    &pair_keys, &pair_wire_keys, &pair_externals};
 enum { BUFFERS = sizeof all / sizeof all[0] };
 
 /* Room bytes of a shared object, with a page before and after that faults. */
@@ -174,7 +180,17 @@ static lupiknam_answer reading; /* what lupiknam_read answers */
 static struct {
     uint32_t wires, inputs, outputs, rows, moduli, records; /* in the order of lupiknam_read */
 } counts;
-static size_t entries; /* of all tables */
+static size_t entries;      /* of all tables */
+static size_t first_select; /* its word; 0 where there is none */
+
+/* The two-party form: how many rows there are, how many halves of gates, and the moduli in use, ascending. Of each row the wire that it is
+   for, the wire that it is under, and the external value there. */
+static uint32_t pair_total, pair_halves;
+static uint8_t used_moduli[PRIMES];
+static struct {
+    uint16_t wire, under;
+    uint8_t external;
+} pair_row[MOST_ROWS];
 
 static uint8_t primes[PRIMES], modulus[MOST_WIRES], owner[MOST_WIRES], records_of[MOST_WIRES], row_modulus[MOST_ROWS];
 static uint8_t contribution_modulus[128 * PRIMES + 129 * 3 * MOST_WIRES];
@@ -213,8 +229,23 @@ static void list_wire(uint8_t m, uint8_t keys_in_record, uint32_t its_rows, uint
     opened_rows += opened;
 }
 
+/* A half of the wire that is listed next: a row for each external value but 0 of the wire that it is under. */
+static void list_half(uint32_t under) {
+    check(pair_total + 256 < MOST_ROWS, "an accepted circuit is within its limits");
+    for (unsigned external = 1; external < modulus[under]; external++) {
+        pair_row[pair_total].wire = (uint16_t)counts.wires;
+        pair_row[pair_total].under = (uint16_t)under;
+        pair_row[pair_total++].external = (uint8_t)external;
+    }
+    pair_halves++;
+}
+
 static void list_word(uint32_t w) {
     uint8_t low = modulus[w & 1023];
+    if (w >> 28 == 5)
+        list_half(w >> 10 & 1023);
+    if (w >> 28 == 5 || w >> 28 == 6)
+        list_half(w & 1023);
     switch (w >> 28) {
     case 2:
         owner[counts.wires] = (uint8_t)(w >> 16);
@@ -249,12 +280,17 @@ static void list_word(uint32_t w) {
 
 static void list_circuit(void) {
     memset(&counts, 0, sizeof counts);
-    opened_rows = 0;
-    entries = 0;
-    for (size_t i = 1; i < file.length / 4; i++)
-        list_word(word_at(bytes(&file), i));
+    opened_rows = pair_total = pair_halves = 0;
+    entries = first_select = 0;
+    for (size_t i = 1; i < file.length / 4; i++) {
+        const uint32_t w = word_at(bytes(&file), i);
+        if (w >> 28 == 8 && first_select == 0)
+            first_select = i;
+        list_word(w);
+    }
     for (size_t i = 0; i < PRIMES; i++)
-        counts.moduli += memchr(modulus, primes[i], counts.wires) != NULL;
+        if (memchr(modulus, primes[i], counts.wires))
+            used_moduli[counts.moduli++] = primes[i];
 }
 
 static size_t contribution_size(void) {
@@ -292,7 +328,7 @@ static struct {
 /* The length that a buffer must have, and below what each of its bytes must be. A part's depends on the call; here it is that of a sum. */
 static size_t exact(const struct buffer *b) {
     const size_t row = (size_t)n * k;
-    return b == &numbers ? 24 : b == &count || b == &written_words || b == &part_words ? 4 : b == &integer ? 8
+    return b == &numbers ? 24 : b == &count || b == &written_words || b == &part_words || b == &pair_count ? 4 : b == &integer ? 8
         : b == &meter ? sizeof(lupiknam_meter) : b == &residues ? bundle.r % (MOST_R + 1) : b == &part ? 4 * (bundle.r % (MOST_R + 1))
         : b == &records ? (counts.wires + counts.outputs) * sizeof(lupiknam_record) : b == &tables ? entries
         : b == &written_file ? file.length
@@ -300,21 +336,27 @@ static size_t exact(const struct buffer *b) {
         : b == &rows ? counts.rows * row : b == &keys ? counts.inputs * row : b == &wire_keys ? counts.wires * row
         : b == &own_keys ? (size_t)counts.inputs * k : b == &wire_externals ? counts.wires
         : b == &own_values || b == &own_masks || b == &own_externals ? own
-        : b == &figures || b == &output_masks || b == &decoded ? counts.outputs : counts.inputs;
+        : b == &draw ? (size_t)k * (counts.moduli + counts.inputs) : b == &pair_rows ? (size_t)k * pair_total
+        : b == &pair_keys ? (size_t)k * counts.inputs : b == &pair_wire_keys ? (size_t)k * counts.wires
+        : b == &pair_externals ? counts.wires
+        : b == &figures || b == &output_masks || b == &decoded || b == &pair_masks ? counts.outputs : counts.inputs;
 }
 
 static unsigned modulus_at(const struct buffer *b, size_t i) {
     const size_t row = (size_t)n * k;
     return b == &contributions || b == &contribution ? contribution_modulus[i % contribution_size()]
-        : b == &rows ? row_modulus[i / row] : b == &keys || b == &wire_keys ? modulus[i / row] : b == &own_keys ? modulus[i / k]
+        : b == &draw ? (i / k < counts.moduli ? used_moduli[i / k] : modulus[i / k - counts.moduli])
+        : b == &pair_rows ? modulus[pair_row[i / k].wire]
+        : b == &rows ? row_modulus[i / row] : b == &keys || b == &wire_keys ? modulus[i / row]
+        : b == &own_keys || b == &pair_keys || b == &pair_wire_keys ? modulus[i / k]
         : b == &own_values || b == &own_masks || b == &own_externals ? modulus[own_wire[i]] : b == &residues ? primes[i]
-        : b == &figures || b == &output_masks || b == &decoded ? modulus[output_wire[i]] : modulus[i];
+        : b == &figures || b == &output_masks || b == &decoded || b == &pair_masks ? modulus[output_wire[i]] : modulus[i];
 }
 
 /* ---- one call, and what holds of every call */
 
-enum call { READ, INPUTS_OF, PLAIN, GARBLE, EXTERNALS, INPUT_KEYS, OPEN, DECODE, RECORDS, WRITE, SPLIT, JOIN, ADD, MULTIPLY, SCALE, CARRY,
-    CALLS };
+enum call { READ, INPUTS_OF, PLAIN, GARBLE, EXTERNALS, INPUT_KEYS, OPEN, DECODE, RECORDS, PAIR_READ, PAIR_GARBLE, PAIR_INPUT_KEYS,
+    PAIR_OPEN, WRITE, SPLIT, JOIN, ADD, MULTIPLY, SCALE, CARRY, CALLS };
 enum { TAKES_N = 1, TAKES_K = 2, TAKES_PARTY = 4 };
 #define BITS(from, to) ((2u << (to)) - (1u << (from)))
 
@@ -334,6 +376,12 @@ static const struct {
     {"open", TAKES_N | TAKES_K | TAKES_PARTY, BITS(1, 20), {&contribution, &externals, &keys, &rows}, {&wire_keys, &wire_externals}},
     {"decode", 0, BITS(1, 10) | BITS(14, 15), {&wire_externals, &output_masks}, {&decoded}},
     {"records", 0, BITS(1, 10) | BITS(14, 14), {0}, {&records, &tables}},
+    {"pair_read", 0, BITS(1, 10) | BITS(26, 26), {0}, {&pair_count}},
+    {"pair_garble", TAKES_K, BITS(1, 11) | BITS(13, 14) | BITS(16, 16) | BITS(21, 21) | BITS(25, 27), {&draw},
+        {&pair_rows, &pair_masks, &meter}},
+    {"pair_input_keys", TAKES_K, BITS(1, 11) | BITS(13, 16) | BITS(26, 27), {&draw, &values}, {&pair_keys}},
+    {"pair_open", TAKES_K, BITS(1, 11) | BITS(13, 14) | BITS(18, 18) | BITS(26, 26), {&pair_keys, &pair_rows},
+        {&pair_wire_keys, &pair_externals}},
     {"write", 0, BITS(2, 9) | BITS(14, 14) | BITS(22, 22), {&records, &tables}, {&written_file, &written_words}},
     {"bundle_split", 0, BITS(14, 14) | BITS(23, 24), {0}, {&residues}},
     {"bundle_join", 0, BITS(14, 14) | BITS(23, 24), {&residues}, {&integer}},
@@ -345,6 +393,15 @@ static const struct {
 
 static int of_bundles(enum call c) {
     return c >= SPLIT && c <= SCALE;
+}
+
+static int for_two(enum call c) {
+    return c >= PAIR_READ && c <= PAIR_OPEN;
+}
+
+/* The rows that a garbling is charged with. */
+static uint32_t rows_charged(enum call c) {
+    return c == PAIR_GARBLE ? pair_total : counts.rows;
 }
 
 /* What libFuzzer is told besides its own coverage of this file: which call gave which answer, which word or record met which refusal. */
@@ -385,6 +442,14 @@ static lupiknam_answer call(enum call c) {
             OUT(wire_keys), OUT(wire_externals));
     case DECODE:
         return lupiknam_decode(IN(file), IN(wire_externals), IN(output_masks), OUT(decoded));
+    case PAIR_READ:
+        return lupiknam_pair_read(IN(file), (uint32_t *)(void *)bytes(&pair_count));
+    case PAIR_GARBLE:
+        return lupiknam_pair_garble(IN(file), k, round_number, account, IN(draw), OUT(pair_rows), OUT(pair_masks), m);
+    case PAIR_INPUT_KEYS:
+        return lupiknam_pair_input_keys(IN(file), k, IN(draw), IN(values), OUT(pair_keys));
+    case PAIR_OPEN:
+        return lupiknam_pair_open(IN(file), k, round_number, IN(pair_keys), IN(pair_rows), OUT(pair_wire_keys), OUT(pair_externals));
     case RECORDS:
         return lupiknam_records(IN(file), (lupiknam_record *)(void *)lent(&records), record_count(), OUT(tables));
     case WRITE:
@@ -421,12 +486,15 @@ static int place_fits(enum call c, lupiknam_answer a) {
     case 12:
         return a.place == party && party >= n;
     case 13:
-        return a.place < counts.inputs && owner[a.place] >= n;
+        return a.place < counts.inputs && owner[a.place] >= (for_two(c) ? 2 : n);
     case 15:
     case 16:
     case 18:
         return a.place < longest;
+    case 26:
+        return first_select > 0 && a.place == first_select;
     case 17:
+    case 27:
         return memchr(modulus, (int)a.place, counts.wires) != NULL && is_prime((unsigned)a.place);
     case 19:
         return a.place < counts.inputs;
@@ -438,8 +506,8 @@ static int place_fits(enum call c, lupiknam_answer a) {
 }
 
 /* 21 is for a named total that has no space, whatever the others have, and 25 for an account that there is not. */
-static int account_refused(uint32_t number, const lupiknam_meter *before) {
-    return number == 21 ? account < ACCOUNTS && (uint64_t)before->totals[account] + counts.rows > UINT32_MAX
+static int account_refused(enum call c, uint32_t number, const lupiknam_meter *before) {
+    return number == 21 ? account < ACCOUNTS && (uint64_t)before->totals[account] + rows_charged(c) > UINT32_MAX
         : number != 25 || account >= ACCOUNTS;
 }
 
@@ -536,10 +604,10 @@ static void judge_bundle(enum call c, uint32_t number) {
 }
 
 /* All totals after a garbling: an accepted one adds its rows to the named account's, and no other moves. Past 2^32 none wraps around. */
-static void judge_charged(uint32_t number, const lupiknam_meter *before) {
+static void judge_charged(enum call c, uint32_t number, const lupiknam_meter *before) {
     check(number != 0 || account < ACCOUNTS, "an accepted garbling names one of the accounts");
     for (uint32_t i = 0; i < ACCOUNTS; i++) {
-        const uint64_t due = before->totals[i] + (number == 0 && i == account ? (uint64_t)counts.rows : 0);
+        const uint64_t due = before->totals[i] + (number == 0 && i == account ? (uint64_t)rows_charged(c) : 0);
         check(word_at(bytes(&meter), i) == due, number == 0 ? "accepted rows are added to the named account's total, and to no other"
                                                             : "a refused garbling leaves all totals as they were");
     }
@@ -558,11 +626,11 @@ static void judge_written(enum call c, const struct buffer *b, uint32_t number, 
     if (c == CARRY)
         judge_carried();
     else if (b == &meter)
-        judge_charged(number, before);
+        judge_charged(c, number, before);
     else if (number != 0)
         check(all_are(from, to, number == 20 ? 0 : FILL), "a refused call leaves written buffers as they were, or zero after 20");
     else if (b == &numbers || b == &count || b == &records || b == &tables || b == &written_words || b == &integer || b == &part
-        || b == &part_words)
+        || b == &part_words || b == &pair_count)
         return; /* looked at where they are read */
     else if (b == &written_file)
         judge_file();
@@ -582,7 +650,7 @@ static lupiknam_answer make(enum call c) {
     lupiknam_answer a = call(c);
     check(a.number == 0 || (a.number < NUMBERS && calls[c].refusals >> a.number & 1), "a call answers with one of its own numbers");
     check(place_fits(c, a), "the place of an answer is one that there is");
-    check(account_refused(a.number, &before), "an account is refused only with reason");
+    check(account_refused(c, a.number, &before), "an account is refused only with reason");
     if (c == READ)
         reading = a;
     if (c == WRITE)
@@ -591,6 +659,8 @@ static lupiknam_answer make(enum call c) {
         judge_bundle(c, a.number);
     else if (c < WRITE && reading.number != 0)
         check(a.number == reading.number && a.place == reading.place, "every call refuses a bad file alike");
+    else if (for_two(c) && first_select > 0)
+        check(a.number == 26 && a.place == first_select, "every call for two refuses a selector alike");
     else if (c < WRITE)
         check(a.number == 0 || a.number > 10, "no call finds a fault in an accepted file");
     met_answer[c][a.number] = 1;
@@ -613,7 +683,7 @@ static void must(enum call c, uint32_t number, size_t place) {
     fail("the answer is the one that is due");
 }
 
-/* ---- circuits: mended by docs/FILE.md, so that an accepted file stays as it is */
+/* ---- circuits: mended by docs/FILE.md, so that an accepted file stays as it is, or one for two, if that is asked for */
 
 static uint32_t mended[MOST_WORDS];
 static size_t mended_words;
@@ -626,6 +696,10 @@ static void put(uint32_t w) {
 static void put_wire(uint32_t w, uint8_t m) {
     put(w);
     modulus[made++] = m;
+}
+
+static int mended_for_two(void) {
+    return head.lying >> 3 & 1;
 }
 
 static uint8_t prime_near(uint32_t m) {
@@ -679,8 +753,10 @@ static size_t mend_word(uint32_t w, const uint8_t *from, size_t words, size_t at
     const uint32_t kind = w >> 28;
     if (kind == 2 && *stage == 0 && made < MOST_WIRES) {
         uint8_t m = prime_near(w);
-        put_wire(2u << 28 | ((w >> 16 & 255) % n) << 16 | m, m);
+        put_wire(2u << 28 | ((w >> 16 & 255) % (mended_for_two() ? 2 : n)) << 16 | m, m);
     } else if (kind >= 3 && kind <= 8 && kind != 7 && *stage <= 1 && made > 0 && made < MOST_WIRES && mended_words < MOST_WORDS - 1024) {
+        if (kind == 8 && mended_for_two())
+            return at;
         *stage = 1;
         if (kind == 6)
             return put_project(w, from, words, at);
@@ -756,17 +832,26 @@ static void read_file(const uint8_t *data, size_t size) {
             must(READ, 0, 0);
         }
     }
-    if (reading.number != 0)
+    if (reading.number != 0) {
         memset(&counts, 0, sizeof counts);
-    else
+        first_select = pair_total = pair_halves = 0;
+    } else
         check(memcmp(bytes(&numbers), &counts, sizeof counts) == 0, "the counts are those of the file");
 }
 
 /* ---- loose calls: lengths right or nearly so or any, contents all one byte */
 
+static uint64_t pad_permutations(void) {
+    return (17 + (uint64_t)k) / 136 + (8 * (uint64_t)k + 135) / 136;
+}
+
 static int dear(void) {
-    const uint64_t pad = (17 + (uint64_t)k) / 136 + (8 * (uint64_t)k + 135) / 136;
-    return (counts.rows + (uint64_t)n * opened_rows) * n * n * pad > MOST_PERMUTATIONS;
+    return (counts.rows + (uint64_t)n * opened_rows) * n * n * pad_permutations() > MOST_PERMUTATIONS;
+}
+
+/* Garbling has a pad for the row that is not there too; opening is made four times. */
+static int dear_for_two(void) {
+    return ((uint64_t)pair_total + 5 * (uint64_t)pair_halves) * pad_permutations() > MOST_PERMUTATIONS;
 }
 
 static int in_range(void) {
@@ -794,7 +879,7 @@ static void loosen(struct buffer *b) {
 static void call_loosely(void) {
     for (size_t i = 1; i < BUFFERS; i++)
         if (all[i] != &numbers && all[i] != &count && all[i] != &meter && all[i] != &written_words && all[i] != &integer
-            && all[i] != &part_words)
+            && all[i] != &part_words && all[i] != &pair_count)
             loosen(all[i]);
     carried = ~head.totals[0]; /* another number than stands there */
     for (enum call c = INPUTS_OF; c < CALLS; c++) {
@@ -1252,21 +1337,26 @@ static void open_at_all(uint32_t last) {
 }
 
 /* A total to which the rows can be added. */
-static uint32_t with_space(uint32_t total) {
-    const uint32_t most = UINT32_MAX - counts.rows;
+static uint32_t with_space(uint32_t total, uint32_t for_rows) {
+    const uint32_t most = UINT32_MAX - for_rows;
     return total < most ? total : most;
 }
 
 /* The meter that a round is garbled with: the head's totals, with space in the named one, or a carried total. */
-static void start_meter(void) {
+static void start_meter(uint32_t for_rows) {
     uint32_t totals[ACCOUNTS];
     memcpy(totals, head.totals, sizeof totals);
-    totals[account] = with_space(totals[account]);
+    totals[account] = with_space(totals[account], for_rows);
     memcpy(bytes(&meter), totals, sizeof totals);
     if (head.lying & 4) {
-        carried = with_space(~head.totals[0]);
+        carried = with_space(~head.totals[0], for_rows);
         must(CARRY, 0, 0);
     }
+}
+
+static void draw_values(void) {
+    for (uint32_t w = 0; w < counts.inputs; w++)
+        bytes(&values)[w] = (uint8_t)drawn(modulus[w]);
 }
 
 static void play(void) {
@@ -1277,10 +1367,9 @@ static void play(void) {
         set_length(all[i], exact(all[i]));
         check(all[i]->length == exact(all[i]), "a round that is played fits its buffers");
     }
-    for (uint32_t w = 0; w < counts.inputs; w++)
-        bytes(&values)[w] = (uint8_t)drawn(modulus[w]);
+    draw_values();
     draw_contributions();
-    start_meter();
+    start_meter(counts.rows);
     must(PLAIN, 0, 0);
     must(GARBLE, 0, 0);
     exchange();
@@ -1474,11 +1563,265 @@ static void spoil_all(void) {
     }
 }
 
+/* ---- a round of the two-party form */
+
+static uint64_t pair_rounds;
+
+static void draw_for_two(void) {
+    for (size_t i = 0; i < draw.length; i++)
+        bytes(&draw)[i] = i % k == 0 && i / k < counts.moduli ? 1 : below(modulus_at(&draw, i));
+}
+
+static const uint8_t *offset_of(unsigned p) {
+    return bytes(&draw) + (size_t)k * (size_t)((const uint8_t *)memchr(used_moduli, (int)p, counts.moduli) - used_moduli);
+}
+
+/* A key is another one plus so many times the offset of its modulus. */
+static int is_key(const uint8_t *key, const uint8_t *other, unsigned times, unsigned p) {
+    for (uint32_t i = 0; i < k; i++)
+        if (key[i] != (other[i] + times * offset_of(p)[i]) % p)
+            return 0;
+    return 1;
+}
+
+/* Opening for the values that are set: keys of inputs are zero key plus value times offset, those that were lent come back, the external
+   value is component 0 of each key, and the figures are the plain circuit's. */
+static void open_for_two(void) {
+    must(PLAIN, 0, 0);
+    must(PAIR_INPUT_KEYS, 0, 0);
+    for (size_t w = 0; w < counts.inputs; w++)
+        check(is_key(bytes(&pair_keys) + w * k, bytes(&draw) + (counts.moduli + w) * k, bytes(&values)[w], modulus[w]),
+            "an input key for two is zero key plus value times offset");
+    must(PAIR_OPEN, 0, 0);
+    check(memcmp(bytes(&pair_wire_keys), bytes(&pair_keys), pair_keys.length) == 0, "the keys of inputs for two are those lent");
+    for (size_t w = 0; w < counts.wires; w++)
+        check(bytes(&pair_externals)[w] == bytes(&pair_wire_keys)[w * k], "an external value for two is component 0 of its key");
+    set_bytes(&wire_externals, bytes(&pair_externals));
+    set_bytes(&output_masks, bytes(&pair_masks));
+    must(DECODE, 0, 0);
+    check(memcmp(bytes(&decoded), bytes(&figures), figures.length) == 0, "a round for two decodes the plain circuit's outputs");
+}
+
+/* Opened for two lists of values, the keys of an output differ by the difference of its figures times the offset. */
+static void open_twice(void) {
+    static uint8_t first_keys[1 << 18], first_figures[MOST_OUTPUTS];
+    open_for_two();
+    memcpy(first_keys, bytes(&pair_wire_keys), pair_wire_keys.length);
+    memcpy(first_figures, bytes(&figures), figures.length);
+    draw_values();
+    open_for_two();
+    for (size_t o = 0; o < counts.outputs; o++) {
+        const unsigned p = modulus[output_wire[o]], apart = bytes(&figures)[o] + p - first_figures[o];
+        check(is_key(bytes(&pair_wire_keys) + (size_t)output_wire[o] * k, first_keys + (size_t)output_wire[o] * k, apart, p),
+            "keys of two values differ by so many offsets");
+    }
+}
+
+/* Opening with another byte in one row: where the row is that of its external value the key of its wire differs by as much, else nothing
+   does. */
+static void change_row(void) {
+    static uint8_t keys_were[1 << 18];
+    if (pair_rows.length == 0)
+        return;
+    const size_t at = drawn((uint32_t)pair_rows.length), wire = pair_row[at / k].wire, place = wire * k + at % k;
+    const int read = bytes(&pair_externals)[pair_row[at / k].under] == pair_row[at / k].external;
+    const unsigned p = modulus[wire], more = 1 + drawn(p - 1);
+    const uint8_t was = bytes(&pair_rows)[at];
+    memcpy(keys_were, bytes(&pair_wire_keys), pair_wire_keys.length);
+    bytes(&pair_rows)[at] = (uint8_t)((was + more) % p);
+    must(PAIR_OPEN, 0, 0);
+    keys_were[place] = (uint8_t)((keys_were[place] + read * more) % p);
+    check(memcmp(keys_were, bytes(&pair_wire_keys), read ? (wire + 1) * k : pair_wire_keys.length) == 0,
+        "opening for two reads the row of the external value, and no other");
+    bytes(&pair_rows)[at] = was;
+}
+
+/* Opening in another round is accepted too. */
+static void change_round(void) {
+    static uint8_t keys_were[1 << 18];
+    const uint32_t was = round_number;
+    memcpy(keys_were, bytes(&pair_wire_keys), pair_wire_keys.length);
+    round_number ^= 1u << drawn(32);
+    must(PAIR_OPEN, 0, 0);
+    check(pair_halves > 0 || memcmp(keys_were, bytes(&pair_wire_keys), pair_wire_keys.length) == 0, "the round matters to rows alone");
+    round_number = was;
+}
+
+static void play_for_two(void) {
+    account %= ACCOUNTS;
+    for (size_t i = 1; i < BUFFERS; i++) /* a ring's may be too long for theirs */
+        set_length(all[i], exact(all[i]));
+    struct buffer *const lent_here[] = {&draw, &pair_rows, &pair_masks, &pair_keys, &pair_wire_keys, &pair_externals};
+    for (size_t i = 0; i < sizeof lent_here / sizeof lent_here[0]; i++)
+        check(lent_here[i]->length == exact(lent_here[i]), "a round for two that is played fits its buffers");
+    draw_values();
+    draw_for_two();
+    start_meter(pair_total);
+    must(PAIR_READ, 0, 0);
+    check(word_at(bytes(&pair_count), 0) == pair_total, "the rows for two are those of the file");
+    must(PAIR_GARBLE, 0, 0);
+    open_twice();
+    change_row();
+    change_round();
+    pair_rounds++;
+}
+
+/* ---- calls of that round again, each with one to four faults; all else is right, so the first in the order of the checks is named */
+
+enum { TWO_KEYS, TWO_OWNERS, TWO_LENGTHS, TWO_ACCOUNTS, TWO_VALUES, TWO_BYTES, TWO_OFFSETS, TWO_KEY_BYTES, TWO_ROW_BYTES, TWO_METERS,
+    TWO_FAULTS };
+COUNTERS static uint8_t met_pair[CALLS][TWO_FAULTS][TWO_FAULTS]; /* the fault that is due, and another */
+
+#define AS_BIT(fault) (1u << (fault))
+enum { TWO_ANY = AS_BIT(TWO_KEYS) | AS_BIT(TWO_OWNERS) | AS_BIT(TWO_LENGTHS) };
+
+static uint32_t faults_for_two(enum call c) {
+    const uint32_t bits = c == PAIR_GARBLE ? AS_BIT(TWO_ACCOUNTS) | AS_BIT(TWO_BYTES) | AS_BIT(TWO_OFFSETS) | AS_BIT(TWO_METERS)
+        : c == PAIR_INPUT_KEYS ? AS_BIT(TWO_VALUES) | AS_BIT(TWO_BYTES) | AS_BIT(TWO_OFFSETS)
+        : AS_BIT(TWO_KEY_BYTES) | AS_BIT(TWO_ROW_BYTES);
+    /* no row is too large where there is none, and no meter too full */
+    return TWO_ANY | (pair_total > 0 ? bits : bits & ~(AS_BIT(TWO_ROW_BYTES) | AS_BIT(TWO_METERS)));
+}
+
+/* A byte too large, and another at or behind it; the place of the first. */
+static size_t too_large(struct buffer *b) {
+    const size_t at = drawn((uint32_t)b->length), behind = at + drawn((uint32_t)(b->length - at));
+    change(b, behind, 1, (uint16_t)drawn(256));
+    change(b, at, 1, (uint16_t)drawn(256));
+    return at;
+}
+
+/* Component 0 of an offset, and of another of a larger modulus, other than 1; the lower modulus. */
+static size_t bad_offsets(void) {
+    const uint32_t q = drawn(counts.moduli), behind = q + drawn(counts.moduli - q);
+    for (uint32_t i = behind;; i = q) {
+        const uint32_t other = drawn(used_moduli[i] - 1u);
+        bytes(&draw)[(size_t)i * k] = (uint8_t)(other == 0 ? 0 : other + 1);
+        if (i == q)
+            return used_moduli[q];
+    }
+}
+
+/* An input, and one at or behind it, of a party that there is not; the first wire. */
+static size_t bad_owners(void) {
+    const uint32_t w = drawn(counts.inputs), behind = w + drawn(counts.inputs - w);
+    for (uint32_t i = behind;; i = w) {
+        owner[i] = bytes(&file)[4 * (1 + (size_t)i) + 2] = (uint8_t)(2 + drawn(6));
+        if (i == w)
+            return w;
+    }
+}
+
+static void bad_meter(void) {
+    const uint32_t total = UINT32_MAX - pair_total + 1 + drawn(pair_total);
+    memcpy(bytes(&meter) + 4 * account, &total, 4);
+}
+
+static void bad_length(enum call c) {
+    struct buffer *b = one_of(c, (struct fault){0, 0, (uint16_t)drawn(1 << 16)}, 1);
+    const uint32_t step = 1 + drawn(64);
+    set_length(b, drawn(2) || b->length < step ? b->length + step : b->length - step);
+}
+
+/* Lays one fault; its number, and the place in *place. Key length and account come last, since others go by them. */
+static uint32_t lay_fault(enum call c, unsigned kind, size_t *place) {
+    static const uint32_t odd_accounts[] = {8, 9, 15, 255, 256, 256 + 7, 1 << 16 | 3, 1u << 31, UINT32_MAX};
+    static const uint8_t numbers_due[TWO_FAULTS] = {11, 13, 14, 25, 15, 16, 27, 18, 18, 21};
+    *place = 0;
+    if (kind == TWO_OWNERS)
+        *place = bad_owners();
+    else if (kind == TWO_VALUES)
+        *place = too_large(&values);
+    else if (kind == TWO_BYTES)
+        *place = too_large(&draw);
+    else if (kind == TWO_OFFSETS)
+        *place = bad_offsets();
+    else if (kind == TWO_KEY_BYTES)
+        *place = too_large(&pair_keys);
+    else if (kind == TWO_ROW_BYTES)
+        *place = too_large(&pair_rows);
+    else if (kind == TWO_METERS)
+        bad_meter();
+    else if (kind == TWO_LENGTHS)
+        bad_length(c);
+    else if (kind == TWO_ACCOUNTS)
+        account = odd_accounts[drawn(9)];
+    else
+        k = odd_numbers[drawn(9)];
+    return numbers_due[kind];
+}
+
+/* A selector comes before all but the faults of the file; make() sees that it is named. */
+static void refuse_selector(void) {
+    const uint32_t k_was = k;
+    for (enum call c = PAIR_GARBLE; c <= PAIR_OPEN; c++) {
+        k = odd_numbers[drawn(9)];
+        make(c);
+    }
+    k = k_was;
+}
+
+/* What the calls read, put aside and back again. */
+static struct {
+    uint8_t file[4 * MOST_WORDS + 4096], owner[MOST_WIRES], draw[1 << 18], rows[1 << 21], keys[1 << 18], values[4096];
+    uint8_t masks[4096], externals[4096], wire_keys[1 << 18];
+} aside;
+static struct {
+    struct buffer *buffer;
+    uint8_t *bytes;
+} const kept_aside[] = {{&file, aside.file}, {&draw, aside.draw}, {&pair_rows, aside.rows}, {&pair_keys, aside.keys},
+    {&values, aside.values}, {&pair_masks, aside.masks}, {&pair_externals, aside.externals}, {&pair_wire_keys, aside.wire_keys}};
+enum { KEPT_ASIDE = sizeof kept_aside / sizeof kept_aside[0] };
+
+static void put_aside(void) {
+    for (size_t i = 0; i < KEPT_ASIDE; i++)
+        memcpy(kept_aside[i].bytes, bytes(kept_aside[i].buffer), kept_aside[i].buffer->length);
+    memcpy(aside.owner, owner, sizeof owner);
+}
+
+static void put_back(const size_t *lengths) {
+    for (size_t i = 0; i < KEPT_ASIDE; i++) {
+        kept_aside[i].buffer->length = lengths[i];
+        set_bytes(kept_aside[i].buffer, kept_aside[i].bytes);
+    }
+    memcpy(owner, aside.owner, sizeof owner);
+}
+
+/* The offsets before other bytes of the draw, so that a component 0 that is too large stays so; the lengths and k after all that go by
+   them. */
+static void spoil_for_two(struct fault f) {
+    static const uint8_t order[TWO_FAULTS] = {TWO_OWNERS, TWO_VALUES, TWO_OFFSETS, TWO_BYTES, TWO_KEY_BYTES, TWO_ROW_BYTES, TWO_METERS,
+        TWO_LENGTHS, TWO_ACCOUNTS, TWO_KEYS};
+    const enum call c = PAIR_GARBLE + f.call % 3;
+    const uint32_t can = faults_for_two(c), k_was = k, account_was = account;
+    size_t lengths[KEPT_ASIDE], places[TWO_FAULTS];
+    uint32_t numbers_of[TWO_FAULTS], wrong, first = 0;
+    unsigned kind = f.kind % TWO_FAULTS;
+    while (!(can >> kind & 1))
+        kind = (kind + 1) % TWO_FAULTS;
+    wrong = AS_BIT(kind);
+    for (uint32_t more = drawn(4); more > 0; more--)
+        wrong |= AS_BIT(drawn(TWO_FAULTS)) & can;
+    for (size_t i = 0; i < KEPT_ASIDE; i++)
+        lengths[i] = kept_aside[i].buffer->length;
+    start_meter(pair_total);
+    for (size_t i = 0; i < TWO_FAULTS; i++)
+        if (wrong >> order[i] & 1)
+            numbers_of[order[i]] = lay_fault(c, order[i], &places[order[i]]);
+    while (!(wrong >> first & 1))
+        first++;
+    met_pair[c][first][kind] = 1;
+    must(c, numbers_of[first], places[first]);
+    k = k_was, account = account_was;
+    put_back(lengths);
+    faulty++;
+}
+
 /* ---- what libFuzzer calls */
 
 static void report(void) {
-    fprintf(stderr, "%llu calls, %llu whole rounds, %llu calls with a fault; answers:\n", (unsigned long long)made_calls,
-        (unsigned long long)rounds, (unsigned long long)faulty);
+    fprintf(stderr, "%llu calls, %llu whole rounds, %llu of two, %llu calls with a fault; answers:\n", (unsigned long long)made_calls,
+        (unsigned long long)rounds, (unsigned long long)pair_rounds, (unsigned long long)faulty);
     for (enum call c = READ; c < CALLS; c++) {
         fprintf(stderr, "%s:", calls[c].name);
         for (int number = 0; number < NUMBERS; number++)
@@ -1486,6 +1829,13 @@ static void report(void) {
                 fprintf(stderr, " %d=%llu", number, (unsigned long long)met[c][number]);
         fputc('\n', stderr);
     }
+}
+
+static int owners_below(uint32_t parties) {
+    for (uint32_t w = 0; w < counts.inputs; w++)
+        if (owner[w] >= parties)
+            return 0;
+    return 1;
 }
 
 int LLVMFuzzerInitialize(int *argc, char ***argv) {
@@ -1508,7 +1858,7 @@ int LLVMFuzzerTestOneInput(const uint8_t *data, size_t size) {
         party %= n;
         account %= ACCOUNTS;
     }
-    numbers.length = 24, count.length = written_words.length = part_words.length = 4, integer.length = 8;
+    numbers.length = 24, count.length = written_words.length = part_words.length = pair_count.length = 4, integer.length = 8;
     meter.length = sizeof(lupiknam_meter);
     bundle.r = head.r, bundle.first = head.first, bundle.a = head.a, bundle.b = head.b, bundle.integer = head.integer;
     read_file(data + sizeof head, size - sizeof head);
@@ -1516,12 +1866,17 @@ int LLVMFuzzerTestOneInput(const uint8_t *data, size_t size) {
     call_loosely();
     write_again();
     try_bundles();
-    for (uint32_t w = 0; w < counts.inputs; w++)
-        if (owner[w] >= n)
-            return 0;
-    if (reading.number != 0 || !in_range() || dear())
-        return 0;
-    play();
-    spoil_all();
+    if (reading.number == 0 && in_range() && owners_below(n) && !dear()) {
+        play();
+        spoil_all();
+    }
+    if (reading.number == 0 && first_select > 0)
+        refuse_selector();
+    if (reading.number == 0 && first_select == 0 && k >= 1 && k <= 128 && owners_below(2) && !dear_for_two()) {
+        play_for_two();
+        put_aside();
+        for (int i = 0; i < FAULTS; i++)
+            spoil_for_two(head.faults[i]);
+    }
     return 0;
 }

@@ -6,7 +6,7 @@
 #include <stdlib.h>
 #include <string.h>
 
-enum { FAULTS = 43 }; /* fuzz/run reads this line */
+enum { FAULTS = 63 }; /* fuzz/run reads this line */
 
 #define FILE_PARAMETERS const uint8_t *file, size_t length
 #define READ_ONLY(name) const uint8_t *name, size_t name##_length
@@ -31,6 +31,12 @@ lupiknam_answer engine_bundle_add(uint32_t, uint32_t, uint32_t, uint32_t, WRITTE
 lupiknam_answer engine_bundle_multiply(uint32_t, uint32_t, uint32_t, uint32_t, WRITTEN(file), uint32_t *);
 lupiknam_answer engine_bundle_scale(uint32_t, uint32_t, uint64_t, uint32_t, WRITTEN(file), uint32_t *);
 void engine_meter_carry(uint32_t, lupiknam_meter *);
+lupiknam_answer engine_pair_read(FILE_PARAMETERS, uint32_t *);
+lupiknam_answer engine_pair_garble(FILE_PARAMETERS, uint32_t, uint32_t, uint32_t, READ_ONLY(draw), WRITTEN(rows), WRITTEN(output_masks),
+    lupiknam_meter *);
+lupiknam_answer engine_pair_input_keys(FILE_PARAMETERS, uint32_t, READ_ONLY(draw), READ_ONLY(values), WRITTEN(keys));
+lupiknam_answer engine_pair_open(FILE_PARAMETERS, uint32_t, uint32_t, READ_ONLY(keys), READ_ONLY(rows), WRITTEN(wire_keys),
+    WRITTEN(wire_externals));
 
 static int planted(int number) {
     const char *given = getenv("PLANTED");
@@ -256,4 +262,119 @@ void lupiknam_meter_carry(uint32_t total, lupiknam_meter *meter) {
         meter->totals[7] = before.totals[7];
     if (planted(43)) // the old total added to what stands there
         meter->totals[0] += before.totals[0];
+}
+
+/* The first word of a file, from one on, that is of this kind; the number of words where there is none. */
+static size_t word_of_kind(FILE_PARAMETERS, size_t from, unsigned kind) {
+    while (from < length / 4 && file[4 * from + 3] >> 4 != kind)
+        from++;
+    return from;
+}
+
+/* The index of the first input whose owner is above 1; of the first word that is no input where there is none. */
+static size_t stranger(FILE_PARAMETERS) {
+    size_t at = 1;
+    while (4 * at + 4 <= length && file[4 * at + 3] == 0x20 && file[4 * at + 2] < 2)
+        at++;
+    return at;
+}
+
+lupiknam_answer lupiknam_pair_read(FILE_PARAMETERS, uint32_t *rows) {
+    uint32_t found = *rows, c[6];
+    lupiknam_answer a = engine_pair_read(file, length, &found);
+    const size_t select = word_of_kind(file, length, 1, 8), at = stranger(file, length);
+    if (planted(44) && a.number == 0 && squares(file, length) > 0) // a square with the rows of a ring's
+        engine_read(file, length, c, c + 1, c + 2, &found, c + 4, c + 5);
+    if (planted(45) && a.number == 0 && file[4 * at + 3] == 0x20) // an owner above 1 refused
+        return (lupiknam_answer){13, at - 1};
+    if (planted(46) && a.number == 26) // the place of the last selector
+        for (size_t next = select; next < length / 4; next = word_of_kind(file, length, next + 1, 8))
+            a.place = next;
+    if (planted(47) && a.number > 1 && a.number <= 10 && select < a.place) // 26 before a fault behind the selector
+        return (lupiknam_answer){26, select};
+    if (planted(48) && a.number == 26) // a number written though the call is refused
+        found = 0;
+    *rows = found;
+    return a;
+}
+
+static uint8_t mended_draw[1 << 18];
+
+/* A draw whose offsets all begin with 1. */
+static void mend_draw(uint32_t k, uint32_t moduli, READ_ONLY(draw)) {
+    memcpy(mended_draw, draw, draw_length);
+    for (size_t i = 0; i < moduli && i * k < draw_length; i++)
+        mended_draw[i * k] = 1;
+}
+
+lupiknam_answer lupiknam_pair_garble(FILE_PARAMETERS, uint32_t k, uint32_t round, uint32_t account, READ_ONLY(draw), WRITTEN(rows),
+    WRITTEN(output_masks), lupiknam_meter *meter) {
+    uint32_t c[6];
+    lupiknam_meter full;
+    memset(&full, 255, sizeof full);
+#define PAIR_GARBLE(draw, account, meter)                                                                                          \
+    engine_pair_garble(file, length, k, round, account, draw, draw_length, rows, rows_length, output_masks, output_masks_length, meter)
+    if (planted(61)) // the low bits of the account
+        account &= 7;
+    lupiknam_answer a = PAIR_GARBLE(draw, account, meter);
+    engine_read(file, length, c, c + 1, c + 2, c + 3, c + 4, c + 5);
+    if (planted(49) && a.number == 0 && rows_length > 0) // the rows of a ring charged
+        meter->totals[account] += c[3] - (uint32_t)(rows_length / k);
+    if (planted(50) && a.number == 27) { // an offset with any component 0 taken
+        mend_draw(k, c[4], draw, draw_length);
+        return PAIR_GARBLE(mended_draw, account, meter);
+    }
+    if (planted(51) && a.number == 27) // the meter counts though the call is refused
+        ++meter->totals[account];
+    if (planted(52) && a.number == 16 && rows_length > 0) { // 27 before 16; with a full meter nothing is written
+        memset(mended_draw, 0, draw_length);
+        for (size_t i = 0; i < c[4]; i++)
+            mended_draw[i * k] = draw[i * k] == 1;
+        lupiknam_answer other = PAIR_GARBLE(mended_draw, 0, &full);
+        a = other.number == 27 ? other : a;
+    }
+    if (planted(53) && a.number == 0) // the last mask not written
+        output_masks[output_masks_length - 1] = 255;
+    if (planted(54) && a.number == 25 && rows_length > 0) { // 25 after 16; with a full meter nothing is written
+        lupiknam_answer other = PAIR_GARBLE(draw, 0, &full);
+        a = other.number == 16 ? other : a;
+    }
+    if (planted(55) && a.number == 26 && (k == 0 || k > 128)) // 11 before 26
+        return (lupiknam_answer){11, 0};
+    return a;
+}
+
+lupiknam_answer lupiknam_pair_input_keys(FILE_PARAMETERS, uint32_t k, READ_ONLY(draw), READ_ONLY(values), WRITTEN(keys)) {
+    static uint8_t owned[1 << 19];
+    lupiknam_answer a = engine_pair_input_keys(file, length, k, draw, draw_length, values, values_length, keys, keys_length);
+    if (planted(56) && a.number == 13) { // an owner above 1 taken
+        memcpy(owned, file, length);
+        for (size_t at = 1; owned[4 * at + 3] == 0x20; at++)
+            owned[4 * at + 2] = 0;
+        return engine_pair_input_keys(owned, length, k, draw, draw_length, values, values_length, keys, keys_length);
+    }
+    if (planted(57) && a.number == 15) // 16 before 15
+        for (size_t i = 0; i < draw_length; i++)
+            if (draw[i] > 250)
+                return (lupiknam_answer){16, i};
+    if (planted(58) && a.number == 0 && k > 1) // a byte that is not the zero key's plus value times offset, still below its modulus
+        keys[keys_length - 1] = keys[keys_length - 1] == 0;
+    return a;
+}
+
+lupiknam_answer lupiknam_pair_open(FILE_PARAMETERS, uint32_t k, uint32_t round, READ_ONLY(keys), READ_ONLY(rows), WRITTEN(wire_keys),
+    WRITTEN(wire_externals)) {
+    if (planted(59)) // the round in two bytes
+        round &= 65535;
+    lupiknam_answer a = engine_pair_open(file, length, k, round, keys, keys_length, rows, rows_length, wire_keys, wire_keys_length,
+        wire_externals, wire_externals_length);
+    if (planted(60) && a.number == 18) // a bad row named before a bad key
+        for (size_t i = 0; i < rows_length; i++)
+            if (rows[i] > 250)
+                return (lupiknam_answer){18, i};
+    if (planted(62) && a.number == 18) // a byte written though the call is refused
+        wire_keys[wire_keys_length / 2] = 0;
+    if (planted(63) && a.number == 0) // an external value that is not component 0 of its key, still below its modulus
+        wire_externals[0] = wire_externals[0] == 0;
+    return a;
 }

@@ -1,9 +1,12 @@
-// Plays a round of a circuit file on this one machine: all parties by turns, through the engine's calls. Prints the price list, who owns
-// which input, each party's figures beside the plain circuit's, the rows of each account, the bytes that a party sends and the time that
-// each call took.
+// Plays a round of a circuit file on this one machine: all parties by turns, through the engine's calls. Prints the price list, the rows of
+// both forms, who owns which input, each party's figures beside the plain circuit's, the rows of each account, the bytes that a party sends
+// and the time that each call took.
 //
-//   demo_round FILE [--parties N] [--key-length K] [--values A,B,...] [--round N] [--seed N] [--integers R]
+//   demo_round FILE [--pair] [--parties N] [--key-length K] [--values A,B,...] [--round N] [--seed N] [--integers R]
 //              [--account A] [--meter PATH] [--carry TOTAL]
+//
+// With --pair the circuit, which has no selectors and inputs of parties 0 and 1 alone, is played in the two-party form: one side garbles,
+// the other opens. The price list is then that form's.
 //
 // With --integers, outputs that are a bundle of R, that is, R in a row whose moduli are the first R primes, are shown as one integer.
 //
@@ -14,7 +17,7 @@
 //
 // One process holds every party's secrets here, and prints their values: this shows a round, it does not keep one.
 //
-// Ends with 0 if every party's figures are the plain circuit's, with 1 if the engine refuses or a figure differs, and with 2 if the command
+// Ends with 0 if all figures decoded are the plain circuit's, with 1 if the engine refuses or a figure differs, and with 2 if the command
 // is wrong or the machine does not give what it needs.
 #define _POSIX_C_SOURCE 200809L
 #include "lupiknam.h"
@@ -43,29 +46,37 @@ enum kind { INPUT = 2, ADD, SCALE, MULTIPLY, PROJECT, ENTRY, SELECT, BRANCHES, O
 // as the command has them; NULL where it has none
 struct options {
     const char *path, *parties, *key_length, *values, *round, *seed, *integers, *account, *meter, *carry;
+    bool pair;
 };
 
 struct wire {
     uint32_t kind, owner, modulus, rows;
-    uint32_t keys; // in a party's record of this wire
+    uint32_t keys;      // in a party's record of this wire
+    uint32_t pair_rows; // in the two-party form
 };
 
 struct circuit {
     uint8_t *file;
     size_t length;
     uint32_t wires, inputs, outputs, rows, moduli, record_keys; // as lupiknam_read counts them
+    uint32_t pair_rows;                                         // as lupiknam_pair_read counts them
+    lupiknam_answer pair;                                       // what that call answered
     struct wire wire[MOST_WIRES];
     uint32_t output[MOST_OUTPUTS]; // the wire of each
 };
 
 // the calls that are timed, and the one that only --integers needs
-enum call { READ, PLAIN, GARBLE, EXTERNALS, INPUT_KEYS, OPEN, DECODE, TIMED, JOIN = TIMED, CALLS };
+enum call { READ, PAIR_READ, PLAIN, GARBLE, EXTERNALS, INPUT_KEYS, OPEN, PAIR_GARBLE, PAIR_INPUT_KEYS, PAIR_OPEN, DECODE, TIMED,
+            JOIN = TIMED, CALLS };
 
-static const char *const call_names[CALLS] = {"read", "plain", "garble", "externals", "input_keys", "open", "decode", "bundle_join"};
+static const char *const call_names[CALLS] = {"read", "pair_read", "plain", "garble", "externals", "input_keys", "open", "pair_garble",
+                                              "pair_input_keys", "pair_open", "decode", "bundle_join"};
 
 struct round {
     const struct circuit *circuit;
+    bool pair;                      // the two-party form, in which what is contributed is the draw
     uint32_t n, k, number, account; // the number of the round, and the account that pays for it
+    uint32_t readers;               // who decode: all parties, or the opener
     size_t contribution_length, rows_length, keys_length, wire_keys_length;
     uint8_t *contributions, *rows, *keys, *own_keys, *wire_keys;
     uint8_t values[MOST_WIRES], input_masks[MOST_WIRES], externals[MOST_WIRES], wire_externals[MOST_WIRES];
@@ -115,6 +126,7 @@ static const char *place_of(uint32_t number) {
     case 18:
         return "byte";
     case 17:
+    case 27:
         return "modulus";
     default:
         return NULL;
@@ -122,7 +134,7 @@ static const char *place_of(uint32_t number) {
 }
 
 static void print_place(lupiknam_answer answer) {
-    if (answer.number <= 10)
+    if (answer.number <= 10 || answer.number == 26)
         fprintf(stderr, ", at word %zu (byte offset %zu of the file)", answer.place, 4 * answer.place);
     else if (place_of(answer.number))
         fprintf(stderr, ", at %s %zu", place_of(answer.number), answer.place);
@@ -245,12 +257,21 @@ static bool has_modulus(const struct circuit *c, uint32_t modulus) {
     return false;
 }
 
+static void draw_offset(const struct round *r, struct source *source, uint8_t *at, uint32_t modulus) {
+    if (r->pair) { // component 0 is 1, so that component 0 of a key is the external value
+        *at = 1;
+        draw_residues(source, at + 1, r->k - 1, modulus);
+        return;
+    }
+    // an offset of zero would give every external value the same key
+    while (!draw_residues(source, at, r->k, modulus)) {
+    }
+}
+
 static uint8_t *draw_offsets(const struct round *r, struct source *source, uint8_t *at) {
     for (uint32_t modulus = 2; modulus <= 251; modulus++)
         if (has_modulus(r->circuit, modulus)) {
-            // an offset of zero would give every external value the same key
-            while (!draw_residues(source, at, r->k, modulus)) {
-            }
+            draw_offset(r, source, at, modulus);
             at += r->k;
         }
     return at;
@@ -264,6 +285,13 @@ static uint8_t *draw_records(const struct round *r, struct source *source, uint8
         at += bytes;
     }
     return at;
+}
+
+// the garbler's draw has zero keys for the inputs alone
+static void draw_for_two(struct round *r, struct source *source) {
+    uint8_t *at = draw_offsets(r, source, r->contributions);
+    for (uint32_t i = 0; i < r->circuit->inputs; i++, at += r->k)
+        draw_residues(source, at, r->k, r->circuit->wire[i].modulus);
 }
 
 static void draw_contributions(struct round *r, struct source *source) {
@@ -310,17 +338,17 @@ static struct wire wire_of(const struct circuit *c, uint32_t word, uint32_t next
     uint32_t kind = word >> 28, p = named(c, kind == SELECT ? next : word)->modulus;
     switch (kind) {
     case INPUT:
-        return (struct wire){kind, word >> 16 & 0xFF, word & 0xFF, 0, 1};
+        return (struct wire){kind, word >> 16 & 0xFF, word & 0xFF, 0, 1, 0};
     case PROJECT:
-        return (struct wire){kind, 0, word >> 10 & 0xFF, p, 1};
-    case MULTIPLY:
+        return (struct wire){kind, 0, word >> 10 & 0xFF, p, 1, p - 1};
+    case MULTIPLY: // in the two-party form a square is a product like any other
         if (is_square(word))
-            return (struct wire){kind, 0, p, p, 1};
-        return (struct wire){kind, 0, p, 2 * p, 2};
-    case SELECT:
-        return (struct wire){kind, 0, p, 2 * p + 2, 3};
+            return (struct wire){kind, 0, p, p, 1, 2 * p - 2};
+        return (struct wire){kind, 0, p, 2 * p, 2, 2 * p - 2};
+    case SELECT: // which the two-party form has not
+        return (struct wire){kind, 0, p, 2 * p + 2, 3, 0};
     default: // add, scale
-        return (struct wire){kind, 0, p, 0, 0};
+        return (struct wire){kind, 0, p, 0, 0, 0};
     }
 }
 
@@ -341,11 +369,17 @@ static void list_wires(struct circuit *c) {
     }
 }
 
-static uint32_t rows_listed(const struct circuit *c) {
-    uint32_t rows = 0;
+// the rows of a wire, in a ring or in the two-party form
+static uint32_t rows_of(const struct wire *wire, bool pair) {
+    return pair ? wire->pair_rows : wire->rows;
+}
+
+static void check_rows(const struct circuit *c, bool pair, uint32_t counted) {
+    uint32_t listed = 0;
     for (uint32_t w = 0; w < c->wires; w++)
-        rows += c->wire[w].rows;
-    return rows;
+        listed += rows_of(&c->wire[w], pair);
+    if (listed != counted)
+        stop("the price list has %u rows, the engine counts %u", (unsigned)listed, (unsigned)counted);
 }
 
 static double read_circuit(struct circuit *c, const char *path) {
@@ -355,8 +389,19 @@ static double read_circuit(struct circuit *c, const char *path) {
     double spent = spent_since(begun);
     must(answer, READ);
     list_wires(c);
-    if (rows_listed(c) != c->rows)
-        stop("the price list has %u rows, the engine counts %u", (unsigned)rows_listed(c), (unsigned)c->rows);
+    check_rows(c, false, c->rows);
+    return spent;
+}
+
+// The rows of the two-party form, or that a selector bars it; only --pair insists. That call looks at no owner: print_rows and garbling do.
+static double read_for_two(struct circuit *c, bool insists) {
+    double begun = start("pair_read ");
+    c->pair = lupiknam_pair_read(c->file, c->length, &c->pair_rows);
+    double spent = spent_since(begun);
+    if (insists || c->pair.number != 26)
+        must(c->pair, PAIR_READ);
+    if (c->pair.number == 0)
+        check_rows(c, true, c->pair_rows);
     return spent;
 }
 
@@ -370,23 +415,50 @@ static uint32_t parties_needed(const struct circuit *c) {
 
 // ---- the calls of a round
 
+static enum call garbling(const struct round *r) {
+    return r->pair ? PAIR_GARBLE : GARBLE;
+}
+
+// Garbles a file in the form that is played. For two there are no input masks to write.
+static lupiknam_answer garble_file(const struct round *r, const uint8_t *file, size_t length, uint32_t account,
+                                   const uint8_t *contributions, size_t contributions_length, uint8_t *rows, size_t rows_length,
+                                   uint8_t *input_masks, size_t inputs, uint8_t *output_masks, size_t outputs, lupiknam_meter *meter) {
+    if (r->pair)
+        return lupiknam_pair_garble(file, length, r->k, r->number, account, contributions, contributions_length, rows, rows_length,
+                                    output_masks, outputs, meter);
+    return lupiknam_garble(file, length, r->n, r->k, r->number, account, contributions, contributions_length, rows, rows_length, input_masks,
+                           inputs, output_masks, outputs, meter);
+}
+
 // Whether n and K will do is the engine's to say, and before memory is sought for them: 11 and 13 come before 14, which a garbling that
 // is lent nothing meets in any case.
-static void check_session(const struct circuit *c, uint32_t n, uint32_t k) {
+static void check_session(const struct round *r) {
+    const struct circuit *c = r->circuit;
     lupiknam_meter meter;
     lupiknam_meter_carry(0, &meter);
-    lupiknam_answer answer = lupiknam_garble(c->file, c->length, n, k, 0, 0, NULL, 0, NULL, 0, NULL, 0, NULL, 0, &meter);
+    lupiknam_answer answer = garble_file(r, c->file, c->length, 0, NULL, 0, NULL, 0, NULL, 0, NULL, 0, &meter);
     if (answer.number != 14)
-        must(answer, GARBLE);
+        must(answer, garbling(r));
+}
+
+// the rows that are garbled
+static uint32_t garbled_rows(const struct round *r) {
+    return r->pair ? r->circuit->pair_rows : r->circuit->rows;
+}
+
+// whose keys there are: every party's, or the garbler's
+static uint32_t holders(const struct round *r) {
+    return r->pair ? 1 : r->n;
 }
 
 static void make_room(struct round *r) {
     const struct circuit *c = r->circuit;
-    r->contribution_length = (size_t)r->k * c->moduli + (size_t)(r->k + 1) * c->record_keys;
-    r->rows_length = (size_t)c->rows * r->n * r->k;
-    r->keys_length = (size_t)c->inputs * r->n * r->k;
-    r->wire_keys_length = (size_t)c->wires * r->n * r->k;
-    r->contributions = room(r->n * r->contribution_length);
+    const size_t key = r->k, row = key * holders(r);
+    r->contribution_length = r->pair ? key * (c->moduli + c->inputs) : key * c->moduli + (key + 1) * c->record_keys;
+    r->rows_length = garbled_rows(r) * row;
+    r->keys_length = c->inputs * row;
+    r->wire_keys_length = c->wires * row;
+    r->contributions = room(holders(r) * r->contribution_length);
     r->rows = room(r->rows_length);
     r->keys = room(r->keys_length);
     r->own_keys = room((size_t)c->inputs * r->k);
@@ -413,7 +485,7 @@ static void evaluate_plainly(struct round *r) {
     must(answer, PLAIN);
 }
 
-// a circuit of one input and its projection, of so many rows
+// a circuit of one input and its projection, of so many rows, or of one less in the two-party form
 enum { TRIAL_ROWS = 251, TRIAL_WORDS = TRIAL_ROWS + 5 };
 
 static uint8_t *put_word(uint8_t *at, uint32_t word) {
@@ -436,30 +508,31 @@ static void write_trial(uint8_t *at) {
 // gets these rows and nobody pays for them: the meter is one of their own.
 static double seconds_to_garble(const struct round *r) {
     uint8_t file[4 * TRIAL_WORDS], input_mask, output_mask;
-    size_t contributions_length = r->n * (2 * (size_t)r->k + 2 * ((size_t)r->k + 1)), rows_length = (size_t)TRIAL_ROWS * r->n * r->k;
+    const size_t key = r->k, contributions_length = r->pair ? 3 * key : r->n * (2 * key + 2 * (key + 1));
+    const size_t rows_length = r->pair ? (TRIAL_ROWS - 1) * key : TRIAL_ROWS * r->n * key;
     uint8_t *contributions = room(contributions_length), *rows = room(rows_length);
     lupiknam_meter meter;
     lupiknam_meter_carry(0, &meter);
     write_trial(file);
-    memset(contributions, 1, contributions_length); // below both moduli, and no offset zero
+    memset(contributions, 1, contributions_length); // below both moduli, and no offset zero; in each component 0 is 1
     double begun = milliseconds_now();
-    must(lupiknam_garble(file, sizeof file, r->n, r->k, r->number, 0, contributions, contributions_length, rows, rows_length, &input_mask,
-                         1, &output_mask, 1, &meter),
-         GARBLE);
+    lupiknam_answer answer = garble_file(r, file, sizeof file, 0, contributions, contributions_length, rows, rows_length, &input_mask, 1,
+                                         &output_mask, 1, &meter);
     double spent = milliseconds_now() - begun;
+    must(answer, garbling(r));
     free(contributions);
     free(rows);
-    return spent / TRIAL_ROWS * r->circuit->rows / 1e3;
+    return spent / TRIAL_ROWS * garbled_rows(r) / 1e3;
 }
 
 static void garble(struct round *r) {
     const struct circuit *c = r->circuit;
-    double begun = start("garble, %u rows, about %.0f s ", (unsigned)c->rows, seconds_to_garble(r));
+    double begun = start("garble, %u rows, about %.0f s ", (unsigned)garbled_rows(r), seconds_to_garble(r));
     lupiknam_answer answer =
-        lupiknam_garble(c->file, c->length, r->n, r->k, r->number, r->account, r->contributions, r->n * r->contribution_length, r->rows,
-                        r->rows_length, r->input_masks, c->inputs, r->output_masks, c->outputs, &r->meter);
-    r->milliseconds[GARBLE][0] = spent_since(begun);
-    must(answer, GARBLE);
+        garble_file(r, c->file, c->length, r->account, r->contributions, holders(r) * r->contribution_length, r->rows, r->rows_length,
+                    r->input_masks, c->inputs, r->output_masks, c->outputs, &r->meter);
+    r->milliseconds[garbling(r)][0] = spent_since(begun);
+    must(answer, garbling(r));
 }
 
 // The totals before a garbling: of a new meter or of one that is carried over, for which the file is made; else as the file has them.
@@ -550,11 +623,40 @@ static void open_rows(struct round *r, uint32_t party) {
 
 static void decode(struct round *r, uint32_t party) {
     const struct circuit *c = r->circuit;
-    double begun = start_at(DECODE, party, r->n);
+    double begun = start_at(DECODE, party, r->readers);
     lupiknam_answer answer =
         lupiknam_decode(c->file, c->length, r->wire_externals, c->wires, r->output_masks, c->outputs, r->figures[party], c->outputs);
     r->milliseconds[DECODE][party] = spent_since(begun);
     must(answer, DECODE);
+}
+
+// The garbler has all values here. In the field the opener gets the keys of its own inputs by oblivious transfer, which is no part of the
+// engine.
+static void make_input_keys_for_two(struct round *r) {
+    const struct circuit *c = r->circuit;
+    double begun = start("pair_input_keys ");
+    lupiknam_answer answer = lupiknam_pair_input_keys(c->file, c->length, r->k, r->contributions, r->contribution_length, r->values,
+                                                      c->inputs, r->keys, r->keys_length);
+    r->milliseconds[PAIR_INPUT_KEYS][0] = spent_since(begun);
+    must(answer, PAIR_INPUT_KEYS);
+}
+
+static void open_rows_for_two(struct round *r) {
+    const struct circuit *c = r->circuit;
+    double begun = start("pair_open ");
+    lupiknam_answer answer = lupiknam_pair_open(c->file, c->length, r->k, r->number, r->keys, r->keys_length, r->rows, r->rows_length,
+                                                r->wire_keys, r->wire_keys_length, r->wire_externals, c->wires);
+    r->milliseconds[PAIR_OPEN][0] = spent_since(begun);
+    must(answer, PAIR_OPEN);
+}
+
+// the garbler garbles and makes the keys, the opener opens and, having the output masks, decodes
+static void play_for_two(struct round *r) {
+    evaluate_plainly(r);
+    garble_for_account(r);
+    make_input_keys_for_two(r);
+    open_rows_for_two(r);
+    decode(r, 0);
 }
 
 // every party needs all external values for its keys, and all keys to open
@@ -573,11 +675,22 @@ static void play(struct round *r) {
 
 // ---- what is printed
 
-static void print_prices(const struct circuit *c) {
+static void print_prices(const struct round *r) {
+    const struct circuit *c = r->circuit;
     puts("wire kind modulus rows");
     for (uint32_t w = 0; w < c->wires; w++)
-        printf("%u %u %u %u\n", (unsigned)w, (unsigned)c->wire[w].kind, (unsigned)c->wire[w].modulus, (unsigned)c->wire[w].rows);
-    printf("total %u\n", (unsigned)c->rows);
+        printf("%u %u %u %u\n", (unsigned)w, (unsigned)c->wire[w].kind, (unsigned)c->wire[w].modulus,
+               (unsigned)rows_of(&c->wire[w], r->pair));
+    printf("total %u\n", (unsigned)garbled_rows(r));
+}
+
+// of both forms, whichever is played; with an owner above 1 garbling for two would refuse the circuit
+static void print_rows(const struct circuit *c) {
+    printf("\nrows of a garbling: %u in a ring, ", (unsigned)c->rows);
+    if (c->pair.number == 0)
+        printf("%u in the two-party form%s\n", (unsigned)c->pair_rows, parties_needed(c) > 2 ? ", but an owner is above 1" : "");
+    else
+        printf("none in the two-party form: %s, at word %zu\n", lupiknam_refusal(c->pair.number), c->pair.place);
 }
 
 static void print_inputs(const struct round *r) {
@@ -624,8 +737,11 @@ static uint64_t figure_at(const struct round *r, const uint8_t *bytes, uint32_t 
 
 static void print_figures_head(const struct round *r) {
     const int wide = r->integers ? 10 : 0; // digits of the largest product
-    printf("\nfigures: the plain circuit's, and what each party decodes\noutput wire %*s %*s", wide, "modulus", wide, "plain");
-    for (uint32_t party = 0; party < r->n; party++)
+    printf("\nfigures: the plain circuit's, and what %s decodes\n", r->pair ? "the opener" : "each party");
+    printf("output wire %*s %*s", wide, "modulus", wide, "plain");
+    if (r->pair)
+        printf(" %*s", wide ? wide : 7, "opener");
+    for (uint32_t party = 0; !r->pair && party < r->n; party++)
         printf(" %*s %u", wide ? wide - 2 : 0, "party", (unsigned)party);
     putchar('\n');
 }
@@ -637,19 +753,27 @@ static void print_figures(const struct round *r) {
     for (uint32_t o = 0; o < c->outputs; o += is_bundle(c, o, r->integers) ? r->integers : 1) {
         printf("%6u %4u %*llu %*llu", (unsigned)o, (unsigned)c->output[o], wide, (unsigned long long)limit_of(c, o, r->integers),
                plain_wide, (unsigned long long)figure_at(r, r->plain, o));
-        for (uint32_t party = 0; party < r->n; party++)
-            printf(" %*llu", wide, (unsigned long long)figure_at(r, r->figures[party], o));
+        for (uint32_t reader = 0; reader < r->readers; reader++)
+            printf(" %*llu", wide, (unsigned long long)figure_at(r, r->figures[reader], o));
         putchar('\n');
     }
+}
+
+static void complain_of(const struct round *r, uint32_t reader) {
+    fflush(stdout);
+    if (r->pair)
+        fputs("demo_round: the opener", stderr);
+    else
+        fprintf(stderr, "demo_round: party %u", (unsigned)reader);
+    fputs(" decodes other figures than the plain circuit's\n", stderr);
 }
 
 // names each party whose figures are not the plain circuit's, and says whether there is none
 static bool print_verdict(const struct round *r) {
     bool all = true;
-    for (uint32_t party = 0; party < r->n; party++)
-        if (memcmp(r->figures[party], r->plain, r->circuit->outputs) != 0) {
-            fflush(stdout);
-            fprintf(stderr, "demo_round: party %u decodes other figures than the plain circuit's\n", (unsigned)party);
+    for (uint32_t reader = 0; reader < r->readers; reader++)
+        if (memcmp(r->figures[reader], r->plain, r->circuit->outputs) != 0) {
+            complain_of(r, reader);
             all = false;
         }
     if (all)
@@ -672,11 +796,25 @@ static void print_totals(const struct round *r) {
     putchar('\n');
 }
 
-static void print_bytes(const struct round *r) {
-    printf("\nrows garbled: %u, each %u parties x %u bytes: %zu bytes\n", (unsigned)r->circuit->rows, (unsigned)r->n, (unsigned)r->k,
-           r->rows_length);
+static void print_garbled(const struct round *r) {
+    printf("\nrows garbled: %u, each ", (unsigned)garbled_rows(r));
+    if (!r->pair)
+        printf("%u parties x ", (unsigned)r->n);
+    printf("%u bytes: %zu bytes\n", (unsigned)r->k, r->rows_length);
     print_totals(r);
     printf("checksum of the rows: %016llx\n", (unsigned long long)checksum(r->rows, r->rows_length));
+}
+
+static void print_bytes_for_two(const struct round *r) {
+    size_t masks = r->circuit->outputs;
+    printf("\nbytes that the garbler sends to the opener. Its draw, %zu bytes, it keeps.\n"
+           "In the field the keys of the opener's own inputs go by oblivious transfer, which takes more bytes than the keys.\n",
+           r->contribution_length);
+    puts("   rows input keys output masks     all");
+    printf("%7zu %10zu %12zu %7zu\n", r->rows_length, r->keys_length, masks, r->rows_length + r->keys_length + masks);
+}
+
+static void print_bytes(const struct round *r) {
     puts("\nbytes that a party sends: its contribution to the garbling, the external values of its own inputs, its keys on all inputs.\n"
          "Each is counted once, however many take it; the rows are not counted.\n"
          "party contribution externals input keys     all");
@@ -691,9 +829,18 @@ static bool made_once(enum call call) {
     return call == READ || call == PLAIN || call == GARBLE;
 }
 
+static void print_times_for_two(const struct round *r) {
+    puts("\ntime of each call in milliseconds");
+    for (enum call call = READ; call < TIMED; call++)
+        if (call < GARBLE || call > OPEN)
+            printf("%-15s %9.3f\n", call_names[call], r->milliseconds[call][0]);
+}
+
 static void print_times(const struct round *r) {
     puts("\ntime of each call in milliseconds; where every party makes it, party 0's first");
     for (enum call call = READ; call < TIMED; call++) {
+        if (call == PAIR_READ || (call >= PAIR_GARBLE && call <= PAIR_OPEN))
+            continue;
         printf("%-10s", call_names[call]);
         for (uint32_t party = 0; party < (made_once(call) ? 1 : r->n); party++)
             printf(" %9.3f", r->milliseconds[call][party]);
@@ -704,7 +851,7 @@ static void print_times(const struct round *r) {
 // ---- the command
 
 __attribute__((noreturn)) static void usage(void) {
-    stop("usage: demo_round FILE [--parties N] [--key-length K] [--values A,B,...] [--round N] [--seed N] [--integers R] "
+    stop("usage: demo_round FILE [--pair] [--parties N] [--key-length K] [--values A,B,...] [--round N] [--seed N] [--integers R] "
          "[--account A] [--meter PATH] [--carry TOTAL]");
 }
 
@@ -759,11 +906,21 @@ static const char **place_for(struct options *options, const char *name) {
 
 static struct options options_from(int count, char **arguments) {
     struct options options = {.key_length = "16", .round = "0", .account = "0"};
-    if (count < 2 || count % 2 != 0)
+    if (count < 2)
         usage();
     options.path = arguments[1];
-    for (int at = 2; at < count; at += 2)
-        *place_for(&options, arguments[at]) = arguments[at + 1];
+    for (int at = 2; at < count; at++) {
+        if (strcmp(arguments[at], "--pair") == 0) {
+            options.pair = true;
+            continue;
+        }
+        const char **place = place_for(&options, arguments[at]);
+        if (++at == count)
+            usage();
+        *place = arguments[at];
+    }
+    if (options.pair && options.parties)
+        stop("--parties does not go with --pair: the two-party form has two");
     return options;
 }
 
@@ -806,7 +963,10 @@ static void draw(struct round *r, const struct options *options) {
         take_values(r, options->values);
     else
         draw_values(r, &source);
-    draw_contributions(r, &source);
+    if (r->pair)
+        draw_for_two(r, &source);
+    else
+        draw_contributions(r, &source);
     if (source.bytes)
         fclose(source.bytes);
 }
@@ -815,8 +975,14 @@ static bool print_round(const struct round *r) {
     print_inputs(r);
     print_figures(r);
     bool all = print_verdict(r);
-    print_bytes(r);
-    print_times(r);
+    print_garbled(r);
+    if (r->pair) {
+        print_bytes_for_two(r);
+        print_times_for_two(r);
+    } else {
+        print_bytes(r);
+        print_times(r);
+    }
     return all;
 }
 
@@ -826,7 +992,10 @@ int main(int count, char **arguments) {
     struct options options = options_from(count, arguments);
     listen_for_seconds();
     round.milliseconds[READ][0] = read_circuit(&circuit, options.path);
+    round.milliseconds[PAIR_READ][0] = read_for_two(&circuit, options.pair);
+    round.pair = options.pair;
     round.n = options.parties ? number_32_in(options.parties, "--parties") : parties_needed(&circuit);
+    round.readers = round.pair ? 1 : round.n;
     round.k = number_32_in(options.key_length, "--key-length");
     round.number = number_32_in(options.round, "--round");
     round.integers = options.integers ? primes_in(options.integers, &circuit) : 0;
@@ -834,12 +1003,16 @@ int main(int count, char **arguments) {
     round.meter_path = options.meter;
     round.carried = options.carry ? number_32_in(options.carry, "--carry") : 0;
     round.makes_meter = options.carry || !options.meter;
-    check_session(&circuit, round.n, round.k);
-    print_prices(&circuit);
+    check_session(&round);
+    print_prices(&round);
+    print_rows(&circuit);
     fflush(stdout); // before what may take long
     make_room(&round);
     draw(&round, &options);
-    play(&round);
+    if (round.pair)
+        play_for_two(&round);
+    else
+        play(&round);
     bool all = print_round(&round);
     give_back_room(&round);
     free(circuit.file);

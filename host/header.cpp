@@ -14,7 +14,7 @@ static_assert(offsetof(lupiknam_record, kind) == 0 && offsetof(lupiknam_record, 
     "fields of a record");
 // eight numbers without a gap
 static_assert(sizeof(lupiknam_meter) == 32 && alignof(lupiknam_meter) == 4 && offsetof(lupiknam_meter, totals) == 0, "layout of a meter");
-static_assert(LUPIKNAM_VERSION == 6, "version of the header");
+static_assert(LUPIKNAM_VERSION == 8, "version of the header");
 
 static int failed = 0;
 
@@ -112,7 +112,36 @@ int main()
     check("opening of nothing",
         answers(lupiknam_open(product, sizeof product, 3, 16, 0, 0, NULL, 0, NULL, 0, NULL, 0, NULL, 0, NULL, 0, NULL, 0), 14, 0));
     check("decoding of nothing", answers(lupiknam_decode(product, sizeof product, NULL, 0, NULL, 0, NULL, 0), 14, 0));
+
+    // the two-party form: 8 rows of the product; a draw has an offset and two zero keys. Of a bit's selector: word 2
+    static const uint8_t choice[] = {0, 0, 0, 0x10, 2, 0, 0, 0x20, 0, 0, 0, 0x80, 0, 0, 0, 0x90, 1, 0, 0, 0xA0, 0, 0, 0, 0xB0};
+    static const uint8_t drawn[] = {1, 3, 2, 0, 4, 4}, zeros[] = {0, 3, 2, 0, 4, 4};
+    uint8_t pair_rows[16], pair_keys[4], opened[6], externals[3], mask[1];
+    uint32_t pair_count = 77;
+    check("no file for two", answers(lupiknam_pair_read(NULL, 0, &pair_count), 1, 0) && pair_count == 77);
+    check("a selector for two", answers(lupiknam_pair_read(choice, sizeof choice, &pair_count), 26, 2) && pair_count == 77);
+    check("a product for two", answers(lupiknam_pair_read(product, sizeof product, &pair_count), 0, 0) && pair_count == 8);
+    check("garbling of nothing for two",
+        answers(lupiknam_pair_garble(product, sizeof product, 2, 0, 0, NULL, 0, NULL, 0, NULL, 0, &meter), 14, 0));
+    check("garbling for two, an offset that begins with 0",
+        answers(lupiknam_pair_garble(product, sizeof product, 2, 0, 0, zeros, 6, pair_rows, 16, mask, 1, &meter), 27, 5));
+    check("refused garblings for two: totals untouched", std::memcmp(meter.totals, carried, sizeof carried) == 0);
+    check("garbling for two",
+        answers(lupiknam_pair_garble(product, sizeof product, 2, 0, 1, drawn, 6, pair_rows, 16, mask, 1, &meter), 0, 0)
+            && meter.totals[0] == 77 && meter.totals[1] == 8);
+    check("input keys of nothing for two", answers(lupiknam_pair_input_keys(product, sizeof product, 2, NULL, 0, NULL, 0, NULL, 0), 14, 0));
+    // values 4 and 4, an offset of 1 and 3: 2 + 4 and 0 + 12, 4 + 4 and 4 + 12, modulo 5
+    const uint8_t fours[] = {4, 4};
+    check("input keys for two", answers(lupiknam_pair_input_keys(product, sizeof product, 2, drawn, 6, fours, 2, pair_keys, 4), 0, 0));
+    check("input keys for two: bytes", pair_keys[0] == 1 && pair_keys[1] == 2 && pair_keys[2] == 3 && pair_keys[3] == 1);
+    check("opening of nothing for two",
+        answers(lupiknam_pair_open(product, sizeof product, 2, 0, NULL, 0, NULL, 0, NULL, 0, NULL, 0), 14, 0));
+    check("opening for two",
+        answers(lupiknam_pair_open(product, sizeof product, 2, 0, pair_keys, 4, pair_rows, 16, opened, 6, externals, 3), 0, 0));
+    check("opening for two: external values", externals[0] == 1 && externals[1] == 3 && externals[2] == opened[4]);
+    check("decoding for two", answers(lupiknam_decode(product, sizeof product, externals, 3, mask, 1, result, 1), 0, 0) && result[0] == 1);
+
     check("refusal in words", std::strcmp(lupiknam_refusal(17), "an offset is zero") == 0);
-    check("the last refusal in words", std::strcmp(lupiknam_refusal(25), "account above 7") == 0);
+    check("the last refusal in words", std::strcmp(lupiknam_refusal(27), "an offset with component 0 other than 1") == 0);
     return failed;
 }

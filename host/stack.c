@@ -1,7 +1,7 @@
 /*
- * How much stack each call takes, for docs/HOST.md; no part of the gate. It plays host/round.c, host/write.c and host/bundles.c and makes
- * every call on a stack that was painted before, and prints how much of the paint is gone, the most for each call, in KiB. `host/stack`
- * builds it with gcc and runs it.
+ * How much stack each call takes, for docs/HOST.md; no part of the gate. It plays host/round.c, host/pair.c, host/write.c and host/bundles.c
+ * and makes every call on a stack that was painted before, and prints how much of the paint is gone, the most for each call, in KiB.
+ * `host/stack` builds it with gcc and runs it.
  */
 #include "lupiknam.h"
 #include <pthread.h>
@@ -38,7 +38,7 @@ static size_t depth(void (*run)(void))
     return SIZE - untouched;
 }
 
-enum { CALLS = 16 };
+enum { CALLS = 20 };
 
 static struct {
     const char *name;
@@ -55,7 +55,7 @@ static void measure(const char *name, void (*run)(void))
         seen[i].most = taken;
 }
 
-/* A call of round.c, write.c or bundles.c comes here (the linker's --wrap), and goes on to the engine's on the painted stack. */
+/* A call of round.c, pair.c, write.c or bundles.c comes here (the linker's --wrap), and goes on to the engine's on the painted stack. */
 #define WRAPPED(name, parameters, arguments)                                                                                       \
     lupiknam_answer __real_##name parameters;                                                                                      \
     lupiknam_answer __wrap_##name parameters                                                                                       \
@@ -99,6 +99,16 @@ WRAPPED(lupiknam_bundle_add, (uint32_t r, uint32_t d, uint32_t a, uint32_t b, ou
 WRAPPED(lupiknam_bundle_multiply, (uint32_t r, uint32_t d, uint32_t a, uint32_t b, out f, size_t fl, uint32_t *w), (r, d, a, b, f, fl, w))
 WRAPPED(lupiknam_bundle_scale, (uint32_t r, uint32_t d, uint64_t c, uint32_t a, out f, size_t fl, uint32_t *w), (r, d, c, a, f, fl, w))
 
+WRAPPED(lupiknam_pair_read, (in f, size_t fl, uint32_t *rows), (f, fl, rows))
+WRAPPED(lupiknam_pair_garble,
+        (in f, size_t fl, uint32_t k, uint32_t d, uint32_t a, in w, size_t wl, out r, size_t rl, out o, size_t ol, lupiknam_meter *m),
+        (f, fl, k, d, a, w, wl, r, rl, o, ol, m))
+WRAPPED(lupiknam_pair_input_keys, (in f, size_t fl, uint32_t k, in w, size_t wl, in v, size_t vl, out o, size_t ol),
+        (f, fl, k, w, wl, v, vl, o, ol))
+WRAPPED(lupiknam_pair_open,
+        (in f, size_t fl, uint32_t k, uint32_t d, in q, size_t ql, in r, size_t rl, out w, size_t wl, out x, size_t xl),
+        (f, fl, k, d, q, ql, r, rl, w, wl, x, xl))
+
 /* The one call that returns nothing. */
 void __real_lupiknam_meter_carry(uint32_t total, lupiknam_meter *meter);
 void __wrap_lupiknam_meter_carry(uint32_t total, lupiknam_meter *meter)
@@ -111,13 +121,14 @@ void __wrap_lupiknam_meter_carry(uint32_t total, lupiknam_meter *meter)
 }
 
 int round_main(int count, char **given);
+int pair_main(int count, char **given);
 int write_main(int count, char **given);
 int bundles_main(int count, char **given);
 
 int main(int count, char **given)
 {
-    char *nowhere[] = {"write", "/dev/null", NULL};
-    int status = round_main(count, given) | write_main(2, nowhere) | bundles_main(2, nowhere);
+    char *nowhere[] = {"write", "/dev/null", NULL}, *longest[] = {"pair", "128", "1", NULL};
+    int status = round_main(count, given) | pair_main(3, longest) | write_main(2, nowhere) | bundles_main(2, nowhere);
     for (size_t i = 0; i < CALLS && seen[i].name; i++)
         printf("%s %zu KiB\n", seen[i].name, (seen[i].most + 1023) / 1024);
     return status;

@@ -1,7 +1,7 @@
 /*
  * lupiknam.h: the engine's calls. For C99 or later, and C++. docs/HOST.md tells the life of a round, docs/FILE.md the circuit file;
- * host/round.c is a whole round to copy, host/write.c an editor that writes a file, host/bundles.c a circuit over whole numbers, and
- * host/meter_file.h keeps a meter in a file.
+ * host/round.c is a whole round to copy, host/pair.c one of the two-party form, host/write.c an editor that writes a file, host/bundles.c a
+ * circuit over whole numbers, and host/meter_file.h keeps a meter in a file.
  *
  * A slice is lent as a pointer and a length in bytes, a slice of records (lupiknam_record) as a pointer and the number of records. What a
  * call only reads is `const`. Every number that is handed over by value, every field of a record and every byte may be anything: a call
@@ -10,16 +10,21 @@
  * A circuit file is words of 32 bits, lent as bytes, four a word, little-endian.
  *
  * Every call but lupiknam_write, those of bundles and lupiknam_meter_carry reads the circuit first, then makes its checks in the order of
- * their numbers, but for 25, which stands directly after 14, and answers with the first that fails. Where a call is refused, each number
- * and each byte lent to it is as it was before; only a refusal by 20 leaves both written buffers all zero.
+ * their numbers, but for 25, which stands directly after 14, for 26, directly after 10, and for 27, in the place of 17, and answers with
+ * the first that fails. Where a call is refused, each number and each byte lent to it is as it was before; only a refusal by 20 leaves both
+ * written buffers all zero.
  *
  * n is the number of parties, 2 to 8; party is one of them, from 0; k is the key length K, 1 to 128. A key on a wire of modulus p is k
- * bytes below p. All parties' keys of a wire lie one after another, parties ascending.
+ * bytes below p. All parties' keys of a wire lie one after another, parties ascending. The calls of the two-party form, lupiknam_pair_...,
+ * take neither n nor party: there are two parties, and only the garbler's keys exist. What they take for a contribution, and how a round of
+ * theirs goes, stands before them below.
  *
  * round is the number of a garbling of the circuit, any of the 2^32: it goes into the input of every pad, so that a ring may garble a
- * circuit again, for a second figure, and the two garblings share no pad input. Rows open with the round that they were garbled with.
+ * circuit again, for a second figure, and the two garblings share no pad input. A round's number serves one garbling of a circuit, of either
+ * form. Rows open with the round that they were garbled with.
  *
- * account is the paying account that a garbling is charged to, 0 to 7. It changes no row and no mask; opening does not take it.
+ * account is the paying account that a garbling, of either form, is charged to, 0 to 7. It changes no row and no mask; opening does not
+ * take it.
  *
  * A contribution is a party's secret: first its offsets, k bytes each, one for each modulus that some wire has, moduli ascending; then a
  * record for each wire in the order of the wires, by the kind of the wire:
@@ -48,10 +53,11 @@
  *   threads    calls may run at the same time in any threads, as long as nothing that one of them writes is lent to another that runs
  *              then. Nobody else changes lent memory during a call. One meter serves one garbling at a time, whichever account
  *              each names
- *   stack      work memory is on the caller's stack: about 1.2 MiB in lupiknam_garble, 300 KiB in lupiknam_open, 170 KiB or less in the
- *              others. A thread with 2 MiB of stack can make every call
- *   secrets    a contribution is its party's secret, an input's value and mask its owner's; clearing memory after use is the caller's
- *              business, the stack included
+ *   stack      work memory is on the caller's stack: about 1.2 MiB in lupiknam_garble, 300 KiB or less in the others. A thread with 2 MiB
+ *              of stack can make every call
+ *   secrets    a contribution is its party's secret, a draw the garbler's, an input's value its owner's. In a ring an input's mask is its
+ *              owner's too; in the two-party form all masks are the garbler's, as part of the draw. Clearing memory after use is the
+ *              caller's business, the stack included
  */
 #ifndef LUPIKNAM_H
 #define LUPIKNAM_H
@@ -60,7 +66,7 @@
 #include <stdint.h>
 
 /* The number of the last change order that changed a declaration in this header. */
-#define LUPIKNAM_VERSION 6
+#define LUPIKNAM_VERSION 8
 
 #ifdef __cplusplus
 extern "C" {
@@ -86,7 +92,7 @@ extern "C" {
  *   13      owner of an input not below the number of parties                 wire, the lowest such
  *   14      a lent length is not exact                                        0
  *   15      value, external value or mask not below its modulus               its index in its buffer, the lowest such
- *   16      byte of a contribution not below its modulus                      its index in its buffer, the lowest such
+ *   16      byte of a contribution or draw not below its modulus              its index in its buffer, the lowest such
  *   17      an offset is zero                                                 its modulus, the lowest such
  *   18      byte of a key or of a row not below its modulus                   its index in its buffer, the lowest such; of a key
  *                                                                             if any key byte is too large
@@ -98,6 +104,8 @@ extern "C" {
  *   24      integer or constant not below the product, or residue not below   0
  *           its prime
  *   25      account above 7                                                   0
+ *   26      the circuit has a selector                                        word, that of the first select
+ *   27      an offset with component 0 other than 1                           its modulus, the lowest such
  *
  * Words are counted from 0, four bytes each; so are records, wires, parties and the bytes of a buffer.
  *
@@ -134,7 +142,7 @@ static inline const char *lupiknam_refusal(uint32_t number)
         "owner of an input not below the number of parties",
         "a lent length is not exact",
         "value, external value or mask not below its modulus",
-        "byte of a contribution not below its modulus",
+        "byte of a contribution or draw not below its modulus",
         "an offset is zero",
         "byte of a key or of a row not below its modulus",
         "own input key is not zero key plus external value times offset",
@@ -143,7 +151,9 @@ static inline const char *lupiknam_refusal(uint32_t number)
         "a buffer is too short for the words",
         "number of primes of a bundle not 2 to 10",
         "integer or constant not below the product, or residue not below its prime",
-        "account above 7"
+        "account above 7",
+        "the circuit has a selector",
+        "an offset with component 0 other than 1"
     };
     return number < sizeof words / sizeof words[0] ? words[number] : "unknown refusal";
 }
@@ -155,7 +165,7 @@ static inline const char *lupiknam_refusal(uint32_t number)
  *   wires               written: number of wires, at most 1,024
  *   inputs              written: number of inputs; they are the first wires
  *   outputs             written: number of outputs, 1 to 256
- *   rows                written: number of rows that a garbling has; a row is n * K bytes
+ *   rows                written: number of rows that a garbling has; a row is n * K bytes. lupiknam_pair_read counts the two-party form's
  *   moduli              written: number of different moduli among the wires
  *   record_keys         written: number of keys in a party's records; a contribution has K * moduli + (K + 1) * record_keys bytes
  *
@@ -344,8 +354,8 @@ lupiknam_answer lupiknam_plain(
     uint8_t *outputs, size_t outputs_length);
 
 /*
- * The row meter of a unit: for each account the rows of the accepted garblings that named it, and of account 0 also what was carried over
- * from a meter of one total. Any eight numbers may stand in it.
+ * The row meter of a unit: for each account the rows of the accepted garblings, of either form, that named it, and of account 0 also what
+ * was carried over from a meter of one total. Any eight numbers may stand in it.
  *
  *   totals   of accounts 0 to 7, in this order, each at most 4,294,967,295
  *
@@ -389,7 +399,8 @@ void lupiknam_meter_carry(
  * whatever the others hold. Where the call is refused all eight totals are as they were.
  *
  * Which account a garbling is for, the caller knows: this call only sees that there is such a one. Each contribution serves one garbling,
- * and so does a round's number for one circuit. An input's mask is for its owner alone; whoever garbles sees all contributions.
+ * and so does a round's number for one circuit, whichever form. An input's mask is for its owner alone; whoever garbles sees all
+ * contributions.
  */
 lupiknam_answer lupiknam_garble(
     const uint8_t *file, size_t file_length,
@@ -477,7 +488,7 @@ lupiknam_answer lupiknam_open(
  * Decodes the outputs, (external value - mask) modulo the wire's modulus.
  *
  *   file, file_length             the circuit file
- *   externals, externals_length   a byte for each wire: the external values of all wires, as lupiknam_open wrote them
+ *   externals, externals_length   a byte for each wire: the external values of all wires, as lupiknam_open or lupiknam_pair_open wrote them
  *   masks, masks_length           a byte for each output: the output masks that garbling wrote
  *   outputs, outputs_length       written: a byte for each output, in the order of the file
  *
@@ -488,6 +499,122 @@ lupiknam_answer lupiknam_decode(
     const uint8_t *externals, size_t externals_length,
     const uint8_t *masks, size_t masks_length,
     uint8_t *outputs, size_t outputs_length);
+
+/*
+ * The two-party form, for a circuit without selectors whose inputs are of parties 0 and 1. One of the two, whichever they agree on, is the
+ * garbler: it draws, garbles and makes the input keys. The other is the opener. A row is one key, k bytes, half of what it is in a ring of
+ * two. The rows are
+ *
+ *   project    p - 1, where p is the modulus of the wire that it names
+ *   multiply   2 * p - 2, where p is its modulus; of a wire by itself too, which in a ring has p
+ *   others     none
+ *
+ * Only the garbler's keys exist. The key for value v is the wire's zero key plus v times the offset of the wire's modulus. Component 0 of a
+ * key is its byte 0: that of a zero key is the wire's mask, that of each offset is 1, and so that of any key is the external value, (value +
+ * mask) modulo the wire's modulus. An offset of modulus p is therefore one of p^(k - 1), and the smallest modulus decides how large k is to
+ * be (docs/HOST.md, "Drawing for two").
+ *
+ * A draw is the garbler's secret. It takes the place of contributions: first the offsets, k bytes each, one for each modulus that some wire
+ * has, moduli ascending, byte 0 of each being 1; then the zero keys of the inputs, k bytes each, in the order of the wires. All bytes are
+ * below their modulus. It has k * (moduli + inputs) bytes, by the counts that lupiknam_read writes. A gate has nothing drawn.
+ *
+ * A round is, at the garbler, lupiknam_pair_garble and lupiknam_pair_input_keys from one draw, and at the opener lupiknam_pair_open, which
+ * gets the rows and one key for each input; then lupiknam_decode where the output masks are. The caller hands the same circuit, k and round
+ * to every call that takes them, and draws afresh and takes another round for each garbling of a circuit, of either form. Rows and keys of
+ * the two forms are not mixed: neither form opens the other's.
+ *
+ * The garbler knows all masks, so that an external value, or a key, tells it the value of that wire. Where it is to decode, the opener hands
+ * it the external values of the outputs alone, which the two have agreed on, with 0 for all other wires: never those of other wires, and
+ * never a key.
+ *
+ * Reads a circuit for the two-party form.
+ *
+ *   file, file_length   the circuit file
+ *   rows                written: number of rows that a garbling of the two-party form has; a row is K bytes
+ *
+ * Refusals: 1 to 10; 26, whose place is the word, of kind 8, of the first select. Where the file is refused the number is not written.
+ *
+ * The other counts are those of lupiknam_read. No owner is looked at here; 13 is for the three calls below.
+ */
+lupiknam_answer lupiknam_pair_read(
+    const uint8_t *file, size_t file_length,
+    uint32_t *rows);
+
+/*
+ * Garbles a circuit in the two-party form, at the garbler.
+ *
+ *   file, file_length                   the circuit file
+ *   k, round                            key length, the round
+ *   account                             the account that the rows are charged to, 0 to 7
+ *   draw, draw_length                   k * (moduli + inputs) bytes: the draw
+ *   rows, rows_length                   written: rows * k bytes, by the count that lupiknam_pair_read writes; by gate, component and row
+ *   output_masks, output_masks_length   written: a byte for each output, in the order of the file
+ *   meter                               read and written: the rows of this form are added to the total of the named account; the seven
+ *                                       others are as they were
+ *
+ * Refusals, in this order: 1 to 10; 26; 11 for k; 13 where an owner is above 1; 14 where a length is not as above; 25; 16, whose place
+ * counts from the draw's start; 27; 21 where the named account's total and the rows together pass its limit, whatever the others hold.
+ * Where the call is refused all eight totals are as they were.
+ *
+ * A draw serves one garbling, and so does a round's number for one circuit, whichever form. Rows go to the opener. The output masks go to
+ * whoever may read the figures, and to nobody else: whoever opens and has them decodes.
+ */
+lupiknam_answer lupiknam_pair_garble(
+    const uint8_t *file, size_t file_length,
+    uint32_t k, uint32_t round, uint32_t account,
+    const uint8_t *draw, size_t draw_length,
+    uint8_t *rows, size_t rows_length,
+    uint8_t *output_masks, size_t output_masks_length,
+    lupiknam_meter *meter);
+
+/*
+ * Gives the input keys of the two-party form, zero key + value times offset, at the garbler.
+ *
+ *   file, file_length       the circuit file
+ *   k                       key length
+ *   draw, draw_length       k * (moduli + inputs) bytes: the draw that was garbled
+ *   values, values_length   a byte for each input, in the order of the wires: the values of all inputs, both parties'
+ *   keys, keys_length       written: inputs * k bytes, a key for each input, in the order of the wires
+ *
+ * Refusals, in this order: 1 to 10; 26; 11 for k; 13 where an owner is above 1; 14 where a length is not as above; 15 over values, whose
+ * index is the wire's number; 16, whose place counts from the draw's start; 27.
+ *
+ * This call takes all values at once, the opener's too. How the opener comes by the keys of its own inputs without the garbler learning
+ * their values, oblivious transfer, lies outside the engine, as networks do. Nobody but the garbler may have two keys of a wire: the key for
+ * 1 less the key for 0 is the offset, and the offset makes of one key of a wire of that modulus all the others, and so opens all its rows.
+ */
+lupiknam_answer lupiknam_pair_input_keys(
+    const uint8_t *file, size_t file_length,
+    uint32_t k,
+    const uint8_t *draw, size_t draw_length,
+    const uint8_t *values, size_t values_length,
+    uint8_t *keys, size_t keys_length);
+
+/*
+ * Opens a circuit garbled in the two-party form, at the opener: the key and the external value of every wire.
+ *
+ *   file, file_length                       the circuit file
+ *   k, round                                key length, the round that garbling was given
+ *   keys, keys_length                       inputs * k bytes: a key for each input, in the order of the wires
+ *   rows, rows_length                       rows * k bytes, by the count that lupiknam_pair_read writes: the rows that garbling wrote
+ *   wire_keys, wire_keys_length             written: wires * k bytes, a key for each wire
+ *   wire_externals, wire_externals_length   written: a byte for each wire, byte 0 of its key; lupiknam_decode takes them
+ *
+ * Refusals, in this order: 1 to 10; 26; 11 for k; 13 where an owner is above 1; 14 where a length is not as above; 18 over keys, then rows.
+ *
+ * Nothing more can be refused, since the opener has no key to compare with: keys, rows or a round's number that are not those of one round
+ * open as well, mostly to other keys and external values; lupiknam_decode then accepts them and gives wrong figures: the host must guard the
+ * bytes itself. Only with garbling's bytes and number are keys and external values sure.
+ *
+ * Of what this call writes, the garbler gets the external values of the outputs, if it is to decode, and nothing else (above).
+ */
+lupiknam_answer lupiknam_pair_open(
+    const uint8_t *file, size_t file_length,
+    uint32_t k, uint32_t round,
+    const uint8_t *keys, size_t keys_length,
+    const uint8_t *rows, size_t rows_length,
+    uint8_t *wire_keys, size_t wire_keys_length,
+    uint8_t *wire_externals, size_t wire_externals_length);
 
 #ifdef __cplusplus
 }

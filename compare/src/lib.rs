@@ -16,6 +16,11 @@ pub mod keccak;
 pub mod meter;
 pub mod open;
 pub mod pad;
+pub mod pair;
+#[cfg(test)]
+mod pair_refusal_tests;
+#[cfg(test)]
+mod pair_tests;
 pub mod plain;
 pub mod price_sheet;
 pub mod record;

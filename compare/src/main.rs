@@ -7,6 +7,7 @@ mod calls;
 mod engine;
 mod examples;
 mod hex;
+mod pairs;
 mod round;
 mod second;
 mod sheets;
@@ -33,6 +34,8 @@ compare writes SEED COUNT            lists of records written as files, and file
 compare write SEED CASE              the calls of one case of such a run, printed
 compare bundles SEED COUNT           integers split and joined, and circuits that reckon with them
 compare bundle SEED CASE             the calls of one case of such a run, printed
+compare pairs SEED COUNT             whole rounds for two, and such calls with faults
+compare pair SEED CASE               the calls of one case of such a run, printed
 compare examples                     the specification's examples on both programs
 compare sheet                        the price sheet of standard input, by this program
 compare sheets SEED COUNT PROGRAM    a price-sheet program on generated texts
@@ -51,20 +54,22 @@ fn main() -> ExitCode {
 
 fn run(arguments: &[&str]) -> Result<ExitCode, String> {
     match arguments {
-        ["calls", seed, count] => Ok(calls::run(number(seed)?, number(count)?)),
+        ["calls", seed, count] => Ok(calls::run(number(seed)?, cases(count)?)),
         ["case", seed, case] => print(calls::case(number(seed)?, number(case)?).as_bytes()),
         ["show", file, call @ ..] => show(file, call),
-        ["rounds", seed, count] => Ok(round::run(number(seed)?, number(count)?)),
+        ["rounds", seed, count] => Ok(round::run(number(seed)?, cases(count)?)),
         ["round", seed, case] => Ok(round::one(number(seed)?, number(case)?)),
-        ["writes", seed, count] => Ok(writes::run(number(seed)?, number(count)?)),
+        ["writes", seed, count] => Ok(writes::run(number(seed)?, cases(count)?)),
         ["write", seed, case] => Ok(writes::one(number(seed)?, number(case)?)),
-        ["bundles", seed, count] => Ok(bundles::run(number(seed)?, number(count)?)),
+        ["bundles", seed, count] => Ok(bundles::run(number(seed)?, cases(count)?)),
         ["bundle", seed, case] => Ok(bundles::one(number(seed)?, number(case)?)),
+        ["pairs", seed, count] => Ok(pairs::run(number(seed)?, cases(count)?)),
+        ["pair", seed, case] => Ok(pairs::one(number(seed)?, number(case)?)),
         ["examples"] => Ok(examples::run()),
         ["sheet"] => sheet(),
         ["sheets", seed, count, program] => {
             let program = Path::new(program);
-            sheets::run(number(seed)?, number(count)?, program)
+            sheets::run(number(seed)?, cases(count)?, program)
                 .map_err(|trouble| format!("{}: {trouble}", program.display()))
         }
         ["text", seed, case] => print(&sheets::text(number(seed)?, number(case)?)),
@@ -78,6 +83,14 @@ fn number<N: FromStr>(digits: &str) -> Result<N, String> {
     digits
         .parse()
         .map_err(|_| format!("not a number in range: {digits}"))
+}
+
+/// The number of cases of a run: one of none would pass with nothing compared.
+fn cases(digits: &str) -> Result<u64, String> {
+    match number(digits)? {
+        0 => Err(USAGE.into()),
+        count => Ok(count),
+    }
 }
 
 fn print(text: &[u8]) -> Result<ExitCode, String> {

@@ -127,7 +127,7 @@ fn parties(rng: &mut Rng) -> u32 {
 }
 
 /// Mostly short; where a pad's input or output fills a block is likelier than elsewhere.
-fn key_length(rng: &mut Rng) -> u32 {
+pub(super) fn key_length(rng: &mut Rng) -> u32 {
     match rng.below(8) {
         0 => rng.pick(&[16, 17, 18, 34, 35, 118, 119, 120, 127, 128]),
         1 => rng.between(1, 128) as u32,
@@ -136,7 +136,7 @@ fn key_length(rng: &mut Rng) -> u32 {
 }
 
 /// The circuit with its inputs' owners drawn anew among n parties.
-fn with_owners(mut words: Vec<u32>, n: u32, rng: &mut Rng) -> Vec<u32> {
+pub(super) fn with_owners(mut words: Vec<u32>, n: u32, rng: &mut Rng) -> Vec<u32> {
     for word in words.iter_mut().filter(|word| **word >> 28 == 2) {
         *word = word::input(rng.below(n as usize) as u32, *word & 0xFF);
     }

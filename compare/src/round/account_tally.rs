@@ -12,9 +12,10 @@ use std::collections::BTreeMap;
 type ByAccount = BTreeMap<(&'static str, u32), u64>;
 
 /// The sorts of numbers above those of the accounts: each of [`BEYOND`], and any other.
-const ABOVE: [&str; 6] = ["8", "255", "256", "2^31", "2^32 - 1", "another"];
+pub const ABOVE: [&str; 6] = ["8", "255", "256", "2^31", "2^32 - 1", "another"];
 
-fn above(account: u32) -> &'static str {
+/// The sort of such a number.
+pub fn above(account: u32) -> &'static str {
     let known = BEYOND.iter().position(|number| *number == account);
     ABOVE[known.unwrap_or(BEYOND.len())]
 }

@@ -30,19 +30,25 @@ pub fn sorts(step: &Step, number: u32) -> Vec<&'static str> {
     }
     let circuit = read(&step.file).expect("the file is judged before");
     let rows = circuit.counts().rows;
+    sorts_of(&step.meter, step.account, rows, number == 0)
+}
+
+/// The sorts of a garbling of so many rows that was lent this meter, and accepted or else refused by
+/// 21.
+pub fn sorts_of(meter: &Meter, account: u32, rows: u32, accepted: bool) -> Vec<&'static str> {
     if rows == 0 {
         return Vec::new();
     }
-    let is = of_garbling(step, rows, number == 0);
+    let is = of_garbling(meter, account, rows, accepted);
     let met = SORTS.into_iter().zip(is).filter(|(_, is)| *is);
     met.map(|(sort, _)| sort).collect()
 }
 
-/// Which of the sorts a garbling of so many rows is of, that was accepted or else refused by 21.
-fn of_garbling(step: &Step, rows: u32, accepted: bool) -> [bool; 5] {
+/// Which of the sorts such a garbling is of.
+fn of_garbling(meter: &Meter, account: u32, rows: u32, accepted: bool) -> [bool; 5] {
     let last = u32::MAX - rows;
-    let mut others = step.meter.totals.to_vec();
-    let named = others.remove(step.account as usize);
+    let mut others = meter.totals.to_vec();
+    let named = others.remove(account as usize);
     let other_full = others.iter().any(|total| *total > last);
     [
         accepted,

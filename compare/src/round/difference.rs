@@ -36,41 +36,43 @@ impl Difference {
         println!("difference in: {}", self.step);
         println!("  second: {}", ours.answer);
         println!("  engine: {}", engines.answer);
-        self.print_buffers();
-        let length = self.step.file.len();
-        println!(
-            "  file of {length} bytes, from: compare {subcommand} {seed} {}",
-            self.case
-        );
-        if length <= SHOWN_BYTES {
-            print!("{}", hex::text_of(&self.step.file));
-        }
-    }
-
-    /// The lengths of all buffers, and where those of the two programs part.
-    fn print_buffers(&self) {
-        let Made { ours, engines } = &self.made;
         if ours.loan.numbers != engines.loan.numbers {
             print_meters(&ours.loan.numbers, &engines.loan.numbers);
         }
-        if ours.loan.file != engines.loan.file {
-            println!("  the engine wrote into the file or around it");
+        print_buffers(self.step.name.buffers(), &self.step.buffers, &self.made);
+        let from = format!("compare {subcommand} {seed} {}", self.case);
+        print_file(&self.step.file, &from);
+    }
+}
+
+/// The length of a call's file and by what command it is made again, and a short one itself.
+pub fn print_file(file: &[u8], from: &str) {
+    println!("  file of {} bytes, from: {from}", file.len());
+    if file.len() <= SHOWN_BYTES {
+        print!("{}", hex::text_of(file));
+    }
+}
+
+/// The lengths of all buffers, by name and as they were before, and where those of the two programs
+/// part.
+pub fn print_buffers(names: &[&str], before: &[Vec<u8>], made: &Made) {
+    let Made { ours, engines } = made;
+    if ours.loan.file != engines.loan.file {
+        println!("  the engine wrote into the file or around it");
+    }
+    for (at, (name, before)) in names.iter().zip(before).enumerate() {
+        print!("  {name}: {} bytes", before.len());
+        let content = |after: &After| after.loan.buffers[at].content().to_vec();
+        let (one, other) = (content(ours), content(engines));
+        let parting = (0..one.len()).find(|byte| one[*byte] != other[*byte]);
+        if let Some(byte) = parting {
+            let count = (0..one.len()).filter(|at| one[*at] != other[*at]).count();
+            print!(", {count} differ, from {byte} on: before {}", before[byte]);
+            print!(", second {}, engine {}", one[byte], other[byte]);
+        } else if ours.loan.buffers[at] != engines.loan.buffers[at] {
+            print!(", the engine wrote around it");
         }
-        for (at, name) in self.step.name.buffers().iter().enumerate() {
-            let before = &self.step.buffers[at];
-            print!("  {name}: {} bytes", before.len());
-            let content = |after: &After| after.loan.buffers[at].content().to_vec();
-            let (one, other) = (content(ours), content(engines));
-            let parting = (0..one.len()).find(|byte| one[*byte] != other[*byte]);
-            if let Some(byte) = parting {
-                let count = (0..one.len()).filter(|at| one[*at] != other[*at]).count();
-                print!(", {count} differ, from {byte} on: before {}", before[byte]);
-                print!(", second {}, engine {}", one[byte], other[byte]);
-            } else if ours.loan.buffers[at] != engines.loan.buffers[at] {
-                print!(", the engine wrote around it");
-            }
-            println!();
-        }
+        println!();
     }
 }
 

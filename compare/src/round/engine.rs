@@ -8,7 +8,7 @@ use compare::meter::ACCOUNTS;
 
 /// The meter as C has it.
 #[repr(C)]
-struct Meter {
+pub struct Meter {
     totals: [u32; ACCOUNTS],
 }
 
@@ -108,14 +108,14 @@ pub fn run(step: &Step) -> After {
 }
 
 /// The pointers and lengths of all buffers, of which there are as many as asked for.
-fn pointers<const N: usize>(buffers: &mut [Lent]) -> [(*mut u8, usize); N] {
+pub fn pointers<const N: usize>(buffers: &mut [Lent]) -> [(*mut u8, usize); N] {
     let all: Vec<_> = buffers.iter_mut().map(Lent::pointer).collect();
     all.try_into().expect("each call is lent its own number")
 }
 
 /// The meter that the first numbers are. The pointer may reach those behind it too, since a stray
 /// write is what they are there to show.
-fn meter_of(numbers: &mut [u32]) -> *mut Meter {
+pub fn meter_of(numbers: &mut [u32]) -> *mut Meter {
     assert!(numbers.len() > ACCOUNTS);
     numbers.as_mut_ptr().cast()
 }

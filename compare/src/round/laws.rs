@@ -8,7 +8,7 @@ pub const TOTALS_RECKONED: &str =
 pub const TOTAL_CARRIED: &str = "an old total becomes account 0's, the others are 0";
 
 /// All of them; a thorough run looks at each.
-const LAWS: [&str; 3] = [FIRST_FAULT, TOTALS_RECKONED, TOTAL_CARRIED];
+pub const LAWS: [&str; 3] = [FIRST_FAULT, TOTALS_RECKONED, TOTAL_CARRIED];
 
 #[derive(Default)]
 pub struct Laws {
@@ -32,20 +32,33 @@ impl Laws {
         self.broken.values().map(|(times, _)| times).sum()
     }
 
-    pub fn print_broken(&self, seed: u64) {
+    /// Prints those that did not hold, and by which subcommand the first such case is made again.
+    pub fn print_broken(&self, subcommand: &str, seed: u64) {
         for (law, (times, first)) in &self.broken {
             println!("does not hold {times} times: {law}");
-            println!("  from: compare round {seed} {first}");
+            println!("  from: compare {subcommand} {seed} {first}");
         }
     }
 
-    /// Prints how often each was looked at, and gives those never looked at.
-    pub fn lines(&self) -> Vec<String> {
+    /// Prints how often each of these was looked at, and gives those never looked at.
+    pub fn lines(&self, laws: &[&'static str]) -> Vec<String> {
         let times = |law: &str| self.looked.get(law).copied().unwrap_or_default();
-        for law in LAWS {
+        for law in laws {
             println!("looked at: {law}: {}", times(law));
         }
-        let never = LAWS.into_iter().filter(|law| times(law) == 0);
-        never.map(String::from).collect()
+        let never = laws.iter().filter(|law| times(law) == 0);
+        never.map(|law| String::from(*law)).collect()
+    }
+
+    /// Prints those that were looked at and are none of these, and says how many there are: a list that
+    /// leaves one out would not miss it.
+    pub fn unlisted(&self, laws: &[&'static str]) -> u64 {
+        let unlisted = self.looked.keys().filter(|law| !laws.contains(law));
+        let mut count = 0;
+        for law in unlisted {
+            println!("looked at, and in no list: {law}");
+            count += 1;
+        }
+        count
     }
 }

@@ -2,27 +2,29 @@
 //! garblings with one meter.
 
 mod account_tally;
-mod accounts;
+pub mod accounts;
 mod caller;
 mod carry;
 mod chain;
-mod difference;
-mod engine;
+pub mod difference;
+pub mod engine;
 mod faults;
-mod laws;
+pub mod laws;
 mod loose;
 mod order;
 mod reopened;
 mod run;
-mod second;
+pub mod second;
 mod sequence;
 mod several;
 mod squares;
 mod step;
 mod tally;
 
+pub use account_tally::{ABOVE, above};
 pub use caller::make;
 pub use chain::{Made, play};
 pub use difference::Difference;
+pub use faults::high;
 pub use run::{one, run};
-pub use step::Step;
+pub use step::{Name, Step};

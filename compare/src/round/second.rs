@@ -28,7 +28,7 @@ pub fn carry(carry: &Carry) -> Held {
 }
 
 /// Changes the meter that the first numbers are.
-fn changed<A>(numbers: &mut [u32], change: impl FnOnce(&mut Meter) -> A) -> A {
+pub fn changed<A>(numbers: &mut [u32], change: impl FnOnce(&mut Meter) -> A) -> A {
     let (totals, _) = numbers
         .split_first_chunk_mut::<ACCOUNTS>()
         .expect("a meter is lent");

@@ -4,7 +4,7 @@ use super::account_tally::AccountTally;
 use super::carry::{self, Carried, Carry};
 use super::chain::{Made, Round};
 use super::difference::Difference;
-use super::laws::Laws;
+use super::laws::{LAWS, Laws};
 use super::reopened::Reopened;
 use super::several::sorts;
 use super::squares::{self, SORTS};
@@ -154,7 +154,7 @@ impl Tally {
         for difference in self.smallest_carries.shown() {
             difference.print(seed);
         }
-        self.laws.print_broken(seed);
+        self.laws.print_broken("round", seed);
     }
 
     /// Prints the counts; the run failed if anything is wrong, or if a long run missed a refusal, a
@@ -172,7 +172,8 @@ impl Tally {
         missed.extend(self.line_of_squares());
         missed.extend(self.line_of_old_layout());
         missed.extend(self.accounts.lines());
-        missed.extend(self.laws.lines());
+        missed.extend(self.laws.lines(&LAWS));
+        self.failed += self.laws.unlisted(&LAWS);
         println!(
             "{} rounds, {} of them wrong; {} calls, {} differences",
             self.rounds, self.wrong_rounds, self.calls, self.differences

@@ -34,6 +34,8 @@ pub enum Refusal {
     BundleRange,
     IntegerTooLarge,
     NoSuchAccount,
+    SelectPresent,
+    OffsetNotOne,
 }
 
 pub enum Answer {
@@ -71,6 +73,8 @@ pub fn number(reason: Refusal) -> u32
         Refusal::BundleRange => 23,
         Refusal::IntegerTooLarge => 24,
         Refusal::NoSuchAccount => 25,
+        Refusal::SelectPresent => 26,
+        Refusal::OffsetNotOne => 27,
     }
 }
 

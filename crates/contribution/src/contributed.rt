@@ -23,7 +23,7 @@ use lists::byte_index;
 use lists::number_index;
 
 // In the offsets of one party.
-fn first_in_offsets(circuit: Circuit, k: usize, bytes: &[u8]) -> usize
+pub fn first_in_offsets(circuit: Circuit, k: usize, bytes: &[u8]) -> usize
     requires { ⌜ Room circuit × (k ≤ 128) ⌝ }
     requires { ⌜ length (now bytes) ≡ k * moduliUsed (wiresIn circuit) ⌝ }
     ensures { λ r. ⌜ r ≡ firstLarge (now (bytes .entry)) (λ i. getD (runs 256 (λ p. k * mark (used (wiresIn circuit) p)) (λ p. p)) i 0) ⌝ }

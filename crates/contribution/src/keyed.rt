@@ -18,7 +18,7 @@ use counts::row_count;
 use lists::number_index;
 
 // In the keys of all inputs, of `width` bytes each.
-fn first_in_keys(circuit: Circuit, width: usize, keys: &[u8]) -> usize
+pub fn first_in_keys(circuit: Circuit, width: usize, keys: &[u8]) -> usize
     requires { ⌜ Held circuit ⌝ }
     requires { ⌜ length (now keys) ≡ inputsIn (wiresIn circuit) * width ⌝ }
     ensures { λ r. ⌜ r ≡ firstLarge (now (keys .entry)) (λ i. getD (runs (inputsIn (wiresIn circuit)) (λ w. width) (modulusAt (wiresIn circuit))) i 0) ⌝ }

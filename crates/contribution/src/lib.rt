@@ -7,6 +7,8 @@ mod places;
 mod run;
 
 pub use contributed::contributions_checked;
+pub use contributed::first_in_offsets;
+pub use keyed::first_in_keys;
 pub use keyed::keys_checked;
 pub use keyed::rows_checked;
 pub use offset::offsets_checked;
@@ -17,3 +19,4 @@ pub use places::ranks;
 pub use places::record_keys;
 pub use places::record_size;
 pub use places::scratch;
+pub use run::first_at_least;

@@ -14,7 +14,7 @@ use words::Gate;
 use words::Wire;
 
 // The modulus of a wire, and 0 past the last wire.
-fn modulus_of(moduli: &[u8], a: u16) -> u32
+pub fn modulus_of(moduli: &[u8], a: u16) -> u32
     ensures { λ r. ⌜ Counts 255 (getD (now (moduli .entry)) a 0) r ⌝ }
 {
     let at = a as usize;

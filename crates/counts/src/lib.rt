@@ -7,6 +7,7 @@ mod number;
 mod recipe;
 
 pub use count::inputs_of;
+pub use count::modulus_of;
 pub use count::owned;
 pub use count::record_count;
 pub use count::records;

@@ -16,6 +16,11 @@ use Rattle.read_calls.specs.Summary.{Summarizes}
 use Rattle.read_calls.specs.declared.inputs.Counted.{Counted}
 use Rattle.read_calls.specs.InputsOf.{CountsInputs, inputsOfAfter}
 use Rattle.read_calls.specs.Read.{ReadCall, InputsOfCall}
+use Rattle.circuit.specs.File.{readFile}
+use Rattle.pair.specs.Count.{pairRowsIn}
+use Rattle.pair.specs.Read.{PairReadCall}
+use Rattle.pair_calls.specs.declared.reading.PairRead.{PairRead}
+use Rattle.pair_calls.specs.Counted.{CountsRows}
 use Rattle.bundles.specs.declared.joining.Joined.{Joined}
 use Rattle.bundles.specs.declared.operation.Operation.{Operation}
 use Rattle.bundles.specs.declared.part.Part.{Part}
@@ -80,6 +85,15 @@ module _ {file : List ℕ} {n party : ℕ} {found : Counted} (k : CountsInputs f
       → (number ≡ numberIn (Refused reason at)) × (place ≡ at) → InputsOfCall file n party count number place count
   unfolding inputsOfAfter
   inputs-refused e f = record { answer = told (sym e ∙ k .answer) (f .0) (f .1); countIs = after-refused (k .answer) e _ count }
+
+-- reading a circuit for two
+module _ {file : List ℕ} {found : PairRead} (k : CountsRows file found) (rows : ℕ) {number place : ℕ} where
+  pub pair-accepted : found .answer ≡ Accepted → (number ≡ 0) × (place ≡ 0) → PairReadCall file rows number place (found .rows)
+  pair-accepted e f = record { answer = told (sym e ∙ k .answer) (f .0) (f .1); rowsIs = after-accepted (k .answer) e rows (k .rows) }
+
+  pub pair-refused : {reason : Refusal} {at : ℕ} → found .answer ≡ Refused reason at
+      → (number ≡ numberIn (Refused reason at)) × (place ≡ at) → PairReadCall file rows number place rows
+  pair-refused e f = record { answer = told (sym e ∙ k .answer) (f .0) (f .1); rowsIs = after-refused (k .answer) e (pairRowsIn (readFile file .wires)) rows }
 
 -- joining residues
 module _ {r : ℕ} {residues : List ℕ} {found : Joined} (k : Joins r residues found) (integer : ℕ) {number place : ℕ} where

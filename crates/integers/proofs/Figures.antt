@@ -62,7 +62,7 @@ entered file values r first x good bundle within same =
 -- ---- figures
 
 -- bytes that are the plain circuit's outputs: those of a bundle are the residues of what it carries
-bytes-are : {file values : List ℕ} {r first at z : ℕ} → Carries file values r first z → Shown (readFile file .outputs) at r first
+pub bytes-are : {file values : List ℕ} {r first at z : ℕ} → Carries file values r first z → Shown (readFile file .outputs) at r first
     → (bytes : List ℕ) → bytes ≡ plainOutputs file (readFile file .wires) (readFile file .outputs) values → part bytes at r ≡ split r z
 unfolding split plainOutputs
 bytes-are {file} {values} {r} {first} {at} {z} carries shown bytes e =

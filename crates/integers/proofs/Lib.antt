@@ -8,4 +8,5 @@ pub mod Figures
 pub mod GatesEnd
 pub mod Behind
 pub mod Host
+pub mod Pair
 pub mod Example

@@ -3,4 +3,5 @@ pub mod Reach
 pub mod Bundle
 pub mod Promise
 pub mod Host
+pub mod Pair
 pub mod Example

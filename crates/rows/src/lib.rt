@@ -6,6 +6,8 @@ mod keyed;
 mod rows;
 
 pub use factors::image_of;
+pub use factors::linear_factors;
+pub use factors::table_factors;
 pub use gates::Made;
 pub use gates::choice_rows;
 pub use gates::product_rows;

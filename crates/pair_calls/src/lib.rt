@@ -1,0 +1,16 @@
+// The calls of the two-party form: reading a circuit for two, the input keys, garbling, and opening. Each reads the file first; then come the checks on what else it is
+// given, in document 01's order with the numbers of document 02; only then is anything written. Rests on `pair` for what the calls are to do, on `pair_garbling` and
+// `pair_opening` for the work, on `pair_checks`, `session`, `contribution` and `meter` for the checks.
+mod asked;
+mod drawn;
+mod garbled;
+mod keys;
+mod opened;
+mod reading;
+
+pub use asked::AskedRound;
+pub use garbled::pair_garble;
+pub use keys::pair_input_keys;
+pub use opened::pair_open;
+pub use reading::PairRead;
+pub use reading::pair_read;

@@ -1,0 +1,2 @@
+-- What a rehearsed round of two comes to.
+pub mod Rehearsed
