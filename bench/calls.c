@@ -37,7 +37,7 @@ static struct {
     uint32_t n, k;
     size_t contribution, rows_length, keys_length, wire_keys_length;
     uint8_t *contributions, *row_bytes, *keys, *wire_keys, *wire_externals;
-    uint8_t values[1024], externals[1024], input_masks[1024], output_masks[256], decoded[256], plain[256];
+    uint8_t values[1024], externals[1024], input_masks[1024], output_masks[8 * 256], decoded[256], plain[256];
 } r;
 
 // a circuit's records, and the file written from them
@@ -143,7 +143,7 @@ static void garble(void) {
     lupiknam_meter meter;
     lupiknam_meter_carry(0, &meter);
     must(lupiknam_garble(r.file, r.file_length, r.n, r.k, 0, 0, r.contributions, r.n * r.contribution, r.row_bytes, r.rows_length,
-                         r.input_masks, r.inputs, r.output_masks, r.outputs, &meter),
+                         r.input_masks, r.inputs, r.output_masks, (size_t)r.n * r.outputs, &meter),
          "garble");
 }
 
@@ -180,8 +180,13 @@ static void open_at_0(void) {
          "open");
 }
 
+// the first sheet is party 0's, and no output of these files names a party
+static void decode_at_0(void) {
+    must(lupiknam_decode(r.file, r.file_length, r.n, 0, r.wire_externals, r.wires, r.output_masks, r.outputs, r.decoded, r.outputs),
+         "decode");
+}
+
 static void compare_figures(void) {
-    must(lupiknam_decode(r.file, r.file_length, r.wire_externals, r.wires, r.output_masks, r.outputs, r.decoded, r.outputs), "decode");
     must(lupiknam_plain(r.file, r.file_length, r.values, r.inputs, r.plain, r.outputs), "plain");
     if (memcmp(r.decoded, r.plain, r.outputs) != 0) {
         puts("a round decodes other outputs than the plain circuit's");
@@ -197,6 +202,7 @@ static void play_round(void) {
     for (uint32_t party = 0; party < r.n; party++)
         input_keys(party);
     open_at_0();
+    decode_at_0();
     compare_figures();
 }
 
@@ -466,6 +472,8 @@ static void play_for_two(void) {
     must(lupiknam_pair_input_keys(r.file, r.file_length, r.k, two.draw, two.draw_length, r.values, r.inputs, two.keys, two.keys_length),
          "pair_input_keys");
     open_for_two();
+    must(lupiknam_pair_decode(r.file, r.file_length, r.wire_externals, r.wires, r.output_masks, r.outputs, r.decoded, r.outputs),
+         "pair_decode");
     compare_figures();
 }
 

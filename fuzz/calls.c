@@ -1,20 +1,22 @@
 /*
- * Fuzzing of the C face: a libFuzzer harness over the twenty calls of lupiknam.h. fuzz/run builds and runs it; docs/ROBUSTNESS.md says
+ * Fuzzing of the C face: a libFuzzer harness over the twenty-one calls of lupiknam.h. fuzz/run builds and runs it; docs/ROBUSTNESS.md says
  * what it can see and what it cannot.
  *
  * An input is a head, `struct head`, and a circuit file. The file is lent as it stands, or mended into one that the reader must accept, or
  * mended and then damaged in one place. Each call is made once with loose lengths and contents. The file's words are written again from
  * their records, as they are and with one fault each. The calls of bundles, which read no file, are made with the head's numbers as they
  * stand, mended, and with one fault or two; their whole answer is known. A part is also set into a circuit of its own, which is evaluated.
- * Where the circuit is accepted and n, K and party are in range, a whole round is played, for one account of a meter with any totals or of
- * one that was carried over, and then some of its calls again with one fault each, two bytes too large, or a bad account besides, whose
- * answer is known. Where the circuit has no selector and its inputs are of parties 0 and 1, a round of the two-party form is played too,
- * opened for two lists of values, with one row changed and in another round, and its calls are made again with one to four faults, of which
- * the first in the order of the checks must be named. All eight totals are looked at after every garbling.
+ * Where the circuit is accepted, n, K and party are in range and owners and the parties that outputs name take part, a whole round is
+ * played, for one account of a meter with any totals or of one that was carried over; each party decodes with its own sheet of masks, and
+ * again with other bytes for what it may not read. Then some of its calls are made again with one fault each, two bytes too large, or a bad
+ * account besides, whose answer is known. Where the circuit has no selector and its inputs are of parties 0 and 1, a round of the two-party
+ * form is played too, whose outputs name other parties once it is garbled, opened for two lists of values, with one row changed and in
+ * another round, and its calls are made again with one to four faults, of which the first in the order of the checks must be named. All
+ * eight totals are looked at after every garbling.
  *
  * Every buffer lies against a page that faults when it is touched; what a call only reads is lent by a mapping that faults when it is
- * written. What a call writes is filled first with 255, which is below no modulus: so a byte that an accepted call leaves out shows, and so
- * does one that a refused call writes.
+ * written. What a call writes is filled first with 254, which is below no modulus and is not the 255 of what may not be read: so a byte that
+ * an accepted call leaves out shows, and so does one that a refused call writes.
  */
 #define _GNU_SOURCE
 #include "lupiknam.h"
@@ -24,8 +26,9 @@
 #include <sys/mman.h>
 #include <unistd.h>
 
-enum { MOST_WIRES = 1024, MOST_OUTPUTS = 256, MOST_WORDS = 1 << 16, MOST_ROWS = 1 << 19, PRIMES = 54, NUMBERS = 28, ACCOUNTS = 8 };
-enum { FILL = 255, SLACK = 256 };   /* what written buffers hold before a call, and how far around them it is looked at afterwards */
+enum { MOST_WIRES = 1024, MOST_OUTPUTS = 256, MOST_WORDS = 1 << 16, MOST_ROWS = 1 << 19, PRIMES = 54, NUMBERS = 29, ACCOUNTS = 8 };
+enum { MOST_PARTIES = 8, NOT_READ = 255 };
+enum { FILL = 254, SLACK = 256 };   /* what written buffers hold before a call, and how far around them it is looked at afterwards */
 enum { MOST_PERMUTATIONS = 60000 }; /* of a round: about 20 ms; a dearer one is not played */
 enum { MOST_R = 10, MOST_PART = 139 }; /* primes of a bundle, and words of a part */
 
@@ -91,12 +94,13 @@ static struct buffer own_keys = ROOM(1 << 18), keys = ROOM(1 << 21), wire_keys =
 static struct buffer decoded = ROOM(4096), records = ROOM(1 << 21), tables = ROOM(1 << 17), written_file = ROOM(1 << 19);
 static struct buffer written_words = ROOM(4096), residues = ROOM(4096), integer = ROOM(4096), part = ROOM(4096), part_words = ROOM(4096);
 static struct buffer pair_count = ROOM(4096), draw = ROOM(1 << 18), pair_rows = ROOM(1 << 21), pair_masks = ROOM(4096);
-static struct buffer pair_keys = ROOM(1 << 18), pair_wire_keys = ROOM(1 << 18), pair_externals = ROOM(4096);
+static struct buffer pair_keys = ROOM(1 << 18), pair_wire_keys = ROOM(1 << 18), pair_externals = ROOM(4096), pair_figures = ROOM(4096);
+static struct buffer sheet = ROOM(4096); /* one party's, of those that garbling writes */
 
 static struct buffer *const all[] = {&file, &numbers, &count, &meter, &values, &figures, &input_masks, &output_masks, &own_values,
     &own_masks, &own_externals, &externals, &contributions, &contribution, &rows, &own_keys, &keys, &wire_keys, &wire_externals, &decoded,
     &records, &tables, &written_file, &written_words, &residues, &integer, &part, &part_words, &pair_count, &draw, &pair_rows, &pair_masks,
-    &pair_keys, &pair_wire_keys, &pair_externals};
+    &pair_keys, &pair_wire_keys, &pair_externals, &pair_figures, &sheet};
 enum { BUFFERS = sizeof all / sizeof all[0] };
 
 /* Room bytes of a shared object, with a page before and after that faults. */
@@ -195,6 +199,7 @@ static struct {
 static uint8_t primes[PRIMES], modulus[MOST_WIRES], owner[MOST_WIRES], records_of[MOST_WIRES], row_modulus[MOST_ROWS];
 static uint8_t contribution_modulus[128 * PRIMES + 129 * 3 * MOST_WIRES];
 static uint16_t output_wire[MOST_OUTPUTS], own_wire[MOST_WIRES];
+static uint8_t named[MOST_OUTPUTS]; /* the parties that an output names, a bit each */
 static uint32_t n, k, party, round_number, account, carried, opened_rows, own; /* carried: the old total that a meter is made of */
 
 static int is_prime(unsigned m) {
@@ -273,6 +278,7 @@ static void list_word(uint32_t w) {
         break;
     case 10:
         check(counts.outputs < MOST_OUTPUTS, "an accepted circuit has at most 256 outputs");
+        named[counts.outputs] = (uint8_t)(w >> 10);
         output_wire[counts.outputs++] = (uint16_t)(w & 1023);
         break;
     }
@@ -291,6 +297,33 @@ static void list_circuit(void) {
     for (size_t i = 0; i < PRIMES; i++)
         if (memchr(modulus, primes[i], counts.wires))
             used_moduli[counts.moduli++] = primes[i];
+}
+
+static int may_read(uint32_t reader, size_t output) {
+    return named[output] == 0 || named[output] >> reader & 1;
+}
+
+/* The first output that names a party that does not take part; the number of outputs where there is none. */
+static size_t first_absent(void) {
+    size_t output = 0;
+    while (output < counts.outputs && (n >= MOST_PARTIES || named[output] >> n == 0))
+        output++;
+    return output;
+}
+
+static int owners_below(uint32_t parties) {
+    for (uint32_t w = 0; w < counts.inputs; w++)
+        if (owner[w] >= parties)
+            return 0;
+    return 1;
+}
+
+/* Lays other names into an output word of the file. Outputs are the words before the last. */
+static void set_names(size_t output, uint8_t names) {
+    uint8_t *word = bytes(&file) + file.length - 4 * (counts.outputs + 1 - output);
+    named[output] = names;
+    word[1] = (uint8_t)((word[1] & 3) | names << 2);
+    word[2] = names >> 6;
 }
 
 static size_t contribution_size(void) {
@@ -338,8 +371,8 @@ static size_t exact(const struct buffer *b) {
         : b == &own_values || b == &own_masks || b == &own_externals ? own
         : b == &draw ? (size_t)k * (counts.moduli + counts.inputs) : b == &pair_rows ? (size_t)k * pair_total
         : b == &pair_keys ? (size_t)k * counts.inputs : b == &pair_wire_keys ? (size_t)k * counts.wires
-        : b == &pair_externals ? counts.wires
-        : b == &figures || b == &output_masks || b == &decoded || b == &pair_masks ? counts.outputs : counts.inputs;
+        : b == &pair_externals ? counts.wires : b == &output_masks ? (size_t)n * counts.outputs
+        : b == &figures || b == &sheet || b == &decoded || b == &pair_masks || b == &pair_figures ? counts.outputs : counts.inputs;
 }
 
 static unsigned modulus_at(const struct buffer *b, size_t i) {
@@ -350,13 +383,20 @@ static unsigned modulus_at(const struct buffer *b, size_t i) {
         : b == &rows ? row_modulus[i / row] : b == &keys || b == &wire_keys ? modulus[i / row]
         : b == &own_keys || b == &pair_keys || b == &pair_wire_keys ? modulus[i / k]
         : b == &own_values || b == &own_masks || b == &own_externals ? modulus[own_wire[i]] : b == &residues ? primes[i]
-        : b == &figures || b == &output_masks || b == &decoded || b == &pair_masks ? modulus[output_wire[i]] : modulus[i];
+        : b == &output_masks ? modulus[output_wire[i % counts.outputs]]
+        : b == &figures || b == &sheet || b == &decoded || b == &pair_masks || b == &pair_figures ? modulus[output_wire[i]] : modulus[i];
+}
+
+/* A byte of a sheet, of all sheets, or of what is decoded from one, that stands for an output that its party may not read. */
+static int hidden(const struct buffer *b, size_t i) {
+    return b == &output_masks ? !may_read((uint32_t)(i / counts.outputs), i % counts.outputs)
+        : (b == &sheet || b == &decoded) && !may_read(party, i);
 }
 
 /* ---- one call, and what holds of every call */
 
 enum call { READ, INPUTS_OF, PLAIN, GARBLE, EXTERNALS, INPUT_KEYS, OPEN, DECODE, RECORDS, PAIR_READ, PAIR_GARBLE, PAIR_INPUT_KEYS,
-    PAIR_OPEN, WRITE, SPLIT, JOIN, ADD, MULTIPLY, SCALE, CARRY, CALLS };
+    PAIR_OPEN, PAIR_DECODE, WRITE, SPLIT, JOIN, ADD, MULTIPLY, SCALE, CARRY, CALLS };
 enum { TAKES_N = 1, TAKES_K = 2, TAKES_PARTY = 4 };
 #define BITS(from, to) ((2u << (to)) - (1u << (from)))
 
@@ -367,14 +407,15 @@ static const struct {
     struct buffer *read[4], *written[4];
 } calls[CALLS] = {
     {"read", 0, BITS(1, 10), {0}, {&numbers}},
-    {"inputs_of", TAKES_N | TAKES_PARTY, BITS(1, 13), {0}, {&count}},
+    {"inputs_of", TAKES_N | TAKES_PARTY, BITS(1, 13) | BITS(28, 28), {0}, {&count}},
     {"plain", 0, BITS(1, 10) | BITS(14, 15), {&values}, {&figures}},
-    {"garble", TAKES_N | TAKES_K, BITS(1, 11) | BITS(13, 14) | BITS(16, 17) | BITS(21, 21) | BITS(25, 25), {&contributions},
+    {"garble", TAKES_N | TAKES_K, BITS(1, 11) | BITS(13, 14) | BITS(16, 17) | BITS(21, 21) | BITS(25, 25) | BITS(28, 28), {&contributions},
         {&rows, &input_masks, &output_masks, &meter}},
-    {"externals", TAKES_N | TAKES_PARTY, BITS(1, 15), {&own_values, &own_masks}, {&own_externals}},
-    {"input_keys", TAKES_N | TAKES_K | TAKES_PARTY, BITS(1, 17), {&contribution, &externals}, {&own_keys}},
-    {"open", TAKES_N | TAKES_K | TAKES_PARTY, BITS(1, 20), {&contribution, &externals, &keys, &rows}, {&wire_keys, &wire_externals}},
-    {"decode", 0, BITS(1, 10) | BITS(14, 15), {&wire_externals, &output_masks}, {&decoded}},
+    {"externals", TAKES_N | TAKES_PARTY, BITS(1, 15) | BITS(28, 28), {&own_values, &own_masks}, {&own_externals}},
+    {"input_keys", TAKES_N | TAKES_K | TAKES_PARTY, BITS(1, 17) | BITS(28, 28), {&contribution, &externals}, {&own_keys}},
+    {"open", TAKES_N | TAKES_K | TAKES_PARTY, BITS(1, 20) | BITS(28, 28), {&contribution, &externals, &keys, &rows},
+        {&wire_keys, &wire_externals}},
+    {"decode", TAKES_N | TAKES_PARTY, BITS(1, 15) | BITS(28, 28), {&wire_externals, &sheet}, {&decoded}},
     {"records", 0, BITS(1, 10) | BITS(14, 14), {0}, {&records, &tables}},
     {"pair_read", 0, BITS(1, 10) | BITS(26, 26), {0}, {&pair_count}},
     {"pair_garble", TAKES_K, BITS(1, 11) | BITS(13, 14) | BITS(16, 16) | BITS(21, 21) | BITS(25, 27), {&draw},
@@ -382,6 +423,7 @@ static const struct {
     {"pair_input_keys", TAKES_K, BITS(1, 11) | BITS(13, 16) | BITS(26, 27), {&draw, &values}, {&pair_keys}},
     {"pair_open", TAKES_K, BITS(1, 11) | BITS(13, 14) | BITS(18, 18) | BITS(26, 26), {&pair_keys, &pair_rows},
         {&pair_wire_keys, &pair_externals}},
+    {"pair_decode", 0, BITS(1, 10) | BITS(14, 15), {&pair_externals, &pair_masks}, {&pair_figures}},
     {"write", 0, BITS(2, 9) | BITS(14, 14) | BITS(22, 22), {&records, &tables}, {&written_file, &written_words}},
     {"bundle_split", 0, BITS(14, 14) | BITS(23, 24), {0}, {&residues}},
     {"bundle_join", 0, BITS(14, 14) | BITS(23, 24), {&residues}, {&integer}},
@@ -395,6 +437,7 @@ static int of_bundles(enum call c) {
     return c >= SPLIT && c <= SCALE;
 }
 
+/* Those that mind selectors and owners: not decoding. */
 static int for_two(enum call c) {
     return c >= PAIR_READ && c <= PAIR_OPEN;
 }
@@ -441,7 +484,9 @@ static lupiknam_answer call(enum call c) {
         return lupiknam_open(IN(file), n, k, party, round_number, IN(contribution), IN(externals), IN(keys), IN(rows),
             OUT(wire_keys), OUT(wire_externals));
     case DECODE:
-        return lupiknam_decode(IN(file), IN(wire_externals), IN(output_masks), OUT(decoded));
+        return lupiknam_decode(IN(file), n, party, IN(wire_externals), IN(sheet), OUT(decoded));
+    case PAIR_DECODE:
+        return lupiknam_pair_decode(IN(file), IN(pair_externals), IN(pair_masks), OUT(pair_figures));
     case PAIR_READ:
         return lupiknam_pair_read(IN(file), (uint32_t *)(void *)bytes(&pair_count));
     case PAIR_GARBLE:
@@ -493,6 +538,8 @@ static int place_fits(enum call c, lupiknam_answer a) {
         return a.place < longest;
     case 26:
         return first_select > 0 && a.place == first_select;
+    case 28:
+        return a.place < counts.outputs && a.place == first_absent();
     case 17:
     case 27:
         return memchr(modulus, (int)a.place, counts.wires) != NULL && is_prime((unsigned)a.place);
@@ -511,6 +558,23 @@ static int account_refused(enum call c, uint32_t number, const lupiknam_meter *b
         : number != 25 || account >= ACCOUNTS;
 }
 
+/* Whether a call that is lent an accepted file is past 12 and 13, with a party named that does not take part: 28 is due then, whatever else
+   is wrong. */
+static int reader_absent(enum call c) {
+    const uint32_t given = calls[c].given;
+    return given & TAKES_N && n >= 2 && n <= MOST_PARTIES && !(given & TAKES_K && (k < 1 || k > 128)) && !(given & TAKES_PARTY && party >= n)
+        && owners_below(n) && first_absent() < counts.outputs;
+}
+
+/* Field by field: behind the names a record has bytes that are no field. */
+static int same_records(const lupiknam_record *x, const lupiknam_record *y, size_t many) {
+    for (; many > 0; many--, x++, y++)
+        if (x->kind != y->kind || x->modulus != y->modulus || x->owner != y->owner || x->constant != y->constant || x->bit != y->bit
+            || x->a != y->a || x->b != y->b || x->named != y->named)
+            return 0;
+    return 1;
+}
+
 /* What writing laid down: the reader takes it back to the same records and tables; the buffer is as it was past the words. */
 static void judge_file(void) {
     static lupiknam_record back[MOST_WIRES + MOST_OUTPUTS];
@@ -522,7 +586,7 @@ static void judge_file(void) {
     lupiknam_answer a = lupiknam_read(from, length, c, c + 1, c + 2, c + 3, c + 4, c + 5);
     check(a.number == 0 && c[0] + c[2] == record_count(), "the reader accepts what was written");
     a = lupiknam_records(from, length, back, record_count(), back_tables, tables.length);
-    check(a.number == 0 && memcmp(back, record(0), records.length) == 0 && memcmp(back_tables, bytes(&tables), tables.length) == 0,
+    check(a.number == 0 && same_records(back, record(0), record_count()) && memcmp(back_tables, bytes(&tables), tables.length) == 0,
         "what was written reads back as it was lent");
 }
 
@@ -636,7 +700,10 @@ static void judge_written(enum call c, const struct buffer *b, uint32_t number, 
         judge_file();
     else
         for (size_t i = 0; i < b->length; i++)
-            check(from[i] < modulus_at(b, i), "what an accepted call writes is below its modulus");
+            if (hidden(b, i))
+                check(from[i] == NOT_READ, "255 stands for what a party may not read");
+            else
+                check(from[i] < modulus_at(b, i), "what an accepted call writes is below its modulus");
 }
 
 static lupiknam_answer make(enum call c) {
@@ -661,8 +728,10 @@ static lupiknam_answer make(enum call c) {
         check(a.number == reading.number && a.place == reading.place, "every call refuses a bad file alike");
     else if (for_two(c) && first_select > 0)
         check(a.number == 26 && a.place == first_select, "every call for two refuses a selector alike");
-    else if (c < WRITE)
+    else if (c < WRITE) {
         check(a.number == 0 || a.number > 10, "no call finds a fault in an accepted file");
+        check(!reader_absent(c) || a.number == 28, "every call given n refuses a named party that does not take part");
+    }
     met_answer[c][a.number] = 1;
     met[c][a.number]++;
     made_calls++;
@@ -770,9 +839,10 @@ static size_t mend_word(uint32_t w, const uint8_t *from, size_t words, size_t at
             put_wire(kind << 28 | both, modulus[both & 1023]);
         }
     } else if (kind == 10 && made > 0 && *outputs < MOST_OUTPUTS) {
+        const uint32_t names = w >> 10 & 255; /* for two they are passed over */
         *stage = 2;
         ++*outputs;
-        put(10u << 28 | (w & 1023) % made);
+        put(10u << 28 | (mended_for_two() ? names : names & ((1u << n) - 1)) << 10 | (w & 1023) % made);
     }
     return at;
 }
@@ -892,12 +962,13 @@ static void call_loosely(void) {
 
 /* ---- writing: the file's words as records; where the file is accepted, these again with one fault each, whose answer is known */
 
-enum { KIND, MODULUS, OWNER, CONSTANT, BIT, A, B, FIELDS };
-_Static_assert(sizeof(lupiknam_record) == FIELDS * sizeof(uint32_t), "a record is its fields");
+enum { KIND, MODULUS, OWNER, CONSTANT, BIT, A, B, NAMED, FIELDS };
+_Static_assert(sizeof(lupiknam_record) == FIELDS * sizeof(uint32_t), "a record is its fields, of which the last is a byte");
 
-/* The fields that each kind of record uses. */
+/* The fields that each kind of record uses, and of these the ones that not every number fits. */
 static const uint8_t uses[11] = {[2] = 1 << MODULUS | 1 << OWNER, [3] = 1 << A | 1 << B, [4] = 1 << CONSTANT | 1 << A,
-    [5] = 1 << A | 1 << B, [6] = 1 << MODULUS | 1 << A, [8] = 1 << BIT | 1 << A | 1 << B, [10] = 1 << A};
+    [5] = 1 << A | 1 << B, [6] = 1 << MODULUS | 1 << A, [8] = 1 << BIT | 1 << A | 1 << B, [10] = 1 << A | 1 << NAMED};
+enum { JUDGED = 255 & ~(1 << NAMED) };
 
 static struct {
     lupiknam_record records[MOST_WORDS + 1024];
@@ -922,6 +993,7 @@ static void take_word(uint32_t w) {
         next->constant = kind == 4 ? high & 255 : 0;
         next->bit = kind == 8 ? low : 0;
         next->a = two_wires ? high : kind == 4 || kind == 6 || kind == 10 ? low : 0;
+        next->named = kind == 10 ? high & 255 : 0;
         taken.records_taken++;
     }
 }
@@ -946,30 +1018,33 @@ static void take_words(void) {
 }
 
 enum { ODD_KIND, UNUSED_FIELD, ODD_FIELD, OTHER_MODULUS, OUT_OF_ORDER, NO_OUTPUT, BAD_ENTRY, FEW_ENTRIES, MANY_ENTRIES, SHORT_FILE,
-    LONG_FILE, OTHER_LENGTH, ANY_FIELDS, WRITING_FAULTS };
+    LONG_FILE, OTHER_LENGTH, OTHER_NAMES, ANY_FIELDS, WRITING_FAULTS };
 COUNTERS static uint8_t met_writing[WRITING_FAULTS];
 
 static const uint32_t wide_numbers[] = {256, 257, 258, 1024, 1025, 1 << 16 | 2, 1u << 31 | 5, UINT32_MAX};
 
-static uint32_t *field(size_t index, unsigned number) {
-    return (uint32_t *)(void *)record(index) + number;
+static void set_field(size_t index, unsigned number, uint32_t value) {
+    if (number == NAMED)
+        record(index)->named = (uint8_t)value;
+    else
+        ((uint32_t *)(void *)record(index))[number] = value;
 }
 
-/* A field that a record uses, or one that it does not use. */
-static unsigned some_field(size_t index, unsigned used, unsigned from) {
+/* One of some fields. */
+static unsigned some_field(unsigned of, unsigned from) {
     unsigned number = 1 + from % (FIELDS - 1);
-    while ((uses[record(index)->kind] >> number & 1) != used)
+    while (!(of >> number & 1))
         number = 1 + number % (FIELDS - 1);
     return number;
 }
 
 /* A field with a number that is too large for it: judged by its value, however wide that is. */
 static void spoil_field(size_t index, struct fault f) {
-    const unsigned number = some_field(index, 1, f.where), by = f.where / 8;
+    const unsigned number = some_field(uses[record(index)->kind] & JUDGED, f.where), by = f.where / 8;
     const uint32_t wire = index < counts.wires ? (uint32_t)index : counts.wires;
     const uint32_t limit = number == MODULUS ? 252 : number == OWNER ? 8 : number == CONSTANT ? modulus[record(index)->a] : wire;
     const uint32_t value = by & 1 ? wide_numbers[by / 2 % 8] : limit + by / 2 % 4;
-    *field(index, number) = value < limit ? limit : value;
+    set_field(index, number, value < limit ? limit : value);
     must(WRITE, number == MODULUS ? 4 : number == OWNER || number == CONSTANT ? 7 : 5, index);
 }
 
@@ -983,7 +1058,7 @@ static void spoil_modulus(size_t index, struct fault f) {
         wire++;
     if (index >= counts.wires || wire == index || (r->kind != 3 && r->kind != 5 && r->kind != 8))
         return;
-    *field(index, number) = wire;
+    set_field(index, number, wire);
     must(WRITE, 6, index);
 }
 
@@ -994,7 +1069,8 @@ static void spoil_kind(size_t index, struct fault f) {
         record(index)->kind = odd[f.where / 8 % 11];
         must(WRITE, 2, index);
     } else if (f.kind == UNUSED_FIELD) {
-        *field(index, some_field(index, 0, f.where)) = 1u << f.where / 8 % 32;
+        const unsigned number = some_field(~uses[record(index)->kind], f.where);
+        set_field(index, number, 1u << f.where / 8 % (number == NAMED ? 8 : 32));
         must(WRITE, 2, index);
     } else if (f.kind == NO_OUTPUT) {
         set_length(&records, counts.wires * sizeof(lupiknam_record));
@@ -1049,11 +1125,23 @@ static void spoil_lengths(struct fault f) {
     }
 }
 
+/* Other names in an output's record: they stand in bits 17 to 10 of its word, and no other word is another. */
+static void spoil_names(struct fault f) {
+    const size_t output = f.where % counts.outputs, index = counts.wires + output;
+    const size_t word = file.length / 4 - 1 - counts.outputs + output;
+    record(index)->named = (uint8_t)drawn(256);
+    must(WRITE, 0, 0);
+    for (size_t at = 0; at < file.length / 4; at++) {
+        const uint32_t was = word_at(bytes(&file), at), due = (was & ~(255u << 10)) | (uint32_t)record(index)->named << 10;
+        check(word_at(bytes(&written_file), at) == (at == word ? due : was), "names are written into the word of their output alone");
+    }
+}
+
 /* Some fields of some records as they come: what holds of every call must hold, and what is accepted reads back. */
 static void spoil_any(void) {
     for (uint32_t changes = 1 + drawn(3); changes > 0 && record_count() > 0; changes--) {
         const uint32_t value = drawn(2) ? drawn(12) : drawn(2) ? wide_numbers[drawn(8)] : drawn(1024);
-        *field(drawn((uint32_t)record_count()), drawn(FIELDS)) = value;
+        set_field(drawn((uint32_t)record_count()), drawn(FIELDS), value);
     }
     make(WRITE);
 }
@@ -1073,6 +1161,8 @@ static void spoil_writing(struct fault f) {
         spoil_tables(f);
     else if (f.kind <= OTHER_LENGTH)
         spoil_lengths(f);
+    else if (f.kind == OTHER_NAMES)
+        spoil_names(f);
     else
         spoil_any();
     faulty += made_calls - before;
@@ -1089,7 +1179,7 @@ static void write_again(void) {
         spoil_any();
     } else {
         must(RECORDS, 0, 0);
-        check(memcmp(record(0), taken.records, records.length) == 0 && memcmp(bytes(&tables), taken.entries, tables.length) == 0,
+        check(same_records(record(0), taken.records, record_count()) && memcmp(bytes(&tables), taken.entries, tables.length) == 0,
             "the records are those of the file");
         must(WRITE, 0, 0);
         check(memcmp(bytes(&written_file), bytes(&file), file.length) == 0, "an accepted file is written again as it is");
@@ -1291,6 +1381,7 @@ static void set_party(uint32_t j) {
     set_length(&own_masks, own);
     set_length(&own_externals, own);
     set_bytes(&contribution, bytes(&contributions) + party * contribution.length);
+    set_bytes(&sheet, bytes(&output_masks) + party * sheet.length);
     for (uint32_t i = 0; i < own; i++) {
         bytes(&own_values)[i] = bytes(&values)[own_wire[i]];
         bytes(&own_masks)[i] = bytes(&input_masks)[own_wire[i]];
@@ -1317,7 +1408,39 @@ static void exchange(void) {
     }
 }
 
-/* Every party opens the same keys and external values, those of the inputs are the ones lent, and every party decodes the plain figures. */
+/* The masks of all outputs, gathered from the sheets: an output has at least one reader, and the same mask on the sheets of all. */
+static void gather_masks(void) {
+    for (size_t o = 0; o < counts.outputs; o++) {
+        uint32_t first = 0;
+        while (!may_read(first, o))
+            first++;
+        bytes(&pair_masks)[o] = bytes(&output_masks)[first * counts.outputs + o];
+        for (uint32_t j = first; j < n; j++)
+            check(!may_read(j, o) || bytes(&output_masks)[j * counts.outputs + o] == bytes(&pair_masks)[o],
+                "an output has one mask, whoever reads it");
+    }
+}
+
+/* A party decodes the plain figures that it may read. */
+static void judge_decoded(void) {
+    for (size_t o = 0; o < counts.outputs; o++)
+        check(bytes(&decoded)[o] == (may_read(party, o) ? bytes(&figures)[o] : NOT_READ),
+            "a round decodes the plain circuit's outputs for those who may read them");
+}
+
+/* With its own sheet, and again with any bytes where it may not read. */
+static void decode_at_party(void) {
+    must(DECODE, 0, 0);
+    judge_decoded();
+    for (size_t o = 0; o < counts.outputs; o++)
+        if (hidden(&sheet, o))
+            bytes(&sheet)[o] = (uint8_t)drawn(256);
+    must(DECODE, 0, 0);
+    judge_decoded();
+}
+
+/* Every party opens the same keys and external values, those of the inputs are the ones lent, and every party decodes the plain figures
+   that it may read. Decoding for two, which passes over names, gives all of them by all masks. */
 static void open_at_all(uint32_t last) {
     static uint8_t first_keys[1 << 21], first_externals[4096];
     for (uint32_t j = 1; j <= n; j++) {
@@ -1329,9 +1452,12 @@ static void open_at_all(uint32_t last) {
         }
         check(memcmp(first_keys, bytes(&wire_keys), wire_keys.length) == 0, "all parties open the same keys");
         check(memcmp(first_externals, bytes(&wire_externals), wire_externals.length) == 0, "all parties open the same external values");
-        must(DECODE, 0, 0);
-        check(memcmp(bytes(&decoded), bytes(&figures), figures.length) == 0, "a round decodes the plain circuit's outputs");
+        decode_at_party();
     }
+    gather_masks();
+    set_bytes(&pair_externals, first_externals);
+    must(PAIR_DECODE, 0, 0);
+    check(memcmp(bytes(&pair_figures), bytes(&figures), figures.length) == 0, "decoding for two passes over names");
     check(memcmp(first_keys, bytes(&keys), keys.length) == 0, "the keys of inputs are those lent");
     check(memcmp(first_externals, bytes(&externals), externals.length) == 0, "the external values of inputs are those lent");
 }
@@ -1380,13 +1506,13 @@ static void play(void) {
 /* ---- calls of the round again, each with one fault, two bytes too large or a bad account besides; all else is right, so the answer is
    known */
 
-enum { BAD_N, BAD_K, BAD_PARTY, OWNER_ABSENT, BAD_LENGTH, BAD_BYTE, ZERO_OFFSET, OTHER_KEY, OTHER_ROW, OTHER_ROUND, FULL_METER,
-    BAD_ACCOUNT, FAULT_KINDS };
+enum { BAD_N, BAD_K, BAD_PARTY, OWNER_ABSENT, READER_ABSENT, BAD_LENGTH, BAD_BYTE, ZERO_OFFSET, OTHER_KEY, OTHER_ROW, OTHER_ROUND,
+    FULL_METER, BAD_ACCOUNT, FAULT_KINDS };
 COUNTERS static uint8_t met_fault[CALLS][FAULT_KINDS][2]; /* the account good, or bad */
 
-/* The answer that is due to a fault; where the account is bad besides, 25 stands directly after 14. */
+/* The answer that is due to a fault; where the account is bad besides, 25 stands directly after 14, and so after 28. */
 static void must_spoiled(enum call c, uint32_t number, size_t place) {
-    if (c == GARBLE && account >= ACCOUNTS && (number == 0 || number > 14))
+    if (c == GARBLE && account >= ACCOUNTS && (number == 0 || number > 14) && number != 28)
         must(GARBLE, 25, 0);
     else
         must(c, number, place);
@@ -1410,10 +1536,35 @@ static void spoil_number(enum call c, struct fault f) {
         n = 2 + f.where % (n - 1);
         while (w < counts.inputs && owner[w] < n)
             w++;
-        if (w < counts.inputs && (party < n || !(calls[c].given & TAKES_PARTY)))
-            must_spoiled(c, 13, w);
+        if (party < n || !(calls[c].given & TAKES_PARTY)) {
+            if (w < counts.inputs)
+                must_spoiled(c, 13, w);
+            else if (first_absent() < counts.outputs)
+                must_spoiled(c, 28, first_absent());
+        }
     }
     n = n_was, k = k_was, party = party_was;
+}
+
+static void spoil_length(enum call c, struct fault f);
+
+/* An output, and one at or behind it, that name a party that does not take part; every other time with a length that is not exact, which
+   comes after, or with an input of such a party, which comes before. */
+static void spoil_readers(enum call c, struct fault f) {
+    if (n == MOST_PARTIES)
+        return;
+    const size_t first = f.where % counts.outputs, behind = first + drawn(counts.outputs - (uint32_t)first), w = drawn(counts.inputs);
+    const uint8_t first_was = named[first], behind_was = named[behind], owner_was = owner[w];
+    set_names(behind, (uint8_t)(behind_was | 1u << (n + drawn(MOST_PARTIES - n))));
+    set_names(first, (uint8_t)(named[first] | 1u << (n + drawn(MOST_PARTIES - n))));
+    must_spoiled(c, 28, first);
+    if (calls[c].read[0] && drawn(2))
+        spoil_length(c, f);
+    owner[w] = bytes(&file)[4 * (1 + w) + 2] = (uint8_t)(n + drawn(MOST_PARTIES - n));
+    must_spoiled(c, 13, w);
+    owner[w] = bytes(&file)[4 * (1 + w) + 2] = owner_was;
+    set_names(behind, behind_was);
+    set_names(first, first_was);
 }
 
 /* One of the buffers that a call reads, or of those that it reads or writes; the meter has no length of its own. */
@@ -1433,17 +1584,21 @@ static void spoil_length(enum call c, struct fault f) {
     const size_t was = b->length;
     const long other = (long)was + steps[f.where / 8 % 5];
     set_length(b, other < 0 ? was + 1 : (size_t)other);
-    must_spoiled(c, 14, 0);
+    if (reader_absent(c))
+        must_spoiled(c, 28, first_absent());
+    else
+        must_spoiled(c, 14, 0);
     b->length = was;
 }
 
-/* A byte changed to another: at its modulus or above, or still below. */
+/* A byte changed to another: at its modulus or above, every fourth time the largest, or still below. */
 static void change(struct buffer *b, size_t at, int too_large, uint16_t by) {
     const unsigned p = modulus_at(b, at), was = bytes(b)[at];
-    bytes(b)[at] = (uint8_t)(too_large ? p + by % (256 - p) : (was + 1 + by % (p - 1)) % p);
+    bytes(b)[at] = (uint8_t)(!too_large ? (was + 1 + by % (p - 1)) % p : by % 4 == 0 ? 255 : p + by % (256 - p));
 }
 
-/* Two bytes too large, the second at or behind the first, or of a row, anywhere, where the first is a key's: the first is named. */
+/* Two bytes too large, the second at or behind the first, or of a row, anywhere, where the first is a key's: the first is named. A sheet's
+   byte that its party may not read is passed over. */
 static void spoil_bytes(enum call c, struct fault f) {
     struct buffer *b = one_of(c, f, 0);
     if (b->length == 0)
@@ -1454,7 +1609,11 @@ static void spoil_bytes(enum call c, struct fault f) {
     const uint8_t was = bytes(b)[at], was_behind = bytes(then)[behind];
     change(then, behind, 1, drawn(256));
     change(b, at, 1, f.where / 8);
-    must_spoiled(c, b == &keys || b == &rows ? 18 : b == &contribution || b == &contributions ? 16 : 15, at);
+    if (hidden(b, at) && hidden(then, behind))
+        must_spoiled(c, 0, 0);
+    else
+        must_spoiled(c, b == &keys || b == &rows ? 18 : b == &contribution || b == &contributions ? 16 : 15,
+            hidden(b, at) ? behind : at);
     bytes(then)[behind] = was_behind;
     bytes(b)[at] = was;
 }
@@ -1513,9 +1672,9 @@ static void spoil_meter(struct fault f) {
 /* Whether a call can have a fault. */
 static int can_have(enum call c, unsigned kind) {
     const uint32_t given = calls[c].given;
-    return kind == BAD_N || kind == OWNER_ABSENT ? given & TAKES_N : kind == BAD_K || kind == ZERO_OFFSET ? given & TAKES_K
-        : kind == BAD_PARTY ? given & TAKES_PARTY : kind == BAD_LENGTH || kind == BAD_BYTE ? calls[c].read[0] != NULL
-        : kind == FULL_METER || kind == BAD_ACCOUNT ? c == GARBLE : c == OPEN;
+    return kind == BAD_N || kind == OWNER_ABSENT || kind == READER_ABSENT ? given & TAKES_N
+        : kind == BAD_K || kind == ZERO_OFFSET ? given & TAKES_K : kind == BAD_PARTY ? given & TAKES_PARTY
+        : kind == BAD_LENGTH || kind == BAD_BYTE ? calls[c].read[0] != NULL : kind == FULL_METER || kind == BAD_ACCOUNT ? c == GARBLE : c == OPEN;
 }
 
 static void spoil(struct fault f) {
@@ -1533,6 +1692,8 @@ static void spoil(struct fault f) {
         must_spoiled(GARBLE, 0, 0);
     else if (f.kind <= OWNER_ABSENT)
         spoil_number(c, f);
+    else if (f.kind == READER_ABSENT)
+        spoil_readers(c, f);
     else if (f.kind == BAD_LENGTH)
         spoil_length(c, f);
     else if (f.kind == BAD_BYTE)
@@ -1551,7 +1712,7 @@ static void spoil(struct fault f) {
 
 /* Every fault is taken back; what a refused call had filled before it was made is put back here. */
 static void spoil_all(void) {
-    static uint8_t rows_were[1 << 21], masks_were[MOST_OUTPUTS], externals_were[MOST_WIRES];
+    static uint8_t rows_were[1 << 21], masks_were[MOST_PARTIES * MOST_OUTPUTS], externals_were[MOST_WIRES];
     memcpy(rows_were, bytes(&rows), rows.length);
     memcpy(masks_were, bytes(&output_masks), output_masks.length);
     memcpy(externals_were, bytes(&wire_externals), wire_externals.length);
@@ -1596,10 +1757,8 @@ static void open_for_two(void) {
     check(memcmp(bytes(&pair_wire_keys), bytes(&pair_keys), pair_keys.length) == 0, "the keys of inputs for two are those lent");
     for (size_t w = 0; w < counts.wires; w++)
         check(bytes(&pair_externals)[w] == bytes(&pair_wire_keys)[w * k], "an external value for two is component 0 of its key");
-    set_bytes(&wire_externals, bytes(&pair_externals));
-    set_bytes(&output_masks, bytes(&pair_masks));
-    must(DECODE, 0, 0);
-    check(memcmp(bytes(&decoded), bytes(&figures), figures.length) == 0, "a round for two decodes the plain circuit's outputs");
+    must(PAIR_DECODE, 0, 0);
+    check(memcmp(bytes(&pair_figures), bytes(&figures), figures.length) == 0, "a round for two decodes the plain circuit's outputs");
 }
 
 /* Opened for two lists of values, the keys of an output differ by the difference of its figures times the offset. */
@@ -1651,7 +1810,7 @@ static void play_for_two(void) {
     account %= ACCOUNTS;
     for (size_t i = 1; i < BUFFERS; i++) /* a ring's may be too long for theirs */
         set_length(all[i], exact(all[i]));
-    struct buffer *const lent_here[] = {&draw, &pair_rows, &pair_masks, &pair_keys, &pair_wire_keys, &pair_externals};
+    struct buffer *const lent_here[] = {&draw, &pair_rows, &pair_masks, &pair_keys, &pair_wire_keys, &pair_externals, &pair_figures};
     for (size_t i = 0; i < sizeof lent_here / sizeof lent_here[0]; i++)
         check(lent_here[i]->length == exact(lent_here[i]), "a round for two that is played fits its buffers");
     draw_values();
@@ -1660,6 +1819,8 @@ static void play_for_two(void) {
     must(PAIR_READ, 0, 0);
     check(word_at(bytes(&pair_count), 0) == pair_total, "the rows for two are those of the file");
     must(PAIR_GARBLE, 0, 0);
+    for (size_t o = 0; o < counts.outputs; o++) /* nothing from here on minds who is named */
+        set_names(o, (uint8_t)drawn(256));
     open_twice();
     change_row();
     change_round();
@@ -1668,14 +1829,16 @@ static void play_for_two(void) {
 
 /* ---- calls of that round again, each with one to four faults; all else is right, so the first in the order of the checks is named */
 
-enum { TWO_KEYS, TWO_OWNERS, TWO_LENGTHS, TWO_ACCOUNTS, TWO_VALUES, TWO_BYTES, TWO_OFFSETS, TWO_KEY_BYTES, TWO_ROW_BYTES, TWO_METERS,
-    TWO_FAULTS };
+enum { TWO_KEYS, TWO_OWNERS, TWO_LENGTHS, TWO_ACCOUNTS, TWO_VALUES, TWO_MASKS, TWO_BYTES, TWO_OFFSETS, TWO_KEY_BYTES, TWO_ROW_BYTES,
+    TWO_METERS, TWO_FAULTS };
 COUNTERS static uint8_t met_pair[CALLS][TWO_FAULTS][TWO_FAULTS]; /* the fault that is due, and another */
 
 #define AS_BIT(fault) (1u << (fault))
 enum { TWO_ANY = AS_BIT(TWO_KEYS) | AS_BIT(TWO_OWNERS) | AS_BIT(TWO_LENGTHS) };
 
 static uint32_t faults_for_two(enum call c) {
+    if (c == PAIR_DECODE)
+        return AS_BIT(TWO_LENGTHS) | AS_BIT(TWO_MASKS);
     const uint32_t bits = c == PAIR_GARBLE ? AS_BIT(TWO_ACCOUNTS) | AS_BIT(TWO_BYTES) | AS_BIT(TWO_OFFSETS) | AS_BIT(TWO_METERS)
         : c == PAIR_INPUT_KEYS ? AS_BIT(TWO_VALUES) | AS_BIT(TWO_BYTES) | AS_BIT(TWO_OFFSETS)
         : AS_BIT(TWO_KEY_BYTES) | AS_BIT(TWO_ROW_BYTES);
@@ -1689,6 +1852,13 @@ static size_t too_large(struct buffer *b) {
     change(b, behind, 1, (uint16_t)drawn(256));
     change(b, at, 1, (uint16_t)drawn(256));
     return at;
+}
+
+/* External values too large, or masks, or both; the lowest place of all. Every mask is judged, whoever is named. */
+static size_t bad_masks(void) {
+    const uint32_t which = drawn(3);
+    const size_t external = which != 0 ? too_large(&pair_externals) : SIZE_MAX, mask = which != 1 ? too_large(&pair_masks) : SIZE_MAX;
+    return external < mask ? external : mask;
 }
 
 /* Component 0 of an offset, and of another of a larger modulus, other than 1; the lower modulus. */
@@ -1726,12 +1896,14 @@ static void bad_length(enum call c) {
 /* Lays one fault; its number, and the place in *place. Key length and account come last, since others go by them. */
 static uint32_t lay_fault(enum call c, unsigned kind, size_t *place) {
     static const uint32_t odd_accounts[] = {8, 9, 15, 255, 256, 256 + 7, 1 << 16 | 3, 1u << 31, UINT32_MAX};
-    static const uint8_t numbers_due[TWO_FAULTS] = {11, 13, 14, 25, 15, 16, 27, 18, 18, 21};
+    static const uint8_t numbers_due[TWO_FAULTS] = {11, 13, 14, 25, 15, 15, 16, 27, 18, 18, 21};
     *place = 0;
     if (kind == TWO_OWNERS)
         *place = bad_owners();
     else if (kind == TWO_VALUES)
         *place = too_large(&values);
+    else if (kind == TWO_MASKS)
+        *place = bad_masks();
     else if (kind == TWO_BYTES)
         *place = too_large(&draw);
     else if (kind == TWO_OFFSETS)
@@ -1764,13 +1936,14 @@ static void refuse_selector(void) {
 /* What the calls read, put aside and back again. */
 static struct {
     uint8_t file[4 * MOST_WORDS + 4096], owner[MOST_WIRES], draw[1 << 18], rows[1 << 21], keys[1 << 18], values[4096];
-    uint8_t masks[4096], externals[4096], wire_keys[1 << 18];
+    uint8_t masks[4096], externals[4096], wire_keys[1 << 18], figures[4096];
 } aside;
 static struct {
     struct buffer *buffer;
     uint8_t *bytes;
 } const kept_aside[] = {{&file, aside.file}, {&draw, aside.draw}, {&pair_rows, aside.rows}, {&pair_keys, aside.keys},
-    {&values, aside.values}, {&pair_masks, aside.masks}, {&pair_externals, aside.externals}, {&pair_wire_keys, aside.wire_keys}};
+    {&values, aside.values}, {&pair_masks, aside.masks}, {&pair_externals, aside.externals}, {&pair_wire_keys, aside.wire_keys},
+    {&pair_figures, aside.figures}};
 enum { KEPT_ASIDE = sizeof kept_aside / sizeof kept_aside[0] };
 
 static void put_aside(void) {
@@ -1790,9 +1963,9 @@ static void put_back(const size_t *lengths) {
 /* The offsets before other bytes of the draw, so that a component 0 that is too large stays so; the lengths and k after all that go by
    them. */
 static void spoil_for_two(struct fault f) {
-    static const uint8_t order[TWO_FAULTS] = {TWO_OWNERS, TWO_VALUES, TWO_OFFSETS, TWO_BYTES, TWO_KEY_BYTES, TWO_ROW_BYTES, TWO_METERS,
-        TWO_LENGTHS, TWO_ACCOUNTS, TWO_KEYS};
-    const enum call c = PAIR_GARBLE + f.call % 3;
+    static const uint8_t order[TWO_FAULTS] = {TWO_OWNERS, TWO_VALUES, TWO_MASKS, TWO_OFFSETS, TWO_BYTES, TWO_KEY_BYTES, TWO_ROW_BYTES,
+        TWO_METERS, TWO_LENGTHS, TWO_ACCOUNTS, TWO_KEYS};
+    const enum call c = PAIR_GARBLE + f.call % 4;
     const uint32_t can = faults_for_two(c), k_was = k, account_was = account;
     size_t lengths[KEPT_ASIDE], places[TWO_FAULTS];
     uint32_t numbers_of[TWO_FAULTS], wrong, first = 0;
@@ -1831,13 +2004,6 @@ static void report(void) {
     }
 }
 
-static int owners_below(uint32_t parties) {
-    for (uint32_t w = 0; w < counts.inputs; w++)
-        if (owner[w] >= parties)
-            return 0;
-    return 1;
-}
-
 int LLVMFuzzerInitialize(int *argc, char ***argv) {
     (void)argc, (void)argv;
     list_primes();
@@ -1866,7 +2032,7 @@ int LLVMFuzzerTestOneInput(const uint8_t *data, size_t size) {
     call_loosely();
     write_again();
     try_bundles();
-    if (reading.number == 0 && in_range() && owners_below(n) && !dear()) {
+    if (reading.number == 0 && in_range() && owners_below(n) && first_absent() == counts.outputs && !dear()) {
         play();
         spoil_all();
     }

@@ -6,7 +6,7 @@
 #include <stdlib.h>
 #include <string.h>
 
-enum { FAULTS = 63 }; /* fuzz/run reads this line */
+enum { FAULTS = 85 }; /* fuzz/run reads this line */
 
 #define FILE_PARAMETERS const uint8_t *file, size_t length
 #define READ_ONLY(name) const uint8_t *name, size_t name##_length
@@ -22,7 +22,7 @@ lupiknam_answer engine_input_keys(FILE_PARAMETERS, uint32_t, uint32_t, uint32_t,
     WRITTEN(keys));
 lupiknam_answer engine_open(FILE_PARAMETERS, uint32_t, uint32_t, uint32_t, uint32_t, READ_ONLY(contribution), READ_ONLY(externals),
     READ_ONLY(keys), READ_ONLY(rows), WRITTEN(wire_keys), WRITTEN(wire_externals));
-lupiknam_answer engine_decode(FILE_PARAMETERS, READ_ONLY(externals), READ_ONLY(masks), WRITTEN(outputs));
+lupiknam_answer engine_decode(FILE_PARAMETERS, uint32_t, uint32_t, READ_ONLY(externals), READ_ONLY(masks), WRITTEN(outputs));
 lupiknam_answer engine_records(FILE_PARAMETERS, lupiknam_record *, size_t, WRITTEN(tables));
 lupiknam_answer engine_write(const lupiknam_record *, size_t, READ_ONLY(tables), WRITTEN(file), uint32_t *);
 lupiknam_answer engine_bundle_split(uint32_t, uint64_t, WRITTEN(residues));
@@ -37,10 +37,62 @@ lupiknam_answer engine_pair_garble(FILE_PARAMETERS, uint32_t, uint32_t, uint32_t
 lupiknam_answer engine_pair_input_keys(FILE_PARAMETERS, uint32_t, READ_ONLY(draw), READ_ONLY(values), WRITTEN(keys));
 lupiknam_answer engine_pair_open(FILE_PARAMETERS, uint32_t, uint32_t, READ_ONLY(keys), READ_ONLY(rows), WRITTEN(wire_keys),
     WRITTEN(wire_externals));
+lupiknam_answer engine_pair_decode(FILE_PARAMETERS, READ_ONLY(externals), READ_ONLY(masks), WRITTEN(outputs));
 
 static int planted(int number) {
     const char *given = getenv("PLANTED");
     return given && atoi(given) == number;
+}
+
+/* The first word of a file, from one on, that is of this kind; the number of words where there is none. */
+static size_t word_of_kind(FILE_PARAMETERS, size_t from, unsigned kind) {
+    while (from < length / 4 && file[4 * from + 3] >> 4 != kind)
+        from++;
+    return from;
+}
+
+/* Of an output of an accepted file: its word, the parties that it names, its wire, and whether a party may read it. */
+static const uint8_t *output_word(FILE_PARAMETERS, size_t output) {
+    return file + 4 * (word_of_kind(file, length, 1, 10) + output);
+}
+
+static unsigned named(FILE_PARAMETERS, size_t output) {
+    const uint8_t *word = output_word(file, length, output);
+    return word[1] >> 2 | (word[2] & 3u) << 6;
+}
+
+static uint32_t wire_of(FILE_PARAMETERS, size_t output) {
+    const uint8_t *word = output_word(file, length, output);
+    return word[0] | (uint32_t)(word[1] & 3) << 8;
+}
+
+static int may_read(FILE_PARAMETERS, uint32_t party, size_t output) {
+    const unsigned names = named(file, length, output);
+    return names == 0 || names >> party & 1;
+}
+
+static size_t outputs_of(FILE_PARAMETERS) {
+    return length / 4 - 1 - word_of_kind(file, length, 1, 10);
+}
+
+/* The first output, from one on, that names a party at or above n; the number of outputs where there is none. */
+static size_t absent(FILE_PARAMETERS, size_t from, uint32_t n) {
+    while (from < outputs_of(file, length) && (n > 7 || named(file, length, from) >> n == 0))
+        from++;
+    return from;
+}
+
+/* A copy of an accepted file whose outputs name no party at or above n. */
+static const uint8_t *without_absent(FILE_PARAMETERS, uint32_t n) {
+    static uint8_t copy[1 << 19];
+    memcpy(copy, file, length);
+    for (size_t i = 0; i < outputs_of(file, length); i++) {
+        uint8_t *word = (uint8_t *)(uintptr_t)output_word(copy, length, i);
+        const unsigned names = named(file, length, i) & ((1u << n) - 1);
+        word[1] = (uint8_t)((word[1] & 3) | names << 2);
+        word[2] = (uint8_t)(names >> 6);
+    }
+    return copy;
 }
 
 static uint32_t squares(FILE_PARAMETERS) {
@@ -57,7 +109,17 @@ lupiknam_answer lupiknam_read(FILE_PARAMETERS, uint32_t *wires, uint32_t *inputs
     if (planted(1) && length > 0 && length % 4 == 0 && file[length] == 1) // looks at the byte after the file
         return (lupiknam_answer){1, 0};
     uint32_t c[6];
+    static uint8_t copy[1 << 19];
     lupiknam_answer a = engine_read(file, length, c, c + 1, c + 2, c + 3, c + 4, c + 5);
+    if (planted(82) && a.number == 2 && file[4 * a.place + 3] == 0xA0 && file[4 * a.place + 2] >> 2 == 1) { // bit 18 taken for a ninth party
+        memcpy(copy, file, length);
+        copy[4 * a.place + 2] &= 3;
+        return engine_read(copy, length, wires, inputs, outputs, rows, moduli, records);
+    }
+    if (planted(81) && a.number == 0) // party 7's bit refused
+        for (size_t i = 0; i < outputs_of(file, length); i++)
+            if (named(file, length, i) >> 7)
+                return (lupiknam_answer){2, word_of_kind(file, length, 1, 10) + i};
     if (planted(2) && a.number == 6) // a number written though the file is refused
         *records = 0;
     if (planted(3) && a.number == 0 && c[4] == 4) // a good file refused
@@ -72,6 +134,11 @@ lupiknam_answer lupiknam_inputs_of(FILE_PARAMETERS, uint32_t n, uint32_t party, 
     lupiknam_answer a = engine_inputs_of(file, length, n, party, count);
     if (planted(4) && a.number == 12) // a place left out
         a.place = 0;
+    if (planted(67) && a.number == 28) // the output's wire for its index
+        a.place = wire_of(file, length, a.place);
+    if (planted(79) && a.number == 28) // the last such output
+        for (size_t next = a.place; next < outputs_of(file, length); next = absent(file, length, next + 1, n))
+            a.place = next;
     return a;
 }
 
@@ -90,6 +157,29 @@ static void charge_wrongly(lupiknam_meter *meter, uint32_t account, uint32_t row
     }
     for (uint32_t i = 0; planted(36) && i < 8; i++) // every account is charged
         meter->totals[i] += i == account ? 0 : rows;
+}
+
+/* Faults of the sheets that an accepted garbling has written. */
+static void hand_out_wrongly(FILE_PARAMETERS, uint32_t n, uint8_t *sheets) {
+    const size_t outputs = outputs_of(file, length);
+    uint8_t copy[8 * 256];
+    memcpy(copy, sheets, n * outputs);
+    for (size_t i = 0; i < n * outputs; i++) {
+        const size_t output = i % outputs;
+        uint32_t reader = 0;
+        while (!may_read(file, length, reader, output))
+            reader++;
+        if (planted(64)) // all masks on every sheet
+            sheets[i] = copy[reader * outputs + output];
+        if (planted(65) && sheets[i] == 255) // 0 for 255
+            sheets[i] = 0;
+        if (planted(66) && named(file, length, output) == 0) // nobody named is nobody
+            sheets[i] = 255;
+        if (planted(77)) // the sheets of parties descending
+            sheets[i] = copy[(n - 1 - i / outputs) * outputs + output];
+        if (planted(84) && i / outputs == n - 1 && sheets[i] == 255) // a byte of the last sheet not written
+            sheets[i] = 254;
+    }
 }
 
 /* The total that 21 looks at, and from which the rows are counted: that of the named account, or, planted, the next one's. */
@@ -130,7 +220,13 @@ lupiknam_answer lupiknam_garble(FILE_PARAMETERS, uint32_t n, uint32_t k, uint32_
     if (planted(7) && a.number == 0 && n == 7) // a byte too many
         output_masks[output_masks_length] = 0;
     if (planted(8) && a.number == 0 && rows_length > 0) // the last byte not written
-        rows[rows_length - 1] = 255;
+        rows[rows_length - 1] = 254;
+    if (a.number == 0)
+        hand_out_wrongly(file, length, n, output_masks);
+    if (planted(73) && a.number == 13 && absent(file, length, 0, n) < outputs_of(file, length)) // 28 before 13
+        return (lupiknam_answer){28, absent(file, length, 0, n)};
+    if (planted(85) && a.number == 28 && account > 7) // 25 before 28
+        return (lupiknam_answer){25, 0};
     if (planted(22) && a.number == 16) // a bad byte behind the lowest
         for (size_t i = a.place; i < contributions_length; i++)
             a.place = contributions[i] > 250 ? i : a.place;
@@ -141,6 +237,8 @@ lupiknam_answer lupiknam_externals(FILE_PARAMETERS, uint32_t n, uint32_t party, 
     lupiknam_answer a = engine_externals(file, length, n, party, values, values_length, masks, masks_length, externals, externals_length);
     if (planted(9) && a.number == 0 && masks_length > 1) // writes what it should only read, the byte that is there
         ((volatile uint8_t *)(uintptr_t)masks)[1] = masks[1];
+    if (planted(72) && a.number == 28 && values_length != masks_length) // 28 after 14
+        return (lupiknam_answer){14, 0};
     return a;
 }
 
@@ -165,15 +263,30 @@ lupiknam_answer lupiknam_open(FILE_PARAMETERS, uint32_t n, uint32_t k, uint32_t 
         a.place++;
     if (planted(13) && a.number == 0 && n > 2 && party == 2) // another key at one party, still below its modulus
         wire_keys[0] = wire_keys[0] == 0;
+    if (planted(78) && a.number == 28) // a reader that does not take part taken
+        return engine_open(without_absent(file, length, n), length, n, k, party, round, contribution, contribution_length, externals,
+            externals_length, keys, keys_length, rows, rows_length, wire_keys, wire_keys_length, wire_externals, wire_externals_length);
     return a;
 }
 
-lupiknam_answer lupiknam_decode(FILE_PARAMETERS, READ_ONLY(externals), READ_ONLY(masks), WRITTEN(outputs)) {
-    lupiknam_answer a = engine_decode(file, length, externals, externals_length, masks, masks_length, outputs, outputs_length);
+lupiknam_answer lupiknam_decode(FILE_PARAMETERS, uint32_t n, uint32_t party, READ_ONLY(externals), READ_ONLY(masks), WRITTEN(outputs)) {
+    if (planted(83) && n >= 2 && n <= 8) // any party taken, by its remainder
+        party %= n;
+    lupiknam_answer a = engine_decode(file, length, n, party, externals, externals_length, masks, masks_length, outputs, outputs_length);
     if (planted(14) && a.number == 14) // a byte before the buffer
         memset(outputs - 1, 0, 1);
     while (planted(15) && a.number == 0 && outputs_length == 2) // does not end
         continue;
+    for (size_t i = 0; a.number == 0 && i < outputs_length; i++) {
+        if (planted(68) && outputs[i] == 255 && masks[i] > 250 && masks[i] < 255) { // a mask judged that is to be passed over
+            memset(outputs, 254, outputs_length);
+            return (lupiknam_answer){15, i};
+        }
+        if (planted(70) && named(file, length, i) == 0) // nobody named is nobody
+            outputs[i] = 255;
+        if (planted(71) && outputs[i] == 255) // 0 for what may not be read
+            outputs[i] = 0;
+    }
     return a;
 }
 
@@ -182,23 +295,30 @@ lupiknam_answer lupiknam_records(FILE_PARAMETERS, lupiknam_record *records, size
     if (planted(16) && a.number == 0 && records[count - 1].a == 2) // a field that an output does not use
         records[count - 1].modulus = 5;
     if (planted(17) && a.number == 0 && tables_length > 2) // the last entry not written
-        tables[tables_length - 1] = 255;
+        tables[tables_length - 1] = 254;
+    if (planted(76) && a.number == 0) // the names left out
+        records[count - 1].named = 0;
     return a;
 }
 
-/* Wires as the low ten bits of a word have them. */
-static lupiknam_answer write_narrowed(const lupiknam_record *records, size_t count, READ_ONLY(tables), WRITTEN(file), uint32_t *words) {
-    static lupiknam_record narrow[1 << 17];
+/* Records with a fault of their own in front of the writer. */
+static lupiknam_answer write_changed(const lupiknam_record *records, size_t count, READ_ONLY(tables), WRITTEN(file), uint32_t *words) {
+    static lupiknam_record changed[1 << 17];
     for (size_t i = 0; i < count; i++) {
-        narrow[i] = records[i];
-        narrow[i].a &= 1023;
+        changed[i] = records[i];
+        if (planted(18)) // wires as the low ten bits of a word have them
+            changed[i].a &= 1023;
+        if (planted(74) && changed[i].kind == 10) // an output's names dropped
+            changed[i].named = 0;
+        if (planted(75) && changed[i].kind != 10) // names in another record passed over
+            changed[i].named = 0;
     }
-    return engine_write(narrow, count, tables, tables_length, file, file_length, words);
+    return engine_write(changed, count, tables, tables_length, file, file_length, words);
 }
 
 lupiknam_answer lupiknam_write(const lupiknam_record *records, size_t count, READ_ONLY(tables), WRITTEN(file), uint32_t *words) {
-    if (planted(18)) // a field too wide for its bits
-        return write_narrowed(records, count, tables, tables_length, file, file_length, words);
+    if (planted(18) || planted(74) || planted(75))
+        return write_changed(records, count, tables, tables_length, file, file_length, words);
     lupiknam_answer a = engine_write(records, count, tables, tables_length, file, file_length, words);
     if (planted(19) && a.number == 0 && file_length > 4 * (size_t)*words) // a byte past the words
         file[4 * (size_t)*words] = 0;
@@ -264,13 +384,6 @@ void lupiknam_meter_carry(uint32_t total, lupiknam_meter *meter) {
         meter->totals[0] += before.totals[0];
 }
 
-/* The first word of a file, from one on, that is of this kind; the number of words where there is none. */
-static size_t word_of_kind(FILE_PARAMETERS, size_t from, unsigned kind) {
-    while (from < length / 4 && file[4 * from + 3] >> 4 != kind)
-        from++;
-    return from;
-}
-
 /* The index of the first input whose owner is above 1; of the first word that is no input where there is none. */
 static size_t stranger(FILE_PARAMETERS) {
     size_t at = 1;
@@ -334,7 +447,7 @@ lupiknam_answer lupiknam_pair_garble(FILE_PARAMETERS, uint32_t k, uint32_t round
         a = other.number == 27 ? other : a;
     }
     if (planted(53) && a.number == 0) // the last mask not written
-        output_masks[output_masks_length - 1] = 255;
+        output_masks[output_masks_length - 1] = 254;
     if (planted(54) && a.number == 25 && rows_length > 0) { // 25 after 16; with a full meter nothing is written
         lupiknam_answer other = PAIR_GARBLE(draw, 0, &full);
         a = other.number == 16 ? other : a;
@@ -376,5 +489,16 @@ lupiknam_answer lupiknam_pair_open(FILE_PARAMETERS, uint32_t k, uint32_t round, 
         wire_keys[wire_keys_length / 2] = 0;
     if (planted(63) && a.number == 0) // an external value that is not component 0 of its key, still below its modulus
         wire_externals[0] = wire_externals[0] == 0;
+    return a;
+}
+
+lupiknam_answer lupiknam_pair_decode(FILE_PARAMETERS, READ_ONLY(externals), READ_ONLY(masks), WRITTEN(outputs)) {
+    const size_t select = word_of_kind(file, length, 1, 8);
+    lupiknam_answer a = engine_pair_decode(file, length, externals, externals_length, masks, masks_length, outputs, outputs_length);
+    if (planted(80) && (a.number == 0 || a.number > 10) && select < length / 4) // a selector refused
+        return (lupiknam_answer){26, select};
+    for (size_t i = 0; planted(69) && a.number == 0 && i < outputs_length; i++) // the names read: party 1 opens
+        if (!may_read(file, length, 1, i))
+            outputs[i] = 255;
     return a;
 }

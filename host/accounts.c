@@ -8,7 +8,7 @@
 #include <stdio.h>
 #include <string.h>
 
-enum { ACCOUNTS = 8, N = 2, K = 3, MOST_CONTRIBUTIONS = 128, MOST_ROWS = 502 * N * K, MOST_MASKS = 3, FILL = 0x55 };
+enum { ACCOUNTS = 8, N = 2, K = 3, MOST_CONTRIBUTIONS = 128, MOST_ROWS = 502 * N * K, MOST_MASKS = 3, NOT_READ = 255, FILL = 0x55 };
 
 static const uint32_t limit = 4294967295;
 
@@ -48,6 +48,10 @@ static const struct circuit project_2 = {
 static const struct circuit sum = {{0x10000000, 0x20000005, 0x20010005, 0x30000001, 0xA0000002, 0xB0000000}, 6, 2, 2, 0};
 static const struct circuit modulus_6 = {{0x10000000, 0x20000005, 0x20010006, 0x50000001, 0xA0000002, 0xB0000000}, 6, 2, 4, 10};
 static const struct circuit owner_2 = {{0x10000000, 0x20000005, 0x20020005, 0x50000001, 0xA0000002, 0xB0000000}, 6, 2, 4, 10};
+
+/* Outputs that name party 1, and parties 1 and 2, of which two have no second. */
+static const struct circuit names_1 = {{0x10000000, 0x20000005, 0x20010005, 0x50000001, 0xA0000802, 0xB0000000}, 6, 2, 4, 10};
+static const struct circuit names_2 = {{0x10000000, 0x20000005, 0x20010005, 0x50000001, 0xA0001802, 0xB0000000}, 6, 2, 4, 10};
 
 static const struct circuit *const circuits[] = {&product_251, &product_5, &select_2, &project_2, &sum};
 
@@ -93,7 +97,7 @@ static lupiknam_answer garble(const struct circuit *c, uint32_t account, unsigne
     memset(input_masks, FILL, sizeof input_masks);
     memset(output_masks, FILL, sizeof output_masks);
     return lupiknam_garble(file, 4 * c->count, wrong & NINE_PARTIES ? 9 : N, wrong & NO_KEYS ? 0 : K, 6, account, contributions,
-        contributions_length, rows, rows_length - (wrong & SHORT_ROWS ? 1 : 0), input_masks, c->inputs, output_masks, 1, &held.meter);
+        contributions_length, rows, rows_length - (wrong & SHORT_ROWS ? 1 : 0), input_masks, c->inputs, output_masks, N, &held.meter);
 }
 
 static int nothing_written(void)
@@ -101,15 +105,16 @@ static int nothing_written(void)
     return all_fill(rows, sizeof rows) && all_fill(input_masks, sizeof input_masks) && all_fill(output_masks, sizeof output_masks);
 }
 
-/* The masks are sums of two shares that are 1, modulo the wire's modulus; a select's is that of its product plus that of a branch. */
+/* The masks are sums of two shares that are 1, modulo the wire's modulus; a select's is that of its product plus that of a branch. A sheet
+   is one byte here, and there are two: party 0's has no mask where the output names party 1. */
 static int masks_written(const struct circuit *c)
 {
     const unsigned p = c->words[1] & 255, output = c == &select_2 || c == &sum ? 4 % p : 2 % p;
     for (size_t i = 0; i < c->inputs; i++)
         if (input_masks[i] != 2 % p)
             return 0;
-    return output_masks[0] == output && all_fill(input_masks + c->inputs, sizeof input_masks - c->inputs)
-        && all_fill(output_masks + 1, sizeof output_masks - 1);
+    return output_masks[0] == (c == &names_1 ? NOT_READ : output) && output_masks[1] == output
+        && all_fill(input_masks + c->inputs, sizeof input_masks - c->inputs) && all_fill(output_masks + N, sizeof output_masks - N);
 }
 
 static int rows_written(const struct circuit *c)
@@ -163,6 +168,7 @@ static void charges_one(uint32_t account)
     garbles("old totals", &product_251, account, 0, some, 0, 0, with(some, account, some[account] + 502));
     garbles("no rows", &sum, account, 0, some, 0, 0, some);
     garbles("two rows", &project_2, account, 0, some, 0, 0, with(some, account, some[account] + 2));
+    garbles("an output for party 1", &names_1, account, 0, some, 0, 0, with(some, account, some[account] + 10));
 }
 
 /* The limit is the named account's, whatever stands in the others. */
@@ -178,7 +184,7 @@ static void limits_one(uint32_t account)
     refuses("all accounts full", &product_251, account, 0, full, 21, 0);
 }
 
-/* ---- 25, and where it stands: 1 to 10, 11, 13, 14, 25, 16, 17, 21 */
+/* ---- 25, and where it stands: 1 to 10, 11, 13, 28, 14, 25, 16, 17, 21 */
 
 static void no_account(uint32_t account)
 {
@@ -189,6 +195,8 @@ static void no_account(uint32_t account)
     refuses("11 before 25", &product_5, account, NINE_PARTIES, some, 11, 0);
     refuses("11 before 25", &product_5, account, NO_KEYS, some, 11, 0);
     refuses("13 before 25", &owner_2, account, 0, some, 13, 1);
+    refuses("28 before 25", &names_2, account, 0, some, 28, 0);
+    refuses("28 before 14 and 25", &names_2, account, SHORT_ROWS, some, 28, 0);
     refuses("14 before 25", &product_5, account, SHORT_ROWS, some, 14, 0);
     refuses("14 before all the others", &product_5, account, SHORT_ROWS | LARGE_BYTE | ZERO_OFFSET, full, 14, 0);
     refuses("25 before 16", &product_5, account, LARGE_BYTE, some, 25, 0);
@@ -203,6 +211,7 @@ static void other_refusals(uint32_t account)
     refuses("a bad file", &modulus_6, account, 0, some, 4, 2);
     refuses("nine parties", &product_5, account, NINE_PARTIES, some, 11, 0);
     refuses("an owner that is absent", &owner_2, account, 0, some, 13, 1);
+    refuses("a reader that is absent", &names_2, account, LARGE_BYTE | ZERO_OFFSET, full, 28, 0);
     refuses("a length", &product_5, account, SHORT_ROWS, some, 14, 0);
     refuses("16 before 17 and 21", &product_5, account, LARGE_BYTE | ZERO_OFFSET, full, 16, K - 1);
     refuses("17 before 21", &product_5, account, ZERO_OFFSET, full, 17, 5);

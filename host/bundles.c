@@ -223,9 +223,9 @@ struct round {
     size_t length;
     uint32_t n, k, number;
     uint32_t wires, inputs, outputs, rows, moduli, record_keys; /* as lupiknam_read counts them */
-    size_t contribution_length, row_length, rows_length, keys_length;
+    size_t contribution_length, row_length, rows_length, keys_length, sheets_length;
     uint8_t *keys_of; /* the keys in each wire's record */
-    uint8_t *contributions, *row_bytes, *input_masks, *output_masks, *values, *externals, *keys, *own_keys, *wire_keys, *wire_externals;
+    uint8_t *contributions, *row_bytes, *input_masks, *sheets, *values, *externals, *keys, *own_keys, *wire_keys, *wire_externals;
     uint8_t *decoded;
 };
 
@@ -252,11 +252,12 @@ static void prepare(struct round *r, const struct circuit *c, uint32_t n, uint32
     r->row_length = (size_t)n * k;
     r->rows_length = r->rows * r->row_length;
     r->keys_length = r->inputs * r->row_length;
+    r->sheets_length = (size_t)n * r->outputs;
     r->keys_of = room(r->wires);
     r->contributions = room(n * r->contribution_length);
     r->row_bytes = room(r->rows_length);
     r->input_masks = room(r->inputs);
-    r->output_masks = room(r->outputs);
+    r->sheets = room(r->sheets_length);
     r->values = room(r->inputs);
     r->externals = room(r->inputs);
     r->keys = room(r->keys_length);
@@ -269,7 +270,7 @@ static void prepare(struct round *r, const struct circuit *c, uint32_t n, uint32
 
 static void drop(struct round *r)
 {
-    uint8_t *all[] = {r->keys_of, r->contributions, r->row_bytes, r->input_masks, r->output_masks, r->values, r->externals, r->keys,
+    uint8_t *all[] = {r->keys_of, r->contributions, r->row_bytes, r->input_masks, r->sheets, r->values, r->externals, r->keys,
         r->own_keys, r->wire_keys, r->wire_externals, r->decoded};
     for (size_t i = 0; i < sizeof all / sizeof all[0]; i++)
         free(all[i]);
@@ -284,7 +285,7 @@ static void garble(struct round *r, lupiknam_meter *meter)
     if (at != r->contributions + r->n * r->contribution_length)
         give_up("drawing: the length differs");
     must(lupiknam_garble(r->file, r->length, r->n, r->k, r->number, ACCOUNT, r->contributions, r->n * r->contribution_length, r->row_bytes,
-             r->rows_length, r->input_masks, r->inputs, r->output_masks, r->outputs, meter), "garbling");
+             r->rows_length, r->input_masks, r->inputs, r->sheets, r->sheets_length, meter), "garbling");
 }
 
 /* A party splits its integer: the residues are the values of its inputs, which are the wires of one bundle. */
@@ -304,12 +305,15 @@ static void make_keys(struct round *r, uint32_t party)
         memcpy(r->keys + w * r->row_length + party * r->k, r->own_keys + w * r->k, r->k);
 }
 
+/* Each party has its own sheet of the output masks. No output here names a party, so that every sheet has all masks. */
 static void open_and_decode(struct round *r, uint32_t party)
 {
+    const uint8_t *sheet = r->sheets + (size_t)party * r->outputs;
     must(lupiknam_open(r->file, r->length, r->n, r->k, party, r->number, r->contributions + party * r->contribution_length,
              r->contribution_length, r->externals, r->inputs, r->keys, r->keys_length, r->row_bytes, r->rows_length, r->wire_keys,
              r->wires * r->row_length, r->wire_externals, r->wires), "opening");
-    must(lupiknam_decode(r->file, r->length, r->wire_externals, r->wires, r->output_masks, r->outputs, r->decoded, r->outputs), "decoding");
+    must(lupiknam_decode(r->file, r->length, r->n, party, r->wire_externals, r->wires, sheet, r->outputs, r->decoded, r->outputs),
+        "decoding");
 }
 
 /* Joins the residues of each figure, sets the integers beside those reckoned, and prints them. */

@@ -5,10 +5,13 @@
 //   demo_round FILE [--pair] [--parties N] [--key-length K] [--values A,B,...] [--round N] [--seed N] [--integers R]
 //              [--account A] [--meter PATH] [--carry TOTAL]
 //
-// With --pair the circuit, which has no selectors and inputs of parties 0 and 1 alone, is played in the two-party form: one side garbles,
-// the other opens. The price list is then that form's.
+// Where an output names parties, those alone read it: in the columns of the others stands -.
 //
-// With --integers, outputs that are a bundle of R, that is, R in a row whose moduli are the first R primes, are shown as one integer.
+// With --pair the circuit, which has no selectors and inputs of parties 0 and 1 alone, is played in the two-party form: one side garbles,
+// the other opens. The price list is then that form's, and the parties that outputs name are passed over.
+//
+// With --integers, outputs that are a bundle of R, that is, R in a row whose moduli are the first R primes and which the same parties read,
+// are shown as one integer.
 //
 // The rows are charged to account A, 0 where none is given. With --meter the totals of all accounts go on from run to run in the file PATH,
 // as a unit keeps them (meter_file.h); without it they end with the run. With --carry they start from TOTAL, the one total that a unit had
@@ -17,8 +20,8 @@
 //
 // One process holds every party's secrets here, and prints their values: this shows a round, it does not keep one.
 //
-// Ends with 0 if all figures decoded are the plain circuit's, with 1 if the engine refuses or a figure differs, and with 2 if the command
-// is wrong or the machine does not give what it needs.
+// Ends with 0 if all figures decoded are the plain circuit's, each at the parties that may read it and at no other, with 1 if the engine
+// refuses or a figure differs, and with 2 if the command is wrong or the machine does not give what it needs.
 #define _POSIX_C_SOURCE 200809L
 #include "lupiknam.h"
 #include "meter_file.h"
@@ -33,6 +36,9 @@
 #include <unistd.h>
 
 enum { MOST_WIRES = 1024, MOST_OUTPUTS = 256, MOST_PARTIES = 8, MOST_PRIMES = 10, ACCOUNTS = 8 };
+
+// what stands for a mask or a figure that a party may not read
+enum { NOT_READ = 255 };
 
 // of a bundle: the first r of them
 static const uint8_t primes[MOST_PRIMES] = {2, 3, 5, 7, 11, 13, 17, 19, 23, 29};
@@ -63,14 +69,15 @@ struct circuit {
     lupiknam_answer pair;                                       // what that call answered
     struct wire wire[MOST_WIRES];
     uint32_t output[MOST_OUTPUTS]; // the wire of each
+    uint32_t named[MOST_OUTPUTS];  // the parties that may read it, a bit each; 0 for all
 };
 
 // the calls that are timed, and the one that only --integers needs
-enum call { READ, PAIR_READ, PLAIN, GARBLE, EXTERNALS, INPUT_KEYS, OPEN, PAIR_GARBLE, PAIR_INPUT_KEYS, PAIR_OPEN, DECODE, TIMED,
+enum call { READ, PAIR_READ, PLAIN, GARBLE, EXTERNALS, INPUT_KEYS, OPEN, DECODE, PAIR_GARBLE, PAIR_INPUT_KEYS, PAIR_OPEN, PAIR_DECODE, TIMED,
             JOIN = TIMED, CALLS };
 
-static const char *const call_names[CALLS] = {"read", "pair_read", "plain", "garble", "externals", "input_keys", "open", "pair_garble",
-                                              "pair_input_keys", "pair_open", "decode", "bundle_join"};
+static const char *const call_names[CALLS] = {"read", "pair_read", "plain", "garble", "externals", "input_keys", "open", "decode",
+                                              "pair_garble", "pair_input_keys", "pair_open", "pair_decode", "bundle_join"};
 
 struct round {
     const struct circuit *circuit;
@@ -80,7 +87,8 @@ struct round {
     size_t contribution_length, rows_length, keys_length, wire_keys_length;
     uint8_t *contributions, *rows, *keys, *own_keys, *wire_keys;
     uint8_t values[MOST_WIRES], input_masks[MOST_WIRES], externals[MOST_WIRES], wire_externals[MOST_WIRES];
-    uint8_t output_masks[MOST_OUTPUTS], plain[MOST_OUTPUTS], figures[MOST_PARTIES][MOST_OUTPUTS];
+    uint8_t output_masks[MOST_PARTIES * MOST_OUTPUTS]; // a sheet for each party, or in the two-party form one for all
+    uint8_t plain[MOST_OUTPUTS], figures[MOST_PARTIES][MOST_OUTPUTS];
     lupiknam_meter meter;                     // rows garbled, for each account
     const char *meter_path;                   // its file; NULL where it has none
     uint32_t carried;                         // the total that a meter is made of
@@ -128,6 +136,8 @@ static const char *place_of(uint32_t number) {
     case 17:
     case 27:
         return "modulus";
+    case 28:
+        return "output";
     default:
         return NULL;
     }
@@ -324,7 +334,7 @@ static uint32_t word_at(const struct circuit *c, size_t at) {
 }
 
 // the wire that the low ten bits of a word name
-static const struct wire *named(const struct circuit *c, uint32_t word) {
+static const struct wire *wire_named(const struct circuit *c, uint32_t word) {
     return &c->wire[word & 0x3FF];
 }
 
@@ -335,7 +345,7 @@ static bool is_square(uint32_t word) {
 
 // the wire that a word of an accepted file starts; a select's moduli stand in the word after it
 static struct wire wire_of(const struct circuit *c, uint32_t word, uint32_t next) {
-    uint32_t kind = word >> 28, p = named(c, kind == SELECT ? next : word)->modulus;
+    uint32_t kind = word >> 28, p = wire_named(c, kind == SELECT ? next : word)->modulus;
     switch (kind) {
     case INPUT:
         return (struct wire){kind, word >> 16 & 0xFF, word & 0xFF, 0, 1, 0};
@@ -364,9 +374,20 @@ static void list_wires(struct circuit *c) {
         uint32_t word = word_at(c, at), kind = word >> 28;
         if (starts_wire(kind))
             c->wire[wires++] = wire_of(c, word, word_at(c, at + 1));
-        else if (kind == OUTPUT)
+        else if (kind == OUTPUT) {
+            c->named[outputs] = word >> 10 & 0xFF;
             c->output[outputs++] = word & 0x3FF;
+        }
     }
+}
+
+// The two-party form passes over the parties that outputs name.
+static void forget_names(struct circuit *c) {
+    memset(c->named, 0, sizeof c->named);
+}
+
+static bool may_read(const struct circuit *c, uint32_t party, uint32_t output) {
+    return c->named[output] == 0 || c->named[output] >> party & 1;
 }
 
 // the rows of a wire, in a ring or in the two-party form
@@ -405,12 +426,22 @@ static double read_for_two(struct circuit *c, bool insists) {
     return spent;
 }
 
-static uint32_t parties_needed(const struct circuit *c) {
+// as many parties as the owners of the inputs need
+static uint32_t parties_entering(const struct circuit *c) {
     uint32_t most = 1;
     for (uint32_t i = 0; i < c->inputs; i++)
         if (c->wire[i].owner > most)
             most = c->wire[i].owner;
     return most + 1;
+}
+
+// and those who read the outputs, too
+static uint32_t parties_needed(const struct circuit *c) {
+    uint32_t count = parties_entering(c);
+    for (uint32_t o = 0; o < c->outputs; o++)
+        while (c->named[o] >> count > 0)
+            count++;
+    return count;
 }
 
 // ---- the calls of a round
@@ -430,7 +461,7 @@ static lupiknam_answer garble_file(const struct round *r, const uint8_t *file, s
                            inputs, output_masks, outputs, meter);
 }
 
-// Whether n and K will do is the engine's to say, and before memory is sought for them: 11 and 13 come before 14, which a garbling that
+// Whether n and K will do is the engine's to say, and before memory is sought for them: 11, 13 and 28 come before 14, which a garbling that
 // is lent nothing meets in any case.
 static void check_session(const struct round *r) {
     const struct circuit *c = r->circuit;
@@ -446,9 +477,13 @@ static uint32_t garbled_rows(const struct round *r) {
     return r->pair ? r->circuit->pair_rows : r->circuit->rows;
 }
 
-// whose keys there are: every party's, or the garbler's
+// whose keys there are, and sheets of output masks: every party's, or the garbler's
 static uint32_t holders(const struct round *r) {
     return r->pair ? 1 : r->n;
+}
+
+static const uint8_t *sheet_of(const struct round *r, uint32_t party) {
+    return r->output_masks + (size_t)party * r->circuit->outputs;
 }
 
 static void make_room(struct round *r) {
@@ -507,7 +542,7 @@ static void write_trial(uint8_t *at) {
 // The time goes by the rows, whatever the gates: garbling a few with the same n and K tells about how long all of them will take. Nobody
 // gets these rows and nobody pays for them: the meter is one of their own.
 static double seconds_to_garble(const struct round *r) {
-    uint8_t file[4 * TRIAL_WORDS], input_mask, output_mask;
+    uint8_t file[4 * TRIAL_WORDS], input_mask, output_masks[MOST_PARTIES];
     const size_t key = r->k, contributions_length = r->pair ? 3 * key : r->n * (2 * key + 2 * (key + 1));
     const size_t rows_length = r->pair ? (TRIAL_ROWS - 1) * key : TRIAL_ROWS * r->n * key;
     uint8_t *contributions = room(contributions_length), *rows = room(rows_length);
@@ -517,7 +552,7 @@ static double seconds_to_garble(const struct round *r) {
     memset(contributions, 1, contributions_length); // below both moduli, and no offset zero; in each component 0 is 1
     double begun = milliseconds_now();
     lupiknam_answer answer = garble_file(r, file, sizeof file, 0, contributions, contributions_length, rows, rows_length, &input_mask, 1,
-                                         &output_mask, 1, &meter);
+                                         output_masks, holders(r), &meter);
     double spent = milliseconds_now() - begun;
     must(answer, garbling(r));
     free(contributions);
@@ -530,7 +565,7 @@ static void garble(struct round *r) {
     double begun = start("garble, %u rows, about %.0f s ", (unsigned)garbled_rows(r), seconds_to_garble(r));
     lupiknam_answer answer =
         garble_file(r, c->file, c->length, r->account, r->contributions, holders(r) * r->contribution_length, r->rows, r->rows_length,
-                    r->input_masks, c->inputs, r->output_masks, c->outputs, &r->meter);
+                    r->input_masks, c->inputs, r->output_masks, (size_t)holders(r) * c->outputs, &r->meter);
     r->milliseconds[garbling(r)][0] = spent_since(begun);
     must(answer, garbling(r));
 }
@@ -621,11 +656,12 @@ static void open_rows(struct round *r, uint32_t party) {
     must(answer, OPEN);
 }
 
+// a party has its own sheet and no other
 static void decode(struct round *r, uint32_t party) {
     const struct circuit *c = r->circuit;
     double begun = start_at(DECODE, party, r->readers);
-    lupiknam_answer answer =
-        lupiknam_decode(c->file, c->length, r->wire_externals, c->wires, r->output_masks, c->outputs, r->figures[party], c->outputs);
+    lupiknam_answer answer = lupiknam_decode(c->file, c->length, r->n, party, r->wire_externals, c->wires, sheet_of(r, party), c->outputs,
+                                             r->figures[party], c->outputs);
     r->milliseconds[DECODE][party] = spent_since(begun);
     must(answer, DECODE);
 }
@@ -650,13 +686,22 @@ static void open_rows_for_two(struct round *r) {
     must(answer, PAIR_OPEN);
 }
 
+static void decode_for_two(struct round *r) {
+    const struct circuit *c = r->circuit;
+    double begun = start("pair_decode ");
+    lupiknam_answer answer =
+        lupiknam_pair_decode(c->file, c->length, r->wire_externals, c->wires, r->output_masks, c->outputs, r->figures[0], c->outputs);
+    r->milliseconds[PAIR_DECODE][0] = spent_since(begun);
+    must(answer, PAIR_DECODE);
+}
+
 // the garbler garbles and makes the keys, the opener opens and, having the output masks, decodes
 static void play_for_two(struct round *r) {
     evaluate_plainly(r);
     garble_for_account(r);
     make_input_keys_for_two(r);
     open_rows_for_two(r);
-    decode(r, 0);
+    decode_for_two(r);
 }
 
 // every party needs all external values for its keys, and all keys to open
@@ -688,7 +733,7 @@ static void print_prices(const struct round *r) {
 static void print_rows(const struct circuit *c) {
     printf("\nrows of a garbling: %u in a ring, ", (unsigned)c->rows);
     if (c->pair.number == 0)
-        printf("%u in the two-party form%s\n", (unsigned)c->pair_rows, parties_needed(c) > 2 ? ", but an owner is above 1" : "");
+        printf("%u in the two-party form%s\n", (unsigned)c->pair_rows, parties_entering(c) > 2 ? ", but an owner is above 1" : "");
     else
         printf("none in the two-party form: %s, at word %zu\n", lupiknam_refusal(c->pair.number), c->pair.place);
 }
@@ -700,12 +745,12 @@ static void print_inputs(const struct round *r) {
                (unsigned)r->values[i]);
 }
 
-// do the outputs from this one on begin with a bundle?
+// do the outputs from this one on begin with a bundle? A party reads the whole of it or nothing
 static bool is_bundle(const struct circuit *c, uint32_t output, uint32_t count) {
     if (count == 0 || count > c->outputs - output)
         return false;
     for (uint32_t i = 0; i < count; i++)
-        if (c->wire[c->output[output + i]].modulus != primes[i])
+        if (c->wire[c->output[output + i]].modulus != primes[i] || c->named[output + i] != c->named[output])
             return false;
     return true;
 }
@@ -735,15 +780,32 @@ static uint64_t figure_at(const struct round *r, const uint8_t *bytes, uint32_t 
     return integer;
 }
 
+static bool names_parties(const struct circuit *c) {
+    for (uint32_t o = 0; o < c->outputs; o++)
+        if (c->named[o] != 0)
+            return true;
+    return false;
+}
+
 static void print_figures_head(const struct round *r) {
     const int wide = r->integers ? 10 : 0; // digits of the largest product
     printf("\nfigures: the plain circuit's, and what %s decodes\n", r->pair ? "the opener" : "each party");
+    if (names_parties(r->circuit))
+        puts("- stands where the party may not read the output");
     printf("output wire %*s %*s", wide, "modulus", wide, "plain");
     if (r->pair)
         printf(" %*s", wide ? wide : 7, "opener");
     for (uint32_t party = 0; !r->pair && party < r->n; party++)
         printf(" %*s %u", wide ? wide - 2 : 0, "party", (unsigned)party);
     putchar('\n');
+}
+
+// What a party decoded, as it is: a figure that it may not read, and all the same has, is shown.
+static void print_decoded(const struct round *r, uint32_t reader, uint32_t output, int wide) {
+    if (r->figures[reader][output] == NOT_READ)
+        printf(" %*s", wide, "-");
+    else
+        printf(" %*llu", wide, (unsigned long long)figure_at(r, r->figures[reader], output));
 }
 
 static void print_figures(const struct round *r) {
@@ -754,28 +816,38 @@ static void print_figures(const struct round *r) {
         printf("%6u %4u %*llu %*llu", (unsigned)o, (unsigned)c->output[o], wide, (unsigned long long)limit_of(c, o, r->integers),
                plain_wide, (unsigned long long)figure_at(r, r->plain, o));
         for (uint32_t reader = 0; reader < r->readers; reader++)
-            printf(" %*llu", wide, (unsigned long long)figure_at(r, r->figures[reader], o));
+            print_decoded(r, reader, o, wide);
         putchar('\n');
     }
 }
 
-static void complain_of(const struct round *r, uint32_t reader) {
+static void complain_of(const struct round *r, uint32_t reader, const char *what) {
     fflush(stdout);
     if (r->pair)
         fputs("demo_round: the opener", stderr);
     else
         fprintf(stderr, "demo_round: party %u", (unsigned)reader);
-    fputs(" decodes other figures than the plain circuit's\n", stderr);
+    fprintf(stderr, " decodes %s\n", what);
 }
 
-// names each party whose figures are not the plain circuit's, and says whether there is none
+// Of the outputs that a reader may read, or of those that it may not: are all bytes as they should be?
+static bool decoded_well(const struct round *r, uint32_t reader, bool readable) {
+    for (uint32_t o = 0; o < r->circuit->outputs; o++)
+        if (may_read(r->circuit, reader, o) == readable && r->figures[reader][o] != (readable ? r->plain[o] : NOT_READ))
+            return false;
+    return true;
+}
+
+// names each party whose figures are not the plain circuit's, or not its to read, and says whether there is none
 static bool print_verdict(const struct round *r) {
     bool all = true;
-    for (uint32_t reader = 0; reader < r->readers; reader++)
-        if (memcmp(r->figures[reader], r->plain, r->circuit->outputs) != 0) {
-            complain_of(r, reader);
-            all = false;
-        }
+    for (uint32_t reader = 0; reader < r->readers; reader++) {
+        if (!decoded_well(r, reader, true))
+            complain_of(r, reader, "other figures than the plain circuit's");
+        if (!decoded_well(r, reader, false))
+            complain_of(r, reader, "an output that it may not read");
+        all = all && decoded_well(r, reader, true) && decoded_well(r, reader, false);
+    }
     if (all)
         puts("The decoded figures are those of the plain circuit.");
     return all;
@@ -832,14 +904,14 @@ static bool made_once(enum call call) {
 static void print_times_for_two(const struct round *r) {
     puts("\ntime of each call in milliseconds");
     for (enum call call = READ; call < TIMED; call++)
-        if (call < GARBLE || call > OPEN)
+        if (call < GARBLE || call > DECODE)
             printf("%-15s %9.3f\n", call_names[call], r->milliseconds[call][0]);
 }
 
 static void print_times(const struct round *r) {
     puts("\ntime of each call in milliseconds; where every party makes it, party 0's first");
-    for (enum call call = READ; call < TIMED; call++) {
-        if (call == PAIR_READ || (call >= PAIR_GARBLE && call <= PAIR_OPEN))
+    for (enum call call = READ; call <= DECODE; call++) {
+        if (call == PAIR_READ)
             continue;
         printf("%-10s", call_names[call]);
         for (uint32_t party = 0; party < (made_once(call) ? 1 : r->n); party++)
@@ -994,6 +1066,8 @@ int main(int count, char **arguments) {
     round.milliseconds[READ][0] = read_circuit(&circuit, options.path);
     round.milliseconds[PAIR_READ][0] = read_for_two(&circuit, options.pair);
     round.pair = options.pair;
+    if (round.pair)
+        forget_names(&circuit);
     round.n = options.parties ? number_32_in(options.parties, "--parties") : parties_needed(&circuit);
     round.readers = round.pair ? 1 : round.n;
     round.k = number_32_in(options.key_length, "--key-length");

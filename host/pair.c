@@ -29,7 +29,7 @@ static const uint32_t circuit[] = {
     0x70000000, 0x70000001, 0x70000002,
     0x50002003, /* wire 9: wire 8 times wire 3                                       */
     0xA0000007, /* output: wire 7                                                    */
-    0xA0000009, /* output: wire 9                                                    */
+    0xA0000809, /* output: wire 9; names party 1, which this form passes over        */
     0xB0000000, /* end                                                               */
 };
 
@@ -186,7 +186,7 @@ static void play(const uint8_t *file, size_t length, uint32_t k, int number, lup
        on the external bytes of the outputs alone, with 0 for all other wires, and never a key. */
     must(lupiknam_pair_open(file, length, k, round, keys, keys_length, row_bytes, rows_length, wire_keys, key * wires, wire_externals,
              wires), "opening");
-    must(lupiknam_decode(file, length, wire_externals, wires, output_masks, outputs, decoded, outputs), "decoding");
+    must(lupiknam_pair_decode(file, length, wire_externals, wires, output_masks, outputs, decoded, outputs), "decoding");
     same(decoded, figures[number], outputs, "decoding");
     printf("round %d: the opener decodes %d %d\n", number, decoded[0], decoded[1]);
 

@@ -1,8 +1,9 @@
 /*
- * What the four calls of the two-party form answer, from C: every choice of faults, of which the first in the order of the checks must be
+ * What the five calls of the two-party form answer, from C: every choice of faults, of which the first in the order of the checks must be
  * the one named; the rows of each gate; whole rounds over all values of a circuit with every kind of gate, whose keys must be zero key plus
- * value times offset on every wire; which rows opening reads; and what garbling does to the eight totals. A refused call must leave every
- * byte and number as it was. Prints what is not so; the exit status is 0 where there is nothing to print.
+ * value times offset on every wire; which rows opening reads; that the parties that outputs name are passed over; what decoding takes and
+ * refuses; and what garbling does to the eight totals. A refused call must leave every byte and number as it was. Prints what is not so; the
+ * exit status is 0 where there is nothing to print.
  */
 #include "lupiknam.h"
 #include <stdio.h>
@@ -374,8 +375,8 @@ static void open_and_decode(unsigned number)
     check(memcmp(of(&wire_keys), of(&keys), keys.length) == 0, "keys of inputs are those lent", number);
     check(externals_are_components(), "external values are component 0", number);
     check(answers(lupiknam_plain(file, file_length, of(&values), INPUTS, of(&plain), OUTPUTS), 0, 0), "plain evaluation", number);
-    check(answers(lupiknam_decode(file, file_length, of(&wire_externals), WIRES, of(&masks), OUTPUTS, of(&decoded), OUTPUTS), 0, 0),
-        "decoding", number);
+    check(answers(lupiknam_pair_decode(file, file_length, of(&wire_externals), WIRES, of(&masks), OUTPUTS, of(&decoded), OUTPUTS), 0, 0)
+            && untouched_around(&decoded), "decoding", number);
     check(memcmp(of(&decoded), of(&plain), OUTPUTS) == 0, "the figures are the plain circuit's", number);
 }
 
@@ -435,10 +436,109 @@ static void rows_read(void)
                 "opening reads its row", value);
         }
         check(externals[0] == value, "the mask is 0", value);
-        check(answers(lupiknam_decode(file, file_length, externals, 2, of(&masks), 1, output, 1), 0, 0)
+        check(answers(lupiknam_pair_decode(file, file_length, externals, 2, of(&masks), 1, output, 1), 0, 0)
                 && answers(lupiknam_plain(file, file_length, &value, 1, plain_output, 1), 0, 0) && output[0] == plain_output[0],
             "figures of a table", value);
     }
+}
+
+/* ---- names: this form passes over them, also of parties that it has not */
+
+/* The outputs of the circuit, which are the words before the last, name parties, each others. */
+static void name_parties(unsigned from)
+{
+    for (size_t i = 0; i < OUTPUTS; i++) {
+        uint8_t *word = file + file_length - 4 * (OUTPUTS + 1 - i);
+        const unsigned named = (from + 37 * (unsigned)i) % 256;
+        word[1] = (uint8_t)((word[1] & 3) | named << 2);
+        word[2] = (uint8_t)(named >> 6);
+        check(word[3] == 0xA0, "an output word", from);
+    }
+}
+
+/* Garbled without names and with them from one draw: rows, masks, keys and figures are the same. */
+static void names(void)
+{
+    static const uint32_t empty[ACCOUNTS];
+    static struct lent plain_rows, plain_masks;
+    lay_circuit(0);
+    set_meter(empty);
+    blank(&drawn), blank(&rows), blank(&masks), blank(&values);
+    draw();
+    check(answers(make(GARBLE), 0, 0), "garbling without names", 0);
+    plain_rows = rows, plain_masks = masks;
+    memcpy(of(&values), (uint8_t[]){3, 4, 1}, INPUTS);
+    for (unsigned from = 0; from < 256; from++) {
+        uint32_t found = 77;
+        lay_circuit(0);
+        name_parties(from);
+        set_meter(empty);
+        blank(&rows), blank(&masks);
+        check(answers(lupiknam_pair_read(file, file_length, &found), 0, 0) && found == ROWS, "rows of a circuit with names", from);
+        check(answers(make(GARBLE), 0, 0) && held.meter.totals[2] == ROWS, "garbling with names", from);
+        check(memcmp(rows.bytes, plain_rows.bytes, sizeof rows.bytes) == 0, "names change no row", from);
+        check(memcmp(masks.bytes, plain_masks.bytes, sizeof masks.bytes) == 0, "names change no mask", from);
+        open_and_decode(from);
+    }
+}
+
+/* ---- decoding: 1 to 10, 14 and 15 alone */
+
+static lupiknam_answer decode(void)
+{
+    return lupiknam_pair_decode(file, file_length, of(&wire_externals), wire_externals.length, of(&masks), masks.length, of(&decoded),
+        decoded.length);
+}
+
+static void decodes_not(uint32_t number, size_t place, const char *what, unsigned which)
+{
+    blank(&decoded);
+    check(answers(decode(), number, place) && untouched(&decoded), what, which);
+}
+
+/* External value 1 and mask 0 everywhere: the figure is 1 for every output, whoever owns an input, whatever gates there are and whoever is
+   named. */
+static void decodes_any(unsigned wrong, unsigned wires, unsigned outputs)
+{
+    lay_circuit(wrong);
+    if (!wrong)
+        name_parties(255);
+    wire_externals.length = wires, masks.length = decoded.length = outputs;
+    blank(&wire_externals), blank(&masks), blank(&decoded);
+    memset(of(&wire_externals), 1, wires);
+    memset(of(&masks), 0, outputs);
+    check(answers(decode(), 0, 0) && untouched_around(&decoded), "decoding any circuit", wrong);
+    for (size_t i = 0; i < outputs; i++)
+        check(of(&decoded)[i] == 1, "a figure of any circuit", wrong);
+}
+
+static void decoding(void)
+{
+    struct lent *const all[] = {&wire_externals, &masks, &decoded};
+    decodes_any(1 << OWNER_2, WIRES, OUTPUTS);
+    decodes_any(1 << SELECTOR, WIRES + 2, OUTPUTS);
+    decodes_any(0, WIRES, OUTPUTS);
+    for (unsigned i = 0; i < 6; i++) { /* one length too long, or too short, and bytes that are too large besides */
+        of(&masks)[0] = 255;
+        all[i / 2]->length += i % 2 ? 1 : (size_t)-1;
+        decodes_not(14, 0, "decoding: a length", i);
+        set_lengths();
+    }
+    for (size_t i = 0; i < OUTPUTS; i++) { /* every mask is judged, also of an output that names another party; of two the lower index */
+        memset(of(&masks), 0, OUTPUTS);
+        of(&masks)[i] = (uint8_t)modulus[i];
+        decodes_not(15, i, "decoding: a mask", (unsigned)i);
+        of(&wire_externals)[OUTPUTS - 1 - i] = 255;
+        decodes_not(15, i < OUTPUTS - 1 - i ? i : OUTPUTS - 1 - i, "decoding: a mask and an external value", (unsigned)i);
+        of(&masks)[i] = 0;
+        decodes_not(15, OUTPUTS - 1 - i, "decoding: an external value", (unsigned)i);
+        of(&wire_externals)[OUTPUTS - 1 - i] = 1;
+    }
+    lay_circuit(1 << BAD_OUTPUT);
+    of(&masks)[0] = 255;
+    wire_externals.length--;
+    decodes_not(5, file_length / 4 - 2, "decoding a bad file", 0);
+    set_lengths();
 }
 
 /* ---- the meter: both forms garbled one after another */
@@ -446,7 +546,7 @@ static void rows_read(void)
 static void totals(void)
 {
     static const uint32_t words[] = {0x10000000, 0x20000005, 0x20010005, 0x50000001, 0xA0000002, 0xB0000000};
-    static uint8_t ones[256], its_rows[10 * 2 * K], in[2], out[1];
+    static uint8_t ones[256], its_rows[10 * 2 * K], in[2], out[2]; /* in a ring of two there are two sheets */
     uint32_t sums[ACCOUNTS] = {limit - 100, 0, 0, limit - 8, limit - 7, 0, limit, 0};
     put_words(words, sizeof words / sizeof words[0]);
     memset(ones, 1, sizeof ones);
@@ -456,7 +556,7 @@ static void totals(void)
         const uint32_t number = named >= ACCOUNTS ? 25 : limit - sums[named] < count ? 21 : 0;
         lupiknam_answer answer = pair
             ? lupiknam_pair_garble(file, file_length, K, 0, named, ones, 3 * K, its_rows, 8 * K, out, 1, &held.meter)
-            : lupiknam_garble(file, file_length, 2, K, 0, named, ones, 2 * (K + 4 * (K + 1)), its_rows, 10 * 2 * K, in, 2, out, 1,
+            : lupiknam_garble(file, file_length, 2, K, 0, named, ones, 2 * (K + 4 * (K + 1)), its_rows, 10 * 2 * K, in, 2, out, 2,
                 &held.meter);
         check(answers(answer, number, 0), "garblings of both forms", named);
         if (number == 0)
@@ -472,6 +572,8 @@ int main(void)
     first_components();
     rounds();
     rows_read();
+    names();
+    decoding();
     totals();
     return failed;
 }

@@ -1,7 +1,7 @@
 /*
  * What lupiknam_write and lupiknam_records answer, from C: the file of cases/price_sheet/every_kind.in as records, written and read back,
- * and each refusal that a record can meet, with its place. A refused call must leave every byte and number as it was. Prints what is not
- * so; the exit status is 0 where there is nothing to print.
+ * also with each choice of parties that its output can name, and each refusal that a record can meet, with its place. A refused call must
+ * leave every byte and number as it was. Prints what is not so; the exit status is 0 where there is nothing to print.
  */
 #include "lupiknam.h"
 #include <stdio.h>
@@ -16,12 +16,12 @@ static const lupiknam_record circuit[] = {
     {.kind = 5, .a = 3, .b = 1},               /* wire 4: wire 3 times wire 1                        */
     {.kind = 6, .modulus = 5, .a = 0},         /* wire 5: wire 0 by a table, output modulus 5        */
     {.kind = 8, .bit = 0, .a = 1, .b = 4},     /* wire 6: wire 1 where wire 0 is 0, wire 4 where 1   */
-    {.kind = 10, .a = 6},                      /* output: wire 6                                     */
+    {.kind = 10, .a = 6, .named = 2},          /* output: wire 6, for party 1 alone                  */
 };
 static const uint8_t tables[] = {4, 3};        /* of wire 5: the images of 0 and 1                   */
 
 static const uint32_t expected[] = {0x10000000, 0x20000002, 0x20010003, 0x30000401, 0x40000802, 0x50000C01, 0x60001400, 0x70000004,
-    0x70000003, 0x80000000, 0x90000404, 0xA0000006, 0xB0000000};
+    0x70000003, 0x80000000, 0x90000404, 0xA0000806, 0xB0000000};
 
 enum { COUNT = sizeof circuit / sizeof circuit[0], ENTRIES = sizeof tables, WORDS = sizeof expected / sizeof expected[0] };
 enum { LENGTH = 4 * WORDS, FILL = 0x55 };
@@ -87,6 +87,17 @@ static const struct trial trials[] = {
     {"an add with a modulus", 2, {.kind = 3, .a = 1, .b = 1, .modulus = 3}, 2, 2},
     {"a project with an owner", 5, {.kind = 6, .modulus = 5, .owner = 1}, 2, 5},
     {"an output with a bit", 7, {.kind = 10, .a = 6, .bit = 1}, 2, 7},
+    {"an input that names party 0", 0, {.kind = 2, .modulus = 2, .named = 1}, 2, 0},
+    {"an add that names party 7", 2, {.kind = 3, .a = 1, .b = 1, .named = 128}, 2, 2},
+    {"a scale that names all", 3, {.kind = 4, .constant = 2, .a = 2, .named = 255}, 2, 3},
+    {"a multiply that names party 1", 4, {.kind = 5, .a = 3, .b = 1, .named = 2}, 2, 4},
+    {"a project that names party 2, before modulus 4", 5, {.kind = 6, .modulus = 4, .named = 4}, 2, 5},
+    {"a select that names party 3", 6, {.kind = 8, .a = 1, .b = 4, .named = 8}, 2, 6},
+    {"kind 0 that names a party", 2, {.kind = 0, .named = 1}, 2, 2},
+    {"names in an input that is not due", 3, {.kind = 2, .modulus = 3, .named = 1}, 2, 3},
+    {"an output that names all, with a modulus", 7, {.kind = 10, .a = 6, .modulus = 2, .named = 255}, 2, 7},
+    {"an output that names party 0, of no wire", 7, {.kind = 10, .a = 7, .named = 1}, 5, 7},
+    {"an output that names all, whose wire's low ten bits are one", 7, {.kind = 10, .a = 1024 + 6, .named = 255}, 5, 7},
     {"a field too many in an input that is not due", 3, {.kind = 2, .modulus = 3, .b = 1}, 2, 3},
     {"an input after a gate", 3, {.kind = 2, .modulus = 3}, 3, 3},
     {"a gate after an output", 2, {.kind = 10, .a = 1}, 3, 3},
@@ -159,6 +170,16 @@ static void write_many(const char *what, size_t wires, size_t outputs, uint32_t 
 
 /* ---- reading back */
 
+/* Field by field: behind `named` a record has bytes that are no field. */
+static int same_records(const lupiknam_record *x, const lupiknam_record *y, size_t count)
+{
+    for (; count > 0; count--, x++, y++)
+        if (x->kind != y->kind || x->modulus != y->modulus || x->owner != y->owner || x->constant != y->constant || x->bit != y->bit
+            || x->a != y->a || x->b != y->b || x->named != y->named)
+            return 0;
+    return 1;
+}
+
 /* The records of a file: the answer must be this one, and where it is a refusal nothing is written. */
 static void reads(const char *what, size_t length, size_t count, size_t number, uint32_t refusal, size_t place)
 {
@@ -171,8 +192,51 @@ static void reads(const char *what, size_t length, size_t count, size_t number, 
     if (refusal)
         check(all_fill(records, sizeof records) && all_fill(entries, sizeof entries), what);
     else
-        check(memcmp(records, circuit, sizeof circuit) == 0 && memcmp(entries, tables, ENTRIES) == 0
+        check(same_records(records, circuit, COUNT) && memcmp(entries, tables, ENTRIES) == 0
             && all_fill(records + COUNT, sizeof records[0]) && all_fill(entries + ENTRIES, 1), what);
+}
+
+/* An output word in place of the file's own, which is the last but one. */
+static void put_output(uint32_t word)
+{
+    for (int byte = 0; byte < 4; byte++)
+        file[LENGTH - 8 + byte] = (uint8_t)(word >> 8 * byte);
+}
+
+/* Every choice of the eight parties goes into bits 17 to 10 of the output word, and comes back; the other words are as they were. */
+static void names(void)
+{
+    lupiknam_record records[COUNT], back[COUNT];
+    uint8_t entries[ENTRIES];
+    for (unsigned named = 0; named < 256; named++) {
+        const uint32_t word = 0xA0000006 | named << 10;
+        uint32_t words = FILL;
+        memcpy(records, circuit, sizeof records);
+        records[COUNT - 1].named = (uint8_t)named;
+        memset(file, FILL, sizeof file);
+        memset(back, FILL, sizeof back);
+        lupiknam_answer answer = lupiknam_write(records, COUNT, tables, ENTRIES, file, LENGTH, &words);
+        check(answer.number == 0 && words == WORDS, "an output that names parties is written");
+        for (size_t i = 0; i < LENGTH; i++)
+            check(file[i] == (uint8_t)((i / 4 == WORDS - 2 ? word : expected[i / 4]) >> 8 * (i % 4)), "names stand in bits 17 to 10");
+        answer = lupiknam_records(file, LENGTH, back, COUNT, entries, ENTRIES);
+        check(answer.number == 0 && same_records(back, records, COUNT), "names come back");
+    }
+}
+
+/* Bits 27 to 18 of an output word are still zero, whatever it names. */
+static void bits_above_names(void)
+{
+    uint32_t c[6];
+    writes("the circuit", circuit, COUNT, tables, ENTRIES, LENGTH, 0, 0);
+    for (int bit = 18; bit < 28; bit++) {
+        put_output(expected[WORDS - 2] | 1u << bit);
+        reads("a bit above the names", LENGTH, COUNT, ENTRIES, 2, WORDS - 2);
+        put_output(expected[WORDS - 2] | 255 << 10 | 1u << bit);
+        reads("a bit above all names", LENGTH, COUNT, ENTRIES, 2, WORDS - 2);
+        lupiknam_answer answer = lupiknam_read(file, LENGTH, c, c + 1, c + 2, c + 3, c + 4, c + 5);
+        check(answer.number == 2 && answer.place == WORDS - 2, "reading a bit above the names");
+    }
 }
 
 static void read_back(void)
@@ -196,5 +260,7 @@ int main(void)
     write_many("1,025 wires", 1025, 1, 8, 1024);
     write_many("257 outputs", 1, 257, 8, 257);
     read_back();
+    names();
+    bits_above_names();
     return failed;
 }

@@ -8,5 +8,5 @@ int main(void)
     uint32_t number = 0;
     for (; strcmp(lupiknam_refusal(number), "unknown refusal") != 0; number++)
         printf("%u %s\n", (unsigned)number, lupiknam_refusal(number));
-    return number == 28 && strcmp(lupiknam_refusal(UINT32_MAX), "unknown refusal") == 0 ? 0 : 1;
+    return number == 29 && strcmp(lupiknam_refusal(UINT32_MAX), "unknown refusal") == 0 ? 0 : 1;
 }

@@ -28,17 +28,18 @@ static const uint32_t circuit[] = {
     0x70000001, 0x70000002, 0x70000003, 0x70000004, 0x70000005,
     0x80000002, /* wire 8: by the bit on wire 2, one of the two wires that follow   */
     0x90001403, /*         wire 5 where it is 0, wire 3 where it is 1               */
-    0xA0000007, /* output: wire 7                                                   */
-    0xA0000008, /* output: wire 8                                                   */
+    0xA0000007, /* output: wire 7, for every party                                  */
+    0xA0000808, /* output: wire 8, for party 1 alone (bit 11)                       */
+    0xA0001405, /* output: wire 5, for parties 0 and 2 (bits 10 and 12)             */
     0xB0000000, /* end                                                              */
 };
 
-enum { WORDS = sizeof circuit / sizeof circuit[0], INPUTS = 3, OUTPUTS = 2, ROWS = 32, ROUNDS = 3, ACCOUNTS = 8 };
+enum { WORDS = sizeof circuit / sizeof circuit[0], INPUTS = 3, OUTPUTS = 3, ROWS = 32, ROUNDS = 3, ACCOUNTS = 8, NOT_READ = 255 };
 
 /* Values of the inputs, and the outputs, worked out by hand: for 3, 4 and 1 wire 3 is 2, wire 4 is 1, wire 5 is 4, wire 6 is 1, wire 7 is 2,
    and wire 8 is wire 3. The rows are 10 of the product, 5 of the square, 5 of the table and 2 * 5 + 2 of the choice. */
 static const uint8_t values[ROUNDS][INPUTS] = {{3, 4, 1}, {3, 4, 0}, {4, 3, 1}};
-static const uint8_t figures[ROUNDS][OUTPUTS] = {{2, 2}, {2, 4}, {5, 2}};
+static const uint8_t figures[ROUNDS][OUTPUTS] = {{2, 2, 4}, {2, 4, 4}, {5, 2, 3}};
 
 /* The account that each garbling is charged to. Whose it is, and which ring garbles for it, stands in the host's books. */
 static const uint32_t accounts[ROUNDS] = {2, 5, 2};
@@ -79,6 +80,42 @@ static uint8_t *room(size_t bytes)
         exit(1);
     }
     return at;
+}
+
+/* ---- who reads what: by the names in the output words, which stand before the end word */
+
+static int may_read(uint32_t party, uint32_t output)
+{
+    const uint32_t named = circuit[WORDS - 1 - OUTPUTS + output] >> 10 & 255;
+    return named == 0 || named >> party & 1;
+}
+
+/* A party's sheet has a mask for each output that the party may read, and for no other. */
+static void own_alone(const uint8_t *sheet, uint32_t party)
+{
+    for (uint32_t output = 0; output < OUTPUTS; output++)
+        if ((sheet[output] != NOT_READ) != may_read(party, output)) {
+            fprintf(stderr, "garbling: the sheet of party %u is not its own\n", (unsigned)party);
+            exit(1);
+        }
+}
+
+/* The figures that are due to a party, with 255 for those that it may not read. */
+static void due_to(uint32_t party, const uint8_t *all, uint8_t *due)
+{
+    for (uint32_t output = 0; output < OUTPUTS; output++)
+        due[output] = may_read(party, output) ? all[output] : NOT_READ;
+}
+
+/* A line of figures, with - for what is not to be read. */
+static void print_figures(const uint8_t *decoded)
+{
+    for (uint32_t output = 0; output < OUTPUTS; output++)
+        if (decoded[output] == NOT_READ)
+            printf(" -");
+        else
+            printf(" %d", decoded[output]);
+    printf("\n");
 }
 
 /* ---- drawing contributions */
@@ -182,10 +219,12 @@ static void play(const uint8_t *file, size_t length, uint32_t n, uint32_t k, int
     list_wires(file, length / 4, wire);
 
     const size_t key = k, row = (size_t)n * k, size = key * moduli + (key + 1) * record_keys;
-    uint8_t *contributions = room(n * size), *row_bytes = room(rows * row), *input_masks = room(inputs), *output_masks = room(outputs);
+    const size_t sheet_length = outputs, sheets_length = n * sheet_length;
+    uint8_t *contributions = room(n * size), *row_bytes = room(rows * row), *input_masks = room(inputs), *sheets = room(sheets_length);
     uint8_t *externals = room(inputs), *own_values = room(inputs), *own_masks = room(inputs), *own_externals = room(inputs);
     uint8_t *keys = room(inputs * row), *own_keys = room(inputs * key);
-    uint8_t *wire_keys = room(wires * row), *wire_externals = room(wires), *decoded = room(outputs), *plain = room(outputs);
+    uint8_t *wire_keys = room(wires * row), *wire_externals = room(wires), *sheet = room(sheet_length);
+    uint8_t *decoded = room(outputs), *due = room(outputs), *plain = room(outputs);
 
     /* Each party draws its contribution, afresh for each round. Handed on: all of them to whoever garbles. */
     for (uint32_t party = 0; party < n; party++)
@@ -194,12 +233,13 @@ static void play(const uint8_t *file, size_t length, uint32_t n, uint32_t k, int
             exit(1);
         }
 
-    /* Garbling, in a round that the ring agreed on and has not used for this circuit, for the account that pays for it. Handed on: rows
-       and output masks to every party, each input's mask to its owner alone; but first a unit saves its meter. */
+    /* Garbling, in a round that the ring agreed on and has not used for this circuit, for the account that pays for it. Handed on: rows to
+       every party, each input's mask to its owner alone, and to each party its own sheet of output masks, never another's: whoever has
+       opened can read an output once it has the mask. But first a unit saves its meter. */
     const lupiknam_meter before = *meter;
     const uint32_t round = (uint32_t)number, account = accounts[number];
-    must(lupiknam_garble(file, length, n, k, round, account, contributions, n * size, row_bytes, rows * row, input_masks, inputs,
-             output_masks, outputs, meter), "garbling");
+    must(lupiknam_garble(file, length, n, k, round, account, contributions, n * size, row_bytes, rows * row, input_masks, inputs, sheets,
+             sheets_length, meter), "garbling");
     charged(&before, meter, account);
 
     /* At each party, the external values of its own inputs. Handed on: to every party, which puts them in the order of the wires. */
@@ -226,22 +266,28 @@ static void play(const uint8_t *file, size_t length, uint32_t n, uint32_t k, int
             memcpy(keys + w * row + party * key, own_keys + w * key, key);
     }
 
-    /* At each party, opening and decoding: nothing more is handed on. */
+    /* At each party, opening and decoding: nothing more is handed on. `sheet` is all that this party has of the output masks; with it
+       decoding gives the outputs that the party may read, and 255 for the others. */
     for (uint32_t party = 0; party < n; party++) {
         must(lupiknam_open(file, length, n, k, party, round, contributions + party * size, size, externals, inputs, keys, inputs * row,
                  row_bytes, rows * row, wire_keys, wires * row, wire_externals, wires), "opening");
-        must(lupiknam_decode(file, length, wire_externals, wires, output_masks, outputs, decoded, outputs), "decoding");
-        same(decoded, figures[number], outputs, "decoding");
-        printf("round %d: party %u decodes %d %d\n", number, (unsigned)party, decoded[0], decoded[1]);
+        memcpy(sheet, sheets + party * sheet_length, sheet_length);
+        own_alone(sheet, party);
+        must(lupiknam_decode(file, length, n, party, wire_externals, wires, sheet, sheet_length, decoded, outputs), "decoding");
+        due_to(party, figures[number], due);
+        same(decoded, due, outputs, "decoding");
+        printf("round %d: party %u decodes", number, (unsigned)party);
+        print_figures(decoded);
     }
 
-    /* The plain circuit, which a ring cannot evaluate, since nobody has all values. */
+    /* The plain circuit, which a ring cannot evaluate, since nobody has all values. It names nobody: here are all figures. */
     must(lupiknam_plain(file, length, values[number], inputs, plain, outputs), "plain evaluation");
     same(plain, figures[number], outputs, "plain evaluation");
-    printf("round %d: the plain circuit gives %d %d\n", number, plain[0], plain[1]);
+    printf("round %d: the plain circuit gives", number);
+    print_figures(plain);
 
-    uint8_t *all[] = {(uint8_t *)wire, contributions, row_bytes, input_masks, output_masks, externals, own_values, own_masks, own_externals,
-        keys, own_keys, wire_keys, wire_externals, decoded, plain};
+    uint8_t *all[] = {(uint8_t *)wire, contributions, row_bytes, input_masks, sheets, externals, own_values, own_masks, own_externals,
+        keys, own_keys, wire_keys, wire_externals, sheet, decoded, due, plain};
     for (size_t i = 0; i < sizeof all / sizeof all[0]; i++)
         free(all[i]);
 }

@@ -38,7 +38,7 @@ static size_t depth(void (*run)(void))
     return SIZE - untouched;
 }
 
-enum { CALLS = 20 };
+enum { CALLS = 21 };
 
 static struct {
     const char *name;
@@ -91,7 +91,8 @@ WRAPPED(lupiknam_open,
         (in f, size_t fl, uint32_t n, uint32_t k, uint32_t p, uint32_t d, in c, size_t cl, in e, size_t el, in q, size_t ql, in r,
          size_t rl, out w, size_t wl, out x, size_t xl),
         (f, fl, n, k, p, d, c, cl, e, el, q, ql, r, rl, w, wl, x, xl))
-WRAPPED(lupiknam_decode, (in f, size_t fl, in e, size_t el, in m, size_t ml, out o, size_t ol), (f, fl, e, el, m, ml, o, ol))
+WRAPPED(lupiknam_decode, (in f, size_t fl, uint32_t n, uint32_t p, in e, size_t el, in m, size_t ml, out o, size_t ol),
+        (f, fl, n, p, e, el, m, ml, o, ol))
 
 WRAPPED(lupiknam_bundle_split, (uint32_t r, uint64_t x, out o, size_t ol), (r, x, o, ol))
 WRAPPED(lupiknam_bundle_join, (uint32_t r, in i, size_t il, uint64_t *x), (r, i, il, x))
@@ -108,6 +109,8 @@ WRAPPED(lupiknam_pair_input_keys, (in f, size_t fl, uint32_t k, in w, size_t wl,
 WRAPPED(lupiknam_pair_open,
         (in f, size_t fl, uint32_t k, uint32_t d, in q, size_t ql, in r, size_t rl, out w, size_t wl, out x, size_t xl),
         (f, fl, k, d, q, ql, r, rl, w, wl, x, xl))
+
+WRAPPED(lupiknam_pair_decode, (in f, size_t fl, in e, size_t el, in m, size_t ml, out o, size_t ol), (f, fl, e, el, m, ml, o, ol))
 
 /* The one call that returns nothing. */
 void __real_lupiknam_meter_carry(uint32_t total, lupiknam_meter *meter);

@@ -1,8 +1,8 @@
 /*
- * Writes a circuit file by the engine, for the programmer of an editor to copy: the licence split of samples/README.md, listed as records,
- * written, read back and compared.
+ * Writes a circuit file by the engine, for the programmer of an editor to copy: the licence split of samples/README.md, or the treasurer's
+ * split, whose outputs name who may read them, listed as records, written, read back and compared.
  *
- *   write [FILE]
+ *   write [FILE [treasurer]]
  *
  * The bytes go to FILE, or to standard output; what was done is said on standard error. The exit status is 0 where every call accepts and
  * what is read back is the same; else 1, and standard error says what was refused, in words, and at which record.
@@ -112,14 +112,22 @@ static uint32_t add_select(struct list *list, uint32_t bit, uint32_t if_0, uint3
     return add_wire(list, (lupiknam_record){.kind = SELECT, .bit = bit, .a = if_0, .b = if_1});
 }
 
-static void add_output(struct list *list, uint32_t wire)
+/* Who may read an output: bit s for party s, and no bit for every party. */
+enum { EVERYBODY = 0 };
+
+static uint8_t alone(int party)
 {
-    add_record(list, (lupiknam_record){.kind = OUTPUT, .a = wire});
+    return (uint8_t)(1 << party);
 }
 
-/* ---- the licence split: samples/README.md says what the figures mean */
+static void add_output(struct list *list, uint32_t wire, uint8_t named)
+{
+    add_record(list, (lupiknam_record){.kind = OUTPUT, .a = wire, .named = named});
+}
 
-enum { PUBLISHERS = 5, USES = 47, SHARES = 53, WIDE = 251, BUSY = 120, QUIET_RATE = 5, BULK_RATE = 4 };
+/* ---- the licence split and the treasurer's: samples/README.md says what the figures mean */
+
+enum { PUBLISHERS = 5, TREASURER = 5, USES = 47, SHARES = 53, WIDE = 251, BUSY = 120, QUIET_RATE = 5, BULK_RATE = 4 };
 
 /* The sum of all publishers' wires. */
 static uint32_t add_total(struct list *list, const uint32_t *wires)
@@ -173,7 +181,9 @@ static uint32_t add_pool(struct list *list, uint32_t busy, const uint32_t *units
     return add_product(list, wide_units, rate);
 }
 
-static void list_licence_split(struct list *list)
+/* In the licence split everybody reads all figures. In the treasurer's each publisher reads its own share alone, the treasurer alone the
+   pool, and everybody whether the month was busy. */
+static void list_split(struct list *list, int treasurers)
 {
     uint8_t same[WIDE];
     uint32_t uses[PUBLISHERS], units[PUBLISHERS], shares[PUBLISHERS], busy, pool;
@@ -186,8 +196,10 @@ static void list_licence_split(struct list *list)
     add_shares(list, busy, units, shares);
     pool = add_pool(list, busy, units, same);
     for (int p = 0; p < PUBLISHERS; p++)
-        add_output(list, shares[p]);
-    add_output(list, pool);
+        add_output(list, shares[p], treasurers ? alone(p) : EVERYBODY);
+    add_output(list, pool, treasurers ? alone(TREASURER) : EVERYBODY);
+    if (treasurers)
+        add_output(list, busy, EVERYBODY);
 }
 
 /* ---- writing, and reading back */
@@ -219,11 +231,19 @@ static struct list loaded(const uint8_t *file, size_t length)
     return list;
 }
 
+/* Field by field: behind `named` a record has bytes that are no field, and what stands there nobody says. */
+static int same_record(const lupiknam_record *x, const lupiknam_record *y)
+{
+    return x->kind == y->kind && x->modulus == y->modulus && x->owner == y->owner && x->constant == y->constant && x->bit == y->bit
+        && x->a == y->a && x->b == y->b && x->named == y->named;
+}
+
 static void must_be_same(const struct list *found, const struct list *expected)
 {
-    if (found->wires != expected->wires || found->count != expected->count || found->entries != expected->entries
-        || memcmp(found->records, expected->records, found->count * sizeof *found->records) != 0
-        || (found->entries != 0 && memcmp(found->tables, expected->tables, found->entries) != 0))
+    int same = found->wires == expected->wires && found->count == expected->count && found->entries == expected->entries;
+    for (size_t i = 0; same && i < found->count; i++)
+        same = same_record(&found->records[i], &expected->records[i]);
+    if (!same || (found->entries != 0 && memcmp(found->tables, expected->tables, found->entries) != 0))
         give_up("the list read back differs");
     fprintf(stderr, "read back: the same records and tables\n");
 }
@@ -245,17 +265,18 @@ static void drop(struct list *list)
 
 int main(int count, char **given)
 {
-    if (count > 2) {
-        fprintf(stderr, "usage: write [FILE]\n");
+    const int treasurers = count == 3 && strcmp(given[2], "treasurer") == 0;
+    if (count > 3 || (count == 3 && !treasurers)) {
+        fprintf(stderr, "usage: write [FILE [treasurer]]\n");
         return 2;
     }
     struct list list = {0};
-    list_licence_split(&list);
+    list_split(&list, treasurers);
     size_t length;
     uint8_t *file = written(&list, &length);
     struct list back = loaded(file, length);
     must_be_same(&back, &list);
-    save(given[1], file, length);
+    save(count > 1 ? given[1] : NULL, file, length);
     drop(&back);
     drop(&list);
     free(file);

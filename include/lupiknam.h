@@ -10,9 +10,9 @@
  * A circuit file is words of 32 bits, lent as bytes, four a word, little-endian.
  *
  * Every call but lupiknam_write, those of bundles and lupiknam_meter_carry reads the circuit first, then makes its checks in the order of
- * their numbers, but for 25, which stands directly after 14, for 26, directly after 10, and for 27, in the place of 17, and answers with
- * the first that fails. Where a call is refused, each number and each byte lent to it is as it was before; only a refusal by 20 leaves both
- * written buffers all zero.
+ * their numbers, but for 25, which stands directly after 14, for 26, directly after 10, for 27, in the place of 17, and for 28, directly
+ * after 13, and answers with the first that fails. Where a call is refused, each number and each byte lent to it is as it was before; only
+ * a refusal by 20 leaves both written buffers all zero.
  *
  * n is the number of parties, 2 to 8; party is one of them, from 0; k is the key length K, 1 to 128. A key on a wire of modulus p is k
  * bytes below p. All parties' keys of a wire lie one after another, parties ascending. The calls of the two-party form, lupiknam_pair_...,
@@ -22,6 +22,10 @@
  * round is the number of a garbling of the circuit, any of the 2^32: it goes into the input of every pad, so that a ring may garble a
  * circuit again, for a second figure, and the two garblings share no pad input. A round's number serves one garbling of a circuit, of either
  * form. Rows open with the round that they were garbled with.
+ *
+ * An output word names the parties that may read the output, in its bits 17 to 10: bit 10 + s names party s. All of them zero means every
+ * party that takes part, and so every party may read an output that names nobody. Only in a ring do names count: the two-party form passes
+ * over them, and lupiknam_plain gives every output.
  *
  * account is the paying account that a garbling, of either form, is charged to, 0 to 7. It changes no row and no mask; opening does not
  * take it.
@@ -39,8 +43,8 @@
  *
  * A round is lupiknam_garble once, from all contributions; then at each party lupiknam_externals for its own inputs, lupiknam_input_keys,
  * lupiknam_open and lupiknam_decode. The caller hands the same circuit, n, k, round and contributions to every call that takes them,
- * takes another round and draws each contribution afresh for each garbling of a circuit, and brings the parties' external values and keys
- * together.
+ * takes another round and draws each contribution afresh for each garbling of a circuit, brings the parties' external values and keys
+ * together, and hands to each party its own sheet of output masks and no other.
  *
  * The caller's duties, which no call can check:
  *
@@ -53,11 +57,12 @@
  *   threads    calls may run at the same time in any threads, as long as nothing that one of them writes is lent to another that runs
  *              then. Nobody else changes lent memory during a call. One meter serves one garbling at a time, whichever account
  *              each names
- *   stack      work memory is on the caller's stack: about 1.2 MiB in lupiknam_garble, 300 KiB or less in the others. A thread with 2 MiB
- *              of stack can make every call
+ *   stack      work memory is on the caller's stack: about 1.2 MiB in lupiknam_garble, about 300 KiB or less in the others. A thread with
+ *              2 MiB of stack can make every call
  *   secrets    a contribution is its party's secret, a draw the garbler's, an input's value its owner's. In a ring an input's mask is its
- *              owner's too; in the two-party form all masks are the garbler's, as part of the draw. Clearing memory after use is the
- *              caller's business, the stack included
+ *              owner's too, and a sheet of output masks is for its party alone: opening gives every party the external values of all
+ *              outputs, so that a party that sees another's sheet reads what that one may read. In the two-party form all masks are the
+ *              garbler's, as part of the draw. Clearing memory after use is the caller's business, the stack included
  */
 #ifndef LUPIKNAM_H
 #define LUPIKNAM_H
@@ -66,7 +71,7 @@
 #include <stdint.h>
 
 /* The number of the last change order that changed a declaration in this header. */
-#define LUPIKNAM_VERSION 8
+#define LUPIKNAM_VERSION 9
 
 #ifdef __cplusplus
 extern "C" {
@@ -106,8 +111,10 @@ extern "C" {
  *   25      account above 7                                                   0
  *   26      the circuit has a selector                                        word, that of the first select
  *   27      an offset with component 0 other than 1                           its modulus, the lowest such
+ *   28      an output names a party not below the number of parties           output, the lowest such
  *
- * Words are counted from 0, four bytes each; so are records, wires, parties and the bytes of a buffer.
+ * Words are counted from 0, four bytes each; so are records, wires, outputs, parties and the bytes of a buffer. An output is counted among
+ * the outputs, in the order of the file: it is neither its word nor its wire.
  *
  * lupiknam_write is lent records, not words. There the place of 2 to 8, and of 14 where the entries of a table run out, is the record's
  * index; the place of 9, and of 14 where entries are left over, is the number of records.
@@ -153,7 +160,8 @@ static inline const char *lupiknam_refusal(uint32_t number)
         "integer or constant not below the product, or residue not below its prime",
         "account above 7",
         "the circuit has a selector",
-        "an offset with component 0 other than 1"
+        "an offset with component 0 other than 1",
+        "an output names a party not below the number of parties"
     };
     return number < sizeof words / sizeof words[0] ? words[number] : "unknown refusal";
 }
@@ -190,13 +198,18 @@ lupiknam_answer lupiknam_read(
  *   bit        select: the bit wire
  *   a          scale, project, output: the wire; add, multiply: the first wire; select: the wire that is taken where the bit is 0
  *   b          add, multiply: the second wire; select: the wire that is taken where the bit is 1
+ *   named      output: the parties that may read it, bit s for party s; 0 for every party that takes part
  *
  * Each input and each gate makes a wire; wires are numbered from 0 in the order of the records. The tables of projects stand in a slice of
  * their own: a byte for each entry, all tables one after another in the order of the records. A project of a wire of modulus p has p
  * entries, the images of 0, 1, ... p - 1.
+ *
+ * A record has 32 bytes, of which the last three, behind `named`, are no field: no call reads them, and what lupiknam_records leaves there
+ * is not said. Records are compared field by field, not by memcmp.
  */
 typedef struct lupiknam_record {
     uint32_t kind, modulus, owner, constant, bit, a, b;
+    uint8_t named;
 } lupiknam_record;
 
 /*
@@ -213,7 +226,8 @@ typedef struct lupiknam_record {
  * over; 22 where file_length is below 4 * words. Where the call is refused neither file nor words is written.
  *
  * A kind that no record has, or a field that is not 0 and that the kind does not use, meets 2, before the record's other checks. A field
- * too wide for its bits is judged by its value: modulus 257 meets 4, wire 1,024 meets 5, owner 256 meets 7.
+ * too wide for its bits is judged by its value: modulus 257 meets 4, wire 1,024 meets 5, owner 256 meets 7. An output may name any of the
+ * eight parties: how many take part, only the calls of a round know.
  *
  * A file that this call writes, the reader accepts, and lupiknam_records gives the same records and tables back.
  */
@@ -329,7 +343,7 @@ lupiknam_answer lupiknam_bundle_scale(
  *   party               the party, from 0
  *   count               written: number of inputs whose owner is the party; it may be 0
  *
- * Refusals: 1 to 10; 11 for n; 12; 13.
+ * Refusals: 1 to 10; 11 for n; 12; 13; 28.
  */
 lupiknam_answer lupiknam_inputs_of(
     const uint8_t *file, size_t file_length,
@@ -390,17 +404,22 @@ void lupiknam_meter_carry(
  *   rows, rows_length                     written: rows * n * k bytes, by the count of rows that lupiknam_read writes; by gate, component
  *                                         and row, then a key's length for each receiving party
  *   input_masks, input_masks_length       written: a byte for each input, in the order of the wires
- *   output_masks, output_masks_length     written: a byte for each output, in the order of the file
+ *   output_masks, output_masks_length     written: n * outputs bytes: a sheet for each party, parties ascending. A sheet has a byte for each
+ *                                         output, in the order of the file: its mask, or 255, which is no mask, where this party may not
+ *                                         read it
  *   meter                                 read and written: the circuit's rows are added to the total of the named account; the seven
  *                                         others are as they were
  *
- * Refusals, in this order: 1 to 10; 11; 13; 14 where a length is not as above; 25; 16, whose place counts through all contributions; 17,
- * whose place is the lowest modulus over all parties; 21 where the named account's total and the circuit's rows together pass its limit,
+ * Refusals, in this order: 1 to 10; 11; 13; 28; 14 where a length is not as above; 25; 16, whose place counts through all contributions;
+ * 17, whose place is the lowest modulus over all parties; 21 where the named account's total and the circuit's rows together pass its limit,
  * whatever the others hold. Where the call is refused all eight totals are as they were.
  *
  * Which account a garbling is for, the caller knows: this call only sees that there is such a one. Each contribution serves one garbling,
- * and so does a round's number for one circuit, whichever form. An input's mask is for its owner alone; whoever garbles sees all
- * contributions.
+ * and so does a round's number for one circuit, whichever form. An input's mask is for its owner alone, and a sheet for its party alone:
+ * the sheet of party s starts at s * outputs. Whoever garbles sees all contributions and all sheets, and can read every output.
+ *
+ * A sheet depends on nothing but the masks that its party may read: two accepted garblings of one circuit, in which every output that the
+ * party may read has equal masks, give it the same sheet.
  */
 lupiknam_answer lupiknam_garble(
     const uint8_t *file, size_t file_length,
@@ -420,8 +439,8 @@ lupiknam_answer lupiknam_garble(
  *   masks, masks_length           the masks that garbling wrote for these inputs, in the same order
  *   externals, externals_length   written: a byte for each of these inputs
  *
- * Refusals: 1 to 10; 11 for n; 12; 13; 14 where a length is not the number that lupiknam_inputs_of gives; 15 over values and masks, the
- * lowest index over both: an index among the party's own inputs, not a wire.
+ * Refusals: 1 to 10; 11 for n; 12; 13; 28; 14 where a length is not the number that lupiknam_inputs_of gives; 15 over values and masks,
+ * the lowest index over both: an index among the party's own inputs, not a wire.
  *
  * A party that owns no input lends three buffers of length 0.
  */
@@ -441,7 +460,7 @@ lupiknam_answer lupiknam_externals(
  *   externals, externals_length         a byte for each input: the external values of all inputs, in the order of the wires
  *   keys, keys_length                   written: inputs * k bytes, a key for each input, in the order of the wires
  *
- * Refusals: 1 to 10; 11; 12; 13; 14 where a length is not as above; 15 over externals; 16, whose place counts from the contribution's
+ * Refusals: 1 to 10; 11; 12; 13; 28; 14 where a length is not as above; 15 over externals; 16, whose place counts from the contribution's
  * start; 17.
  *
  * The caller asks for the keys of one list of external values alone: keys of two external values on a wire give away the offset.
@@ -466,7 +485,7 @@ lupiknam_answer lupiknam_input_keys(
  *   wire_keys, wire_keys_length             written: wires * n * k bytes, the keys by wire, then by party
  *   wire_externals, wire_externals_length   written: a byte for each wire
  *
- * Refusals: 1 to 10; 11; 12; 13; 14 where a length is not as above; 15 over externals; 16, whose place counts from the contribution's
+ * Refusals: 1 to 10; 11; 12; 13; 28; 14 where a length is not as above; 15 over externals; 16, whose place counts from the contribution's
  * start; 17; 18 over keys, then rows; 19 over the keys of the party that opens, on all inputs; 20. After 20 wire_keys and wire_externals
  * are all zero.
  *
@@ -485,17 +504,21 @@ lupiknam_answer lupiknam_open(
     uint8_t *wire_externals, size_t wire_externals_length);
 
 /*
- * Decodes the outputs, (external value - mask) modulo the wire's modulus.
+ * Decodes the outputs that a party may read, (external value - mask) modulo the wire's modulus.
  *
  *   file, file_length             the circuit file
- *   externals, externals_length   a byte for each wire: the external values of all wires, as lupiknam_open or lupiknam_pair_open wrote them
- *   masks, masks_length           a byte for each output: the output masks that garbling wrote
- *   outputs, outputs_length       written: a byte for each output, in the order of the file
+ *   n, party                      number of parties, the party
+ *   externals, externals_length   a byte for each wire: the external values of all wires, as lupiknam_open wrote them
+ *   masks, masks_length           a byte for each output: the party's own sheet of the output masks that garbling wrote
+ *   outputs, outputs_length       written: a byte for each output, in the order of the file; 255, which is no figure, where the party may
+ *                                 not read it
  *
- * Refusals: 1 to 10; 14 where a length is not as above; 15 over external values and masks, the lowest index over both.
+ * Refusals: 1 to 10; 11 for n; 12; 13; 28; 14 where a length is not as above; 15 over external values and masks, the lowest index over both.
+ * The mask of an output that the party may not read is passed over, whatever byte it is; external values are those of all wires.
  */
 lupiknam_answer lupiknam_decode(
     const uint8_t *file, size_t file_length,
+    uint32_t n, uint32_t party,
     const uint8_t *externals, size_t externals_length,
     const uint8_t *masks, size_t masks_length,
     uint8_t *outputs, size_t outputs_length);
@@ -519,9 +542,12 @@ lupiknam_answer lupiknam_decode(
  * below their modulus. It has k * (moduli + inputs) bytes, by the counts that lupiknam_read writes. A gate has nothing drawn.
  *
  * A round is, at the garbler, lupiknam_pair_garble and lupiknam_pair_input_keys from one draw, and at the opener lupiknam_pair_open, which
- * gets the rows and one key for each input; then lupiknam_decode where the output masks are. The caller hands the same circuit, k and round
- * to every call that takes them, and draws afresh and takes another round for each garbling of a circuit, of either form. Rows and keys of
- * the two forms are not mixed: neither form opens the other's.
+ * gets the rows and one key for each input; then lupiknam_pair_decode where the output masks are. The caller hands the same circuit, k and
+ * round to every call that takes them, and draws afresh and takes another round for each garbling of a circuit, of either form. Rows and
+ * keys of the two forms are not mixed: neither form opens the other's.
+ *
+ * The parties that outputs name are passed over here: there is one mask for each output, none is 255, and no call gives 28. Who reads is a
+ * matter of who gets the masks.
  *
  * The garbler knows all masks, so that an external value, or a key, tells it the value of that wire. Where it is to decode, the opener hands
  * it the external values of the outputs alone, which the two have agreed on, with 0 for all other wires: never those of other wires, and
@@ -534,7 +560,7 @@ lupiknam_answer lupiknam_decode(
  *
  * Refusals: 1 to 10; 26, whose place is the word, of kind 8, of the first select. Where the file is refused the number is not written.
  *
- * The other counts are those of lupiknam_read. No owner is looked at here; 13 is for the three calls below.
+ * The other counts are those of lupiknam_read. No owner is looked at here; 13 is for garbling, input keys and opening.
  */
 lupiknam_answer lupiknam_pair_read(
     const uint8_t *file, size_t file_length,
@@ -598,13 +624,13 @@ lupiknam_answer lupiknam_pair_input_keys(
  *   keys, keys_length                       inputs * k bytes: a key for each input, in the order of the wires
  *   rows, rows_length                       rows * k bytes, by the count that lupiknam_pair_read writes: the rows that garbling wrote
  *   wire_keys, wire_keys_length             written: wires * k bytes, a key for each wire
- *   wire_externals, wire_externals_length   written: a byte for each wire, byte 0 of its key; lupiknam_decode takes them
+ *   wire_externals, wire_externals_length   written: a byte for each wire, byte 0 of its key; lupiknam_pair_decode takes them
  *
  * Refusals, in this order: 1 to 10; 26; 11 for k; 13 where an owner is above 1; 14 where a length is not as above; 18 over keys, then rows.
  *
  * Nothing more can be refused, since the opener has no key to compare with: keys, rows or a round's number that are not those of one round
- * open as well, mostly to other keys and external values; lupiknam_decode then accepts them and gives wrong figures: the host must guard the
- * bytes itself. Only with garbling's bytes and number are keys and external values sure.
+ * open as well, mostly to other keys and external values; lupiknam_pair_decode then accepts them and gives wrong figures: the host must
+ * guard the bytes itself. Only with garbling's bytes and number are keys and external values sure.
  *
  * Of what this call writes, the garbler gets the external values of the outputs, if it is to decode, and nothing else (above).
  */
@@ -615,6 +641,23 @@ lupiknam_answer lupiknam_pair_open(
     const uint8_t *rows, size_t rows_length,
     uint8_t *wire_keys, size_t wire_keys_length,
     uint8_t *wire_externals, size_t wire_externals_length);
+
+/*
+ * Decodes the outputs of the two-party form, (external value - mask) modulo the wire's modulus, where the output masks are.
+ *
+ *   file, file_length             the circuit file
+ *   externals, externals_length   a byte for each wire: the external values of all wires, as lupiknam_pair_open wrote them
+ *   masks, masks_length           a byte for each output: the output masks that garbling wrote
+ *   outputs, outputs_length       written: a byte for each output, in the order of the file
+ *
+ * Refusals: 1 to 10; 14 where a length is not as above; 15 over external values and masks, the lowest index over both. Neither 13 nor 26 is
+ * for this call: it looks at no owner and takes a circuit with selectors too.
+ */
+lupiknam_answer lupiknam_pair_decode(
+    const uint8_t *file, size_t file_length,
+    const uint8_t *externals, size_t externals_length,
+    const uint8_t *masks, size_t masks_length,
+    uint8_t *outputs, size_t outputs_length);
 
 #ifdef __cplusplus
 }

@@ -10,20 +10,22 @@ A line of the source names a wire and says how it is made, in this order: inputs
     scale NAME A by C
     project NAME from A modulus M table ENTRIES
     select NAME bit W A B              A where W is 0, B where it is 1
-    output NAME
+    output NAME                        every party reads it
+    output NAME for P ...              the parties P ... alone read it
     bundle R LINE                      LINE for each of the first R primes, ascending, with the prime for every % in it
 
 ENTRIES are the images of 0, 1, ... in turn; V*N stands for N times V, and `same` for every number's own. `#` begins a comment.
 
 What a circuit may be is the engine's reader's to judge: here only a name that is not known, a name taken twice, a table of another length
-than its wire's modulus, a bundle of fewer than 2 or more than 10 primes and a number too wide for its bits are errors. --wires prints the
-wires' numbers and names.
+than its wire's modulus, a bundle of fewer than 2 or more than 10 primes, an output for a party above 7 or twice for the same one and a number
+too wide for its bits are errors. --wires prints the wires' numbers and names.
 """
 import struct
 import sys
 
 HEAD, INPUT, ADD, SCALE, MULTIPLY, PROJECT, ENTRY, SELECT, BRANCHES, OUTPUT, END = range(1, 12)
 PRIMES = [2, 3, 5, 7, 11, 13, 17, 19, 23, 29]
+PARTIES = 8
 
 
 def bits(number, width):
@@ -79,8 +81,8 @@ class Circuit:
     def select(self, name, bit, a, b):
         self.make(name, self.modulus(b), [word(SELECT, bits(self.wire(bit), 10)), word(BRANCHES, self.pair(a, b))])
 
-    def output(self, name):
-        self.words.append(word(OUTPUT, bits(self.wire(name), 10)))
+    def output(self, name, readers):
+        self.words.append(word(OUTPUT, named(readers) << 10 | bits(self.wire(name), 10)))
 
     def file(self):
         words = self.words + [word(END)]
@@ -95,6 +97,16 @@ def table(entries, modulus):
         image, _, times = entry.partition("*")
         images += [int(image)] * int(times or 1)
     return images
+
+
+def named(readers):
+    """A bit for each party that reads an output; none where nobody is named, which is everybody."""
+    mask = 0
+    for reader in map(int, readers):
+        if not 0 <= reader < PARTIES or mask >> reader & 1:
+            raise ValueError(f"party {reader} is none of 0 to {PARTIES - 1}, or is named twice")
+        mask |= 1 << reader
+    return mask
 
 
 def first_primes(count):
@@ -123,7 +135,9 @@ def take(circuit, line):
         case ["select", name, "bit", bit, a, b]:
             circuit.select(name, bit, a, b)
         case ["output", name]:
-            circuit.output(name)
+            circuit.output(name, [])
+        case ["output", name, "for", reader, *others]:
+            circuit.output(name, [reader, *others])
         case _:
             raise ValueError("not a line of this form")
 

@@ -17,8 +17,8 @@ const SHOWN_BYTES: usize = 1200;
 /// A run of this many cases must meet every refusal that its calls can give.
 const THOROUGH: u64 = 20_000;
 
-/// The highest refusal that these calls can give.
-const HIGHEST: usize = 15;
+/// The refusals that these calls can give.
+const REFUSALS: [u32; 16] = [1, 2, 3, 4, 5, 6, 7, 8, 9, 10, 11, 12, 13, 28, 14, 15];
 
 #[derive(Default)]
 struct Tally {
@@ -26,7 +26,7 @@ struct Tally {
     differences: u64,
     accepted_files: u64,
     /// Refused files by number from 1 to 10, refused calls on accepted files by number above.
-    refused: [u64; HIGHEST + 1],
+    refused: BTreeMap<u32, u64>,
     /// Of each sort of difference, the one on the shortest file.
     shortest: BTreeMap<Sort, Difference>,
 }
@@ -171,13 +171,11 @@ fn another_length(length: usize, rng: &mut Rng) -> usize {
 impl Tally {
     fn count(&mut self, call: &Call, answer: Answer) {
         self.calls += 1;
-        let number = answer.number as usize;
-        match call {
-            Call::Read if number == 0 => self.accepted_files += 1,
-            Call::Read => self.refused[number] += 1,
+        match (call, answer.number) {
+            (Call::Read, 0) => self.accepted_files += 1,
             // Each refused file is counted once, at its reading.
-            _ if number > 10 => self.refused[number] += 1,
-            _ => {}
+            (Call::InputsOf { .. } | Call::Plain { .. }, 0..=10) => {}
+            (_, number) => *self.refused.entry(number).or_default() += 1,
         }
     }
 
@@ -193,10 +191,11 @@ impl Tally {
     fn report(&self, count: u64) -> ExitCode {
         println!("accepted: {} files", self.accepted_files);
         let mut missed = false;
-        for (number, times) in self.refused.iter().enumerate().skip(1) {
+        for number in REFUSALS {
+            let times = self.refused.get(&number).copied().unwrap_or_default();
             let what = if number <= 10 { "files" } else { "calls" };
             println!("refused {number}: {times} {what}");
-            missed |= *times == 0;
+            missed |= times == 0;
         }
         println!("{} calls, {} differences", self.calls, self.differences);
         if missed && count >= THOROUGH {

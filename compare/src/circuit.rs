@@ -110,11 +110,31 @@ impl<'f> Wire<'f> {
     }
 }
 
+/// A wire whose value may be read, and by whom.
+#[derive(Clone, Copy, Debug, PartialEq, Eq, PartialOrd, Ord)]
+pub struct Output {
+    pub wire: u16,
+    /// Bit s names seat s; where none is set, every party that takes part may read.
+    pub named: u8,
+}
+
+impl Output {
+    /// Whether a party may read this output; it is one of those that take part.
+    pub fn is_for(&self, party: u32) -> bool {
+        self.named == 0 || self.named >> party & 1 == 1
+    }
+
+    /// Whether a seat is named that n parties leave empty.
+    pub fn names_beyond(&self, n: u32) -> bool {
+        u32::from(self.named) >> n != 0
+    }
+}
+
 /// An accepted circuit. Its inputs are its lowest wires.
 #[derive(Clone, Debug)]
 pub struct Circuit<'f> {
     pub wires: Vec<Wire<'f>>,
-    pub outputs: Vec<u16>,
+    pub outputs: Vec<Output>,
     pub inputs: usize,
 }
 
@@ -155,7 +175,7 @@ impl Circuit<'_> {
 
     /// The moduli of the outputs, in the order of the file.
     pub fn output_moduli(&self) -> impl ExactSizeIterator<Item = u8> {
-        self.outputs.iter().map(|wire| self.modulus(*wire))
+        self.outputs.iter().map(|output| self.modulus(output.wire))
     }
 
     /// The moduli that some wire has, ascending.
@@ -235,7 +255,7 @@ struct Reader<'f> {
     at: usize,
     run: Run,
     wires: Vec<Wire<'f>>,
-    outputs: Vec<u16>,
+    outputs: Vec<Output>,
     inputs: usize,
 }
 
@@ -410,10 +430,10 @@ impl<'f> Reader<'f> {
     }
 
     fn output(&mut self, word: u32) -> Result<(), Refusal> {
-        let wire = (word & 0x3FF) as u16;
+        let (named, wire) = byte_and_wire(word);
         self.modulus_of(wire)?;
         self.check(self.outputs.len() < MOST_OUTPUTS, 8)?;
-        self.outputs.push(wire);
+        self.outputs.push(Output { wire, named });
         Ok(())
     }
 

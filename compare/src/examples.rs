@@ -1,17 +1,20 @@
 //! The specification's examples with the answers it gives, on both programs.
 
-use crate::call::{ACCEPTED, Answer, Call};
+use crate::call::{ACCEPTED, After, Answer, Call};
 use crate::{engine, second};
 use compare::word::*;
 use std::process::ExitCode;
 
-/// What the specification says of a file: its number of rows, or its refusal.
+/// What the specification says of a file: its number of rows, or its refusal; or, of a file and n
+/// parties, whether they all get an answer when they count their inputs, or which refusal.
 enum Expected {
     Rows(u32),
     Refused(u32, usize),
+    For(u32),
+    RefusedFor(u32, u32, usize),
 }
 
-use Expected::{Refused, Rows};
+use Expected::{For, Refused, RefusedFor, Rows};
 
 struct Example {
     name: &'static str,
@@ -41,27 +44,46 @@ impl Example {
     /// Whether both programs give the expected answer; says so where one does not.
     fn holds(&self) -> bool {
         let file = file(&self.words);
-        let answers = [
-            ("second", second::run(&file, &Call::Read)),
-            ("engine", engine::run(&file, &Call::Read)),
-        ];
         let mut holds = true;
-        for (program, after) in answers {
-            let as_expected = match self.expected {
-                Rows(rows) => after.answer == ACCEPTED && after.loan.numbers[3] == rows,
-                Refused(number, place) => after.answer == Answer { number, place },
-            };
-            if !as_expected {
-                println!("{}: {program} says {after}", self.name);
-                holds = false;
+        for call in self.calls() {
+            let answers = [
+                ("second", second::run(&file, &call)),
+                ("engine", engine::run(&file, &call)),
+            ];
+            for (program, after) in answers {
+                if !self.is_expected(&after) {
+                    println!("{}: {program} says {after} to {call}", self.name);
+                    holds = false;
+                }
             }
         }
         holds
     }
+
+    /// Reading, or counting the inputs of each party.
+    fn calls(&self) -> Vec<Call> {
+        match self.expected {
+            Rows(_) | Refused(..) => vec![Call::Read],
+            For(n) | RefusedFor(n, ..) => {
+                let parties = 0..n;
+                parties.map(|party| Call::InputsOf { n, party }).collect()
+            }
+        }
+    }
+
+    fn is_expected(&self, after: &After) -> bool {
+        match self.expected {
+            Rows(rows) => after.answer == ACCEPTED && after.loan.numbers[3] == rows,
+            For(_) => after.answer == ACCEPTED,
+            Refused(number, place) | RefusedFor(_, number, place) => {
+                after.answer == Answer { number, place }
+            }
+        }
+    }
 }
 
 fn examples() -> Vec<Example> {
-    [rows(), moduli(), constants(), limits(), orders()]
+    [rows(), moduli(), constants(), limits(), orders(), seats()]
         .into_iter()
         .flatten()
         .map(|(name, words, expected)| Example {
@@ -270,6 +292,43 @@ fn orders() -> Vec<Line> {
             "a word after end",
             vec![HEAD, input(0, 2), output(0), END, 0],
             Refused(10, 4),
+        ),
+    ]
+}
+
+/// Outputs that name seats: which files are accepted, and for how many parties.
+fn seats() -> Vec<Line> {
+    let with = |outputs: &[u32]| [&[HEAD, input(0, 5), input(1, 5)], outputs, &[END]].concat();
+    let two = |named: u32| with(&[output(1), named_output(named, 0)]);
+    vec![
+        ("all seats named", two(255), Rows(0)),
+        ("a bit above the seats", two(256), Refused(2, 4)),
+        ("the highest such bit", two(1 << 17), Refused(2, 4)),
+        ("no seat named", two(0), For(2)),
+        ("both seats of two named", two(3), For(2)),
+        ("seat 2 of two named", two(4), RefusedFor(2, 28, 1)),
+        ("seat 2 of three named", two(4), For(3)),
+        ("seat 7 of seven named", two(0x81), RefusedFor(7, 28, 1)),
+        ("all seats of eight named", two(255), For(8)),
+        (
+            "two outputs for strangers",
+            with(&[named_output(8, 1), named_output(4, 0)]),
+            RefusedFor(2, 28, 0),
+        ),
+        (
+            "two outputs, the second for a stranger",
+            with(&[named_output(4, 1), named_output(8, 0)]),
+            RefusedFor(3, 28, 1),
+        ),
+        (
+            "a stranger's input before an output for one",
+            vec![HEAD, input(0, 2), input(4, 2), named_output(255, 0), END],
+            RefusedFor(4, 13, 1),
+        ),
+        (
+            "a wire not made, for all seats",
+            with(&[named_output(255, 2)]),
+            Refused(5, 3),
         ),
     ]
 }

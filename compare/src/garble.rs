@@ -1,20 +1,25 @@
 //! Garbling: the rows of every gate, from all parties' contributions.
 
-use crate::circuit::{Circuit, Gate, Refusal, read};
+use crate::circuit::{Circuit, Gate, Output, Refusal, read};
 use crate::contribution::{Contribution, combined, length, modulo};
 use crate::meter::Meter;
 use crate::pad::Row;
 use crate::session::{
     check_account, check_contributions, check_key_length, check_lengths, check_offsets,
-    check_owners, check_parties,
+    check_parties, check_seats,
 };
 
 /// What garbling writes.
 pub struct Written<'b> {
     pub rows: &'b mut [u8],
     pub input_masks: &'b mut [u8],
+    /// A sheet for each party.
     pub output_masks: &'b mut [u8],
 }
+
+/// What stands for an output that a party may not read, in its sheet of masks and among its figures.
+/// No mask and no figure is as large.
+pub const UNREAD: u8 = 255;
 
 /// Garbles for n parties with keys of k bytes. The round number may be any: it only enters the pads.
 /// The rows are charged to the account.
@@ -28,7 +33,7 @@ pub fn garble(
     let circuit = read(file)?;
     check_parties(n)?;
     check_key_length(k)?;
-    check_owners(&circuit, n)?;
+    check_seats(&circuit, n)?;
     let (n, k) = (n as usize, k as usize);
     let rows = circuit.counts().rows;
     let each = length(&circuit, k);
@@ -36,7 +41,7 @@ pub fn garble(
         (contributions.len(), n * each),
         (written.rows.len(), rows as usize * n * k),
         (written.input_masks.len(), circuit.inputs),
-        (written.output_masks.len(), circuit.outputs.len()),
+        (written.output_masks.len(), n * circuit.outputs.len()),
     ])?;
     check_account(account)?;
     check_contributions(&circuit, k, contributions)?;
@@ -52,10 +57,23 @@ pub fn garble(
     for (mask, wire) in written.input_masks.iter_mut().zip(0..) {
         *mask = garbler.mask(wire) as u8;
     }
-    for (mask, wire) in written.output_masks.iter_mut().zip(&circuit.outputs) {
-        *mask = garbler.mask(*wire) as u8;
+    let sheets = (0..n as u32).flat_map(|party| garbler.sheet(&circuit, party));
+    for (mask, of_sheet) in written.output_masks.iter_mut().zip(sheets) {
+        *mask = of_sheet;
     }
     Ok(())
+}
+
+/// The masks of all wires: the sums of the parties' shares.
+pub fn masks(circuit: &Circuit, parties: &[Contribution]) -> Vec<u8> {
+    let mut masks: Vec<u8> = vec![0; circuit.wires.len()];
+    for party in parties {
+        let shares = party.mask_shares(circuit);
+        for ((mask, share), wire) in masks.iter_mut().zip(shares).zip(&circuit.wires) {
+            *mask = modulo(wire.modulus, i32::from(*mask) + i32::from(share[0]));
+        }
+    }
+    masks
 }
 
 struct Garbler<'g, 'c> {
@@ -77,23 +95,25 @@ struct Senders {
 impl<'g, 'c> Garbler<'g, 'c> {
     fn new(circuit: &Circuit, parties: &'g [Contribution<'c>], round: u32) -> Self {
         let zero_keys = parties.iter().map(|party| party.zero_keys(circuit));
-        let mut masks: Vec<u8> = vec![0; circuit.wires.len()];
-        for party in parties {
-            let shares = party.mask_shares(circuit);
-            for ((mask, share), wire) in masks.iter_mut().zip(shares).zip(&circuit.wires) {
-                *mask = modulo(wire.modulus, i32::from(*mask) + i32::from(share[0]));
-            }
-        }
         Garbler {
             parties,
             round,
             zero_keys: zero_keys.collect(),
-            masks,
+            masks: masks(circuit, parties),
         }
     }
 
     fn mask(&self, wire: u16) -> i32 {
         i32::from(self.masks[usize::from(wire)])
+    }
+
+    /// A party's sheet: the mask of each output that it may read.
+    fn sheet(&self, circuit: &Circuit, party: u32) -> Vec<u8> {
+        let mask = |output: &Output| match output.is_for(party) {
+            true => self.masks[usize::from(output.wire)],
+            false => UNREAD,
+        };
+        circuit.outputs.iter().map(mask).collect()
     }
 
     /// A party's zero key of a wire.

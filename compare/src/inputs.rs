@@ -4,7 +4,7 @@ use crate::circuit::{Refusal, read};
 use crate::contribution::{Contribution, combined, length, modulo};
 use crate::session::{
     check_below, check_both_below, check_contributions, check_key_length, check_lengths,
-    check_offsets, check_owners, check_parties, check_party,
+    check_offsets, check_parties, check_party, check_seats,
 };
 
 /// External values of a party's own inputs, (v + m) mod p.
@@ -18,7 +18,7 @@ pub fn externals(
     let circuit = read(file)?;
     check_parties(n)?;
     check_party(n, party)?;
-    check_owners(&circuit, n)?;
+    check_seats(&circuit, n)?;
     let own = |(owner, _): &(u8, u8)| u32::from(*owner) == party;
     let inputs = circuit.owners().zip(circuit.input_moduli());
     let moduli: Vec<u8> = inputs.filter(own).map(|(_, p)| p).collect();
@@ -47,7 +47,7 @@ pub fn input_keys(
     check_parties(n)?;
     check_key_length(k)?;
     check_party(n, party)?;
-    check_owners(&circuit, n)?;
+    check_seats(&circuit, n)?;
     let k = k as usize;
     check_lengths(&[
         (contribution.len(), length(&circuit, k)),

@@ -14,6 +14,8 @@ pub mod generate;
 pub mod inputs;
 pub mod keccak;
 pub mod meter;
+#[cfg(test)]
+mod named_tests;
 pub mod open;
 pub mod pad;
 pub mod pair;

@@ -4,6 +4,7 @@ mod bench;
 mod bundles;
 mod call;
 mod calls;
+mod counts;
 mod engine;
 mod examples;
 mod hex;

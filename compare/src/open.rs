@@ -5,7 +5,7 @@ use crate::contribution::{Contribution, combined, length, modulo, scaled};
 use crate::pad::Row;
 use crate::session::{
     check_below, check_contributions, check_key_length, check_keys, check_lengths, check_offsets,
-    check_owners, check_parties, check_party, check_rows, refuse_place,
+    check_parties, check_party, check_rows, check_seats, refuse_place,
 };
 
 /// What a party opens with.
@@ -29,7 +29,7 @@ pub fn open(
     check_parties(n)?;
     check_key_length(k)?;
     check_party(n, party)?;
-    check_owners(&circuit, n)?;
+    check_seats(&circuit, n)?;
     let (n, k, party) = (n as usize, k as usize, party as usize);
     let counts = circuit.counts();
     let (wires, inputs) = (circuit.wires.len(), circuit.inputs);

@@ -1,9 +1,8 @@
 //! The order and the places of the refusals of the calls for two.
 
 use crate::circuit::Refusal;
-use crate::decode::decode;
 use crate::meter::Meter;
-use crate::pair::{garble, input_keys, open, read};
+use crate::pair::{decode, garble, input_keys, open, read};
 use crate::round_tests::FULL;
 use crate::word::{self, *};
 

@@ -2,14 +2,13 @@
 
 use crate::circuit::{Gate, read as read_circuit};
 use crate::contribution::{combined, scaled};
-use crate::decode::decode;
 use crate::generate::circuits::all_moduli;
 use crate::generate::pair_example::{MASKS, PADS, ROUND, ROWS, by_hand};
 use crate::generate::pair_settings::{PairSetting, setting};
 use crate::generate::settings::below;
 use crate::pad::Row;
 use crate::pair::draw::Draw;
-use crate::pair::{garble, input_keys, open, read};
+use crate::pair::{decode, garble, input_keys, open, read};
 use crate::plain::{plain, wire_values};
 use crate::rng::Rng;
 use crate::round_tests::FULL;

@@ -12,8 +12,8 @@ pub fn plain(file: &[u8], values: &[u8], outputs: &mut [u8]) -> Result<(), Refus
     ])?;
     check_below(values, circuit.input_moduli())?;
     let wires = wire_values(&circuit, values);
-    for (output, wire) in outputs.iter_mut().zip(&circuit.outputs) {
-        *output = wires[usize::from(*wire)];
+    for (value, output) in outputs.iter_mut().zip(&circuit.outputs) {
+        *value = wires[usize::from(output.wire)];
     }
     Ok(())
 }

@@ -15,9 +15,11 @@ pub struct Record {
     pub bit: u32,
     pub a: u32,
     pub b: u32,
+    /// Of an output, the seats that it names: bit s for seat s.
+    pub named: u8,
 }
 
-/// How many fields a record has.
+/// How many numbers a record has, beside the byte that names seats.
 pub const FIELDS: usize = 7;
 
 /// The kinds that records have: those of the words that start an input, a gate or an output.
@@ -37,6 +39,7 @@ const NOTHING: Record = Record {
     bit: 0,
     a: 0,
     b: 0,
+    named: 0,
 };
 
 impl Record {
@@ -94,10 +97,16 @@ impl Record {
         }
     }
 
+    /// An output that names nobody, and so is for everybody.
     pub const fn output(a: u32) -> Self {
+        Record::named_output(0, a)
+    }
+
+    pub const fn named_output(named: u8, a: u32) -> Self {
         Record {
             kind: OUTPUT,
             a,
+            named,
             ..NOTHING
         }
     }
@@ -110,19 +119,20 @@ impl Record {
             SCALE => Record::scale(self.constant, self.a),
             PROJECT => Record::project(self.modulus, self.a),
             SELECT => Record::select(self.bit, self.a, self.b),
-            OUTPUT => Record::output(self.a),
+            OUTPUT => Record::named_output(self.named, self.a),
             _ => return None,
         })
     }
 
-    /// Whether every field is narrow enough for the bits that a word has for it.
+    /// Whether every field is narrow enough for the bits that a word has for it. The byte that names
+    /// seats always is.
     pub fn fits(&self) -> bool {
         let bytes = [self.modulus, self.owner, self.constant];
         let wires = [self.bit, self.a, self.b];
         bytes.iter().all(|byte| *byte < 1 << 8) && wires.iter().all(|wire| *wire < 1 << 10)
     }
 
-    /// All fields, in the order in which they lie.
+    /// All numbers, in the order in which they lie.
     pub fn fields_mut(&mut self) -> [&mut u32; FIELDS] {
         let Record {
             kind,
@@ -132,6 +142,7 @@ impl Record {
             bit,
             a,
             b,
+            ..
         } = self;
         [kind, modulus, owner, constant, bit, a, b]
     }
@@ -151,7 +162,7 @@ impl List {
         let outputs = circuit
             .outputs
             .iter()
-            .map(|wire| Record::output((*wire).into()));
+            .map(|output| Record::named_output(output.named, output.wire.into()));
         let mut tables = Vec::new();
         for wire in &circuit.wires {
             if let Gate::Project { a, table } = wire.gate {

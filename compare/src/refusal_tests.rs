@@ -57,7 +57,7 @@ const NEW: Meter = Meter { totals: [0; 8] };
 /// written and every total is as it was.
 fn garbled(setting: &Setting, before: Meter) -> Result<(Vec<u8>, Meter), (u32, usize)> {
     let mut rows = vec![7; ROW_BYTES];
-    let mut masks = [7; 3];
+    let mut masks = [7; 4];
     let (input_masks, output_masks) = masks.split_at_mut(2);
     let written = Written {
         rows: &mut rows,
@@ -70,7 +70,7 @@ fn garbled(setting: &Setting, before: Meter) -> Result<(Vec<u8>, Meter), (u32, u
     match garble(&setting.file, numbers, contributions, written, &mut meter) {
         Ok(()) => Ok((rows, meter)),
         Err(Refusal { number, place }) => {
-            assert_eq!((meter, masks), (before, [7; 3]));
+            assert_eq!((meter, masks), (before, [7; 4]));
             assert_eq!(rows, [7; ROW_BYTES]);
             Err((number, place))
         }
@@ -113,7 +113,7 @@ fn the_named_total_has_a_limit() {
 fn no_rows_have_space_in_a_full_account() {
     let mut meter = FULL;
     let file = word::file(&[HEAD, input(0, 2), output(0), END]);
-    let (mut input_masks, mut output_masks) = ([7], [7]);
+    let (mut input_masks, mut output_masks) = ([7], [7; 2]);
     let written = Written {
         rows: &mut [],
         input_masks: &mut input_masks,
@@ -121,7 +121,7 @@ fn no_rows_have_space_in_a_full_account() {
     };
     let contributions = [1, 0, 1, 1, 1, 0];
     garble(&file, (2, 1, 0, 6), &contributions, written, &mut meter).unwrap();
-    assert_eq!((meter, input_masks, output_masks), (FULL, [1], [1]));
+    assert_eq!((meter, input_masks, output_masks), (FULL, [1], [1, 1]));
 }
 
 /// Several garblings with the meter of a unit from the field: account 0 goes on from the old total

@@ -13,16 +13,20 @@ use crate::plain::plain;
 use crate::rng::Rng;
 use crate::word::{self, *};
 
-/// What the calls of a round wrote, opening and decoding at party 0.
+/// What the calls of a round wrote, opening at party 0.
 pub struct Played {
     pub rows: Vec<u8>,
+    /// A sheet for each party.
     pub output_masks: Vec<u8>,
     externals: Vec<u8>,
     /// Of all parties, by input and then by party.
     input_keys: Vec<u8>,
     pub wire_keys: Vec<u8>,
     pub wire_externals: Vec<u8>,
+    /// Party 0's figures.
     pub decoded: Vec<u8>,
+    /// All parties'.
+    pub figures: Vec<Vec<u8>>,
 }
 
 /// A meter in which no account has space for a row.
@@ -38,7 +42,7 @@ pub fn play(setting: &Setting) -> Played {
     let size = (n * k) as usize;
     let mut rows = vec![0; counts.rows as usize * size];
     let mut input_masks = vec![0; circuit.inputs];
-    let mut output_masks = vec![0; circuit.outputs.len()];
+    let mut output_masks = vec![0; *n as usize * circuit.outputs.len()];
     let written = Written {
         rows: &mut rows,
         input_masks: &mut input_masks,
@@ -63,8 +67,15 @@ pub fn play(setting: &Setting) -> Played {
     };
     let numbers = (*n, *k, 0, setting.round);
     open(file, numbers, &given, &mut wire_keys, &mut wire_externals).unwrap();
-    let mut decoded = vec![0; circuit.outputs.len()];
-    decode(file, &wire_externals, &output_masks, &mut decoded).unwrap();
+    let sheets = output_masks.chunks(circuit.outputs.len());
+    let figures: Vec<Vec<u8>> = (0..)
+        .zip(sheets)
+        .map(|(party, sheet)| {
+            let mut figures = vec![0; sheet.len()];
+            decode(file, (*n, party), &wire_externals, sheet, &mut figures).unwrap();
+            figures
+        })
+        .collect();
     Played {
         rows,
         output_masks,
@@ -72,7 +83,8 @@ pub fn play(setting: &Setting) -> Played {
         input_keys,
         wire_keys,
         wire_externals,
-        decoded,
+        decoded: figures[0].clone(),
+        figures,
     }
 }
 
@@ -121,7 +133,13 @@ fn rounds_decode_the_plain_outputs() {
         let played = play(&setting);
         let mut outputs = vec![0; played.decoded.len()];
         plain(&setting.file, &setting.values, &mut outputs).unwrap();
-        assert_eq!(played.decoded, outputs);
+        let circuit = read(&setting.file).unwrap();
+        assert_eq!(played.figures.len(), setting.n as usize);
+        for (party, figures) in (0..).zip(&played.figures) {
+            let due = circuit.outputs.iter().zip(&outputs);
+            let due = due.map(|(output, value)| if output.is_for(party) { *value } else { 255 });
+            assert_eq!(*figures, due.collect::<Vec<u8>>());
+        }
     }
 }
 

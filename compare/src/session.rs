@@ -9,7 +9,7 @@ pub fn inputs_of(file: &[u8], n: u32, party: u32) -> Result<u32, Refusal> {
     let circuit = read(file)?;
     check_parties(n)?;
     check_party(n, party)?;
-    check_owners(&circuit, n)?;
+    check_seats(&circuit, n)?;
     Ok(circuit.inputs_of(party))
 }
 
@@ -28,10 +28,23 @@ pub fn check_party(n: u32, party: u32) -> Result<(), Refusal> {
     refuse_unless(party < n, 12, party as usize)
 }
 
+/// 13, then 28: the circuit has to do with nobody but n parties.
+pub fn check_seats(circuit: &Circuit, n: u32) -> Result<(), Refusal> {
+    check_owners(circuit, n)?;
+    check_named(circuit, n)
+}
+
 /// 13: every input's owner is one of them.
 pub fn check_owners(circuit: &Circuit, n: u32) -> Result<(), Refusal> {
     let stranger = circuit.owners().position(|owner| u32::from(owner) >= n);
     refuse_place(stranger, 13)
+}
+
+/// 28: every seat that an output names is one of theirs; the place is the first output for which that
+/// is not so.
+fn check_named(circuit: &Circuit, n: u32) -> Result<(), Refusal> {
+    let mut outputs = circuit.outputs.iter();
+    refuse_place(outputs.position(|output| output.names_beyond(n)), 28)
 }
 
 /// 14: each lent length is exact.

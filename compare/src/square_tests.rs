@@ -156,7 +156,7 @@ fn a_square_is_opened() {
     let played = play(&square_of_three());
     assert_eq!(played.wire_externals, [2, 2]);
     assert_eq!(played.wire_keys, [0, 4, 3, 2]);
-    assert_eq!(played.output_masks, [3]);
+    assert_eq!(played.output_masks, [3, 3]);
     assert_eq!(played.decoded, [4]);
 }
 

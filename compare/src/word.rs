@@ -50,9 +50,9 @@ impl Kind {
             Kind::Head | Kind::End => 0,
             Kind::Input => 0x00FF_00FF,
             Kind::Add | Kind::Multiply | Kind::Branches => 0x000F_FFFF,
-            Kind::Scale | Kind::Project => 0x0003_FFFF,
+            Kind::Scale | Kind::Project | Kind::Output => 0x0003_FFFF,
             Kind::Entry => 0x0000_00FF,
-            Kind::Select | Kind::Output => 0x0000_03FF,
+            Kind::Select => 0x0000_03FF,
         }
     }
 
@@ -97,8 +97,14 @@ pub const fn branches(a: u32, b: u32) -> u32 {
     9 << 28 | a << 10 | b
 }
 
+/// An output that names nobody, and so is for everybody.
 pub const fn output(wire: u32) -> u32 {
-    10 << 28 | wire
+    named_output(0, wire)
+}
+
+/// An output for the seats whose bits are set: bit s for seat s.
+pub const fn named_output(named: u32, wire: u32) -> u32 {
+    10 << 28 | named << 10 | wire
 }
 
 /// The file that these words make.

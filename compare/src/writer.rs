@@ -192,8 +192,9 @@ impl Draft<'_> {
 
     fn output(&mut self, late: Check, record: &Record) -> Result<(), u32> {
         let full = (8, self.outputs == MOST_OUTPUTS);
-        let checks = [late, self.unmade(&[record.a]), full];
-        self.lay(word::output(record.a), &checks)?;
+        let Record { a, named, .. } = *record;
+        let checks = [late, self.unmade(&[a]), full];
+        self.lay(word::named_output(named.into(), a), &checks)?;
         self.outputs += 1;
         Ok(())
     }

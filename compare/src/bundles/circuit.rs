@@ -1,13 +1,14 @@
-//! A circuit with parts that the engine wrote, played as a whole round: what every party decodes,
-//! joined, is the integer result.
+//! A circuit with parts that the engine wrote, played as a whole round: what every party decodes that may
+//! read it, joined, is the integer result.
 
 use super::case::Case;
-use super::laws::{PART_WRITTEN, PLAIN_DECODED, RESULT_JOINED};
+use super::laws::{PART_WRITTEN, PLAIN_DECODED, RESULT_JOINED, RESULT_KEPT};
 use super::part::{Held, Part, SORTS, Source};
 use crate::call::ACCEPTED;
 use crate::round;
 use compare::bundle::join;
 use compare::circuit::{MOST_WIRES, read};
+use compare::garble::UNREAD;
 use compare::generate::bundle_circuits::Draft;
 use compare::generate::bundle_numbers::integer;
 use compare::generate::meters::account_of;
@@ -194,18 +195,27 @@ impl Case<'_> {
         }
     }
 
-    /// Plays the round; whether all went well, and every party's bytes join to the integers.
+    /// Plays the round; whether all went well, and the bytes of every party that may read a figure join
+    /// to its integer.
     fn play_round(&mut self, setting: &Setting, figures: &[Figure]) -> bool {
         let before = self.tally.wrong();
         let mut own = Rng::new(self.rng.next_u64());
         let round = round::play(setting, &mut own, &mut |step| self.make_step(step));
         self.law(PLAIN_DECODED, round.right);
-        for decoded in &round.decoded {
+        let circuit = read(&setting.file).expect("accepted by both");
+        for (party, decoded) in (0..).zip(&round.decoded) {
             for Figure { place, held } in figures {
                 let r = held.bundle.r;
-                let joined = self.join(r, &decoded[*place..][..r as usize]);
-                let holds = joined.map(u128::from) == Some(held.integer);
-                self.law(RESULT_JOINED, holds);
+                let residues = &decoded[*place..][..r as usize];
+                // A bundle's outputs are all for the same parties.
+                if circuit.outputs[*place].is_for(party) {
+                    let joined = self.join(r, residues);
+                    let holds = joined.map(u128::from) == Some(held.integer);
+                    self.law(RESULT_JOINED, holds);
+                } else {
+                    let nothing = residues.iter().all(|byte| *byte == UNREAD);
+                    self.law(RESULT_KEPT, nothing);
+                }
             }
         }
         self.tally.wrong() == before

@@ -9,11 +9,12 @@ pub const SPLIT_JOINS: &str = "what is split joins to the same";
 pub const JOINED_SPLITS: &str = "what is joined splits to the same";
 pub const PART_WRITTEN: &str = "a part with no fault is written";
 pub const FILE_ACCEPTED: &str = "a circuit with parts is accepted";
-pub const PLAIN_DECODED: &str = "every party decodes the plain outputs";
+pub const PLAIN_DECODED: &str = "every party decodes the plain outputs that it may read";
 pub const RESULT_JOINED: &str = "what is decoded joins to the integer result";
+pub const RESULT_KEPT: &str = "a figure for others is 255 throughout";
 
 /// All of them; a thorough run looks at each with every number of primes.
-pub const LAWS: [&str; 7] = [
+pub const LAWS: [&str; 8] = [
     FIRST_FAULT,
     SPLIT_JOINS,
     JOINED_SPLITS,
@@ -21,6 +22,7 @@ pub const LAWS: [&str; 7] = [
     FILE_ACCEPTED,
     PLAIN_DECODED,
     RESULT_JOINED,
+    RESULT_KEPT,
 ];
 
 impl Case<'_> {

@@ -2,6 +2,7 @@
 
 use super::bundle_numbers::primes_of;
 use super::circuits::{Builder, palette};
+use super::named::named;
 use crate::plain::plain;
 use crate::rng::Rng;
 use crate::word::{self, END};
@@ -107,16 +108,19 @@ impl<'r> Draft<'r> {
         Some(values)
     }
 
-    /// So many outputs of any wires.
+    /// So many outputs of any wires, for any of the parties.
     pub fn outputs(&mut self, count: usize) {
-        self.builder.outputs(count);
+        for _ in 0..count {
+            self.builder.output(self.n);
+        }
         self.outputs += count;
     }
 
-    /// The outputs of a bundle; which one is the first.
+    /// The outputs of a bundle, all for the same parties; which one is the first.
     pub fn outputs_of(&mut self, bundle: Bundle) -> usize {
+        let named = named(self.n, self.builder.rng());
         for wire in bundle.wires() {
-            self.builder.push(word::output(wire));
+            self.builder.push(word::named_output(named.into(), wire));
         }
         self.outputs += bundle.r as usize;
         self.outputs - bundle.r as usize
@@ -131,8 +135,9 @@ impl<'r> Draft<'r> {
 #[cfg(test)]
 mod tests {
     use super::*;
-    use crate::circuit::read;
+    use crate::circuit::{Output, read};
     use crate::generate::bundle_numbers::residues;
+    use crate::session::check_seats;
 
     #[test]
     fn bundles_are_where_they_are_said_to_be() {
@@ -154,13 +159,17 @@ mod tests {
             let places = bundles.map(|bundle| draft.outputs_of(bundle));
             let (file, values) = draft.end();
             let circuit = read(&file).expect("accepted");
-            assert!(circuit.owners().all(|owner| u32::from(owner) < n));
+            assert_eq!(check_seats(&circuit, n), Ok(()));
             let moduli: Vec<u32> = circuit.output_moduli().map(u32::from).collect();
             let mut outputs = vec![0; moduli.len()];
             plain(&file, &values, &mut outputs).expect("values below their moduli");
             for ((bundle, place), carried) in bundles.into_iter().zip(places).zip(carried) {
-                let (first, r) = (u32::from(circuit.outputs[place]), bundle.r as usize);
+                let r = bundle.r as usize;
+                let outputs_of = &circuit.outputs[place..][..r];
+                let first = u32::from(outputs_of[0].wire);
                 assert_eq!(first, bundle.first);
+                let same = |output: &Output| output.named == outputs_of[0].named;
+                assert!(outputs_of.iter().all(same));
                 assert_eq!(moduli[place..][..r], primes_of(bundle.r));
                 assert_eq!(outputs[place..][..r], carried);
             }

@@ -1,5 +1,6 @@
 //! Generators of accepted circuits.
 
+use super::named::named;
 use crate::circuit::{MOST_OUTPUTS, MOST_WIRES, is_modulus};
 use crate::rng::Rng;
 use crate::word::{self, END, HEAD};
@@ -327,9 +328,17 @@ impl<'r> Builder<'r> {
 
     pub fn outputs(&mut self, count: usize) {
         for _ in 0..count {
-            let wire = self.wire();
-            self.words.push(word::output(wire));
+            // Few seats are likely, as few parties are.
+            let seats = self.rng.pick(&[2, 2, 3, 8]);
+            self.output(seats);
         }
+    }
+
+    /// An output of any wire, for any of the first so many seats.
+    pub(super) fn output(&mut self, seats: u32) {
+        let wire = self.wire();
+        let named = named(seats, self.rng);
+        self.words.push(word::named_output(named.into(), wire));
     }
 
     pub(super) fn end(mut self) -> Vec<u32> {

@@ -272,7 +272,7 @@ impl Faulty<'_> {
             6 => self.modulus() << 10 | self.wire(),
             7 => self.image(),
             8 => self.bit_wire(),
-            10 => self.wire(),
+            10 => self.rng.pick(&[0, 0, 1, 2, 3, 4, 128, 255]) << 10 | self.wire(),
             _ => 0,
         };
         kind << 28 | fields | self.stray_bit(kind)

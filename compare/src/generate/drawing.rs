@@ -1,6 +1,7 @@
 //! Lists drawn record by record, each choice right but for once in so many times.
 
-use super::records::{RAISES, WIDE};
+use super::named::named;
+use super::records::{RAISES, WIDE, any_seats};
 use crate::record::{ADD, INPUT, List, MULTIPLY, PROJECT, Record, SCALE, SELECT};
 use crate::rng::Rng;
 
@@ -62,12 +63,16 @@ impl<'r> Drawing<'r> {
             SCALE => self.scale(),
             PROJECT => self.project(),
             SELECT => self.select(),
-            _ => Record::output(self.wire()),
+            _ => self.output(),
         }
     }
 
     /// Sets a field, as often as not one that the kind does not use; or gives it another kind.
     fn stray(&mut self, record: &mut Record) {
+        if self.rng.once_in(6) {
+            record.named = any_seats(self.rng);
+            return;
+        }
         let value = match self.rng.below(3) {
             0 => self.rng.pick(&WIDE),
             1 => self.rng.pick(&RAISES),
@@ -147,6 +152,11 @@ impl<'r> Drawing<'r> {
             None if self.fault() => Record::select(a, a, b),
             None => Record::add(a, b),
         }
+    }
+
+    /// Which seats an output names is nobody's fault.
+    fn output(&mut self) -> Record {
+        Record::named_output(named(8, self.rng), self.wire())
     }
 
     fn modulus(&mut self) -> u32 {

@@ -3,6 +3,7 @@
 
 use super::circuits::{accepted, at_limit};
 use super::meters::account_of;
+use super::named::with_named;
 use super::pair_sweep;
 use super::round_numbers::round_number;
 use super::selects::without_selects;
@@ -93,12 +94,20 @@ pub fn draw(circuit: &Circuit, k: usize, rng: &mut Rng) -> Vec<u8> {
     draw
 }
 
+/// The circuit with its inputs' owners drawn anew among two parties, and the seats that its outputs name
+/// among theirs or among all eight: whose they are makes no difference for two.
+fn for_two(words: Vec<u32>, rng: &mut Rng) -> Vec<u32> {
+    let seats = rng.pick(&[2, 8]);
+    let words = with_owners(words, 2, rng);
+    with_named(words, seats, rng)
+}
+
 /// The setting of one case of a run: first the sweep, then random ones.
 pub fn setting(case: u64, rng: &mut Rng) -> PairSetting {
     let (round, account) = (round_number(case, rng), account_of(case));
     match pair_sweep::circuit(case, rng) {
         Some((words, k, zeros)) => {
-            let file = word::file(&with_owners(words, 2, rng));
+            let file = word::file(&for_two(words, rng));
             PairSetting::new(file, (k, round, account), rng).with_externals(zeros)
         }
         None => random(round, account, rng),
@@ -113,7 +122,7 @@ const SMALL: u64 = 200;
 pub fn small(rng: &mut Rng) -> PairSetting {
     loop {
         let k = rng.between(1, 3) as u32;
-        let words = with_owners(without_selects(&accepted(rng)), 2, rng);
+        let words = for_two(without_selects(&accepted(rng)), rng);
         let setting = PairSetting::new(word::file(&words), (k, rng.next_u32(), 0), rng);
         match setting.cost() {
             1..=SMALL => return setting,
@@ -136,7 +145,7 @@ fn random(round: u32, account: u32, rng: &mut Rng) -> PairSetting {
             0 => at_limit(rng),
             _ => accepted(rng),
         };
-        let file = word::file(&with_owners(without_selects(&words), 2, rng));
+        let file = word::file(&for_two(without_selects(&words), rng));
         let rows = total_rows(&read(&file).expect("an accepted circuit"));
         let (any, short) = (key_length(rng), rng.between(1, 4) as u32);
         let fitting = [any, short, 1]

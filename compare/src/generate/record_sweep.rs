@@ -17,7 +17,7 @@ const GOOD: [Record; 10] = [
     Record::project(2, 1),
     Record::select(6, 1, 4),
     Record::output(7),
-    Record::output(5),
+    Record::named_output(0x81, 5),
 ];
 
 /// The tables of its two projections.
@@ -112,7 +112,7 @@ fn largest() -> Vec<List> {
 }
 
 /// Each field of each record with small numbers, wide ones, and its own raised by bits that a word
-/// has no place for.
+/// has no place for; and each record with each seat named, none, two and all.
 fn changed_fields() -> Vec<List> {
     let mut lists = Vec::new();
     for (at, record) in GOOD.iter().enumerate() {
@@ -124,6 +124,11 @@ fn changed_fields() -> Vec<List> {
                 *changed.records[at].fields_mut()[field] = number;
                 lists.push(changed);
             }
+        }
+        for named in (0..8).map(|seat| 1 << seat).chain([0, 3, 255]) {
+            let mut changed = list(&GOOD, &TABLES);
+            changed.records[at].named = named;
+            lists.push(changed);
         }
     }
     lists
@@ -163,10 +168,14 @@ fn moved_records() -> Vec<List> {
     lists
 }
 
-/// Every modulus of an input and of a projection, prime or not; and for each prime the constants
-/// and images around it.
+/// Every modulus of an input and of a projection, prime or not; for each prime the constants and
+/// images around it; and every choice of the seats that an output names.
 fn byte_fields() -> Vec<List> {
     let mut lists = Vec::new();
+    for named in 0..=255 {
+        let output = Record::named_output(named, 0);
+        lists.push(list(&[Record::input(0, 2), output], &[]));
+    }
     for modulus in 0..=260 {
         let input = [Record::input(0, modulus), Record::output(0)];
         lists.push(list(&input, &[]));
@@ -198,7 +207,8 @@ fn projected(modulus: u32, images: [u8; 2]) -> List {
 }
 
 /// Each kind with its fields right and wrong in every combination: alone, after an output, as a
-/// wire too many, and as both; and then with a field that it does not use.
+/// wire too many, and as both; each time without and with a seat named, which an output alone can
+/// have; and then with a field that it does not use.
 fn combined() -> Vec<List> {
     let mut lists = Vec::new();
     for (late, full) in [(false, false), (true, false), (false, true), (true, true)] {
@@ -209,6 +219,8 @@ fn combined() -> Vec<List> {
         }
         for (record, tables) in combinations(made) {
             lists.push(followed(&before, record, &tables));
+            let seated = Record { named: 2, ..record };
+            lists.push(followed(&before, seated, &tables));
             if late && full {
                 let mut stray = record;
                 for field in stray.fields_mut() {

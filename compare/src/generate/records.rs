@@ -136,9 +136,20 @@ fn changed(rng: &mut Rng) -> List {
 
 /// Sets a field, used or not, to something else.
 fn change_field(record: &mut Record, rng: &mut Rng) {
+    if rng.once_in(FIELDS + 1) {
+        record.named = any_seats(rng);
+        return;
+    }
     let mut fields = record.fields_mut();
     let field = &mut fields[rng.below(FIELDS)];
     **field = another(**field, rng);
+}
+
+/// Seats to be named by mistake: one or several.
+pub(super) fn any_seats(rng: &mut Rng) -> u8 {
+    let one = 1 << rng.below(8);
+    let any = rng.between(1, 255) as u8;
+    rng.pick(&[one, one, any, 255])
 }
 
 /// A number that could stand in a field by mistake for this one.
@@ -191,6 +202,9 @@ fn random_fields(rng: &mut Rng) -> List {
             if rng.once_in(share) {
                 *field = another(0, rng);
             }
+        }
+        if rng.once_in(share) {
+            record.named = any_seats(rng);
         }
         list.records.push(record);
     }

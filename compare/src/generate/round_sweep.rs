@@ -29,7 +29,8 @@ pub fn circuit(case: u64, rng: &mut Rng) -> Option<(Vec<u32>, u32, u32)> {
 
 /// Every kind of gate, on wires of modulus p, and projections to modulus q and back. There are
 /// squares of a projection, of a square and of a sum; the last product is of two wires that have
-/// the same value, which does not make it a square.
+/// the same value, which does not make it a square. It is output three times, so that it may be for
+/// some and for others.
 fn every_kind(p: u32, q: u32) -> Vec<u32> {
     let image = |value: u32| value * value + value / 2 + 1;
     let mut words = vec![
@@ -49,7 +50,7 @@ fn every_kind(p: u32, q: u32) -> Vec<u32> {
         word::multiply(4, 4),
     ]);
     words.extend([word::scale(1, 11), word::multiply(11, 12)]);
-    words.extend((0..14).map(word::output));
+    words.extend((0..14).chain([13, 13]).map(word::output));
     words.push(END);
     words
 }

@@ -104,7 +104,7 @@ mod tests {
         let mut rng = Rng::new(1);
         let mut counts = [0; 4];
         for case in 0..600 {
-            let words = match case % 20 {
+            let words = match case % 10 {
                 0 => at_limit(&mut rng),
                 _ => accepted(&mut rng),
             };

@@ -3,6 +3,7 @@
 
 use super::circuits::{accepted, at_limit};
 use super::meters::account_of;
+use super::named::with_named;
 use super::round_numbers::round_number;
 use super::round_sweep;
 use crate::circuit::{Circuit, read};
@@ -68,7 +69,7 @@ pub fn setting(case: u64, rng: &mut Rng) -> Setting {
     let (round, account) = (round_number(case, rng), account_of(case));
     match round_sweep::circuit(case, rng) {
         Some((words, n, k)) => {
-            let file = word::file(&with_owners(words, n, rng));
+            let file = word::file(&for_parties(words, n, rng));
             Setting::new(file, (n, k, round, account), rng)
         }
         None => random(round, account, rng),
@@ -83,7 +84,7 @@ const SMALL: u64 = 600;
 pub fn small(rng: &mut Rng) -> Setting {
     loop {
         let (n, k) = (rng.between(2, 4) as u32, rng.between(1, 3) as u32);
-        let words = with_owners(accepted(rng), n, rng);
+        let words = for_parties(accepted(rng), n, rng);
         let numbers = (n, k, rng.next_u32(), 0);
         let setting = Setting::new(word::file(&words), numbers, rng);
         match setting.cost() {
@@ -115,7 +116,7 @@ fn random(round: u32, account: u32, rng: &mut Rng) -> Setting {
     if cost(rows, n, k) > limit {
         n = 2;
     }
-    let file = word::file(&with_owners(words, n, rng));
+    let file = word::file(&for_parties(words, n, rng));
     Setting::new(file, (n, k, round, account), rng)
 }
 
@@ -133,6 +134,12 @@ pub(super) fn key_length(rng: &mut Rng) -> u32 {
         1 => rng.between(1, 128) as u32,
         _ => rng.between(1, 5) as u32,
     }
+}
+
+/// The circuit with its inputs' owners, and the seats that its outputs name, drawn anew among n parties.
+fn for_parties(words: Vec<u32>, n: u32, rng: &mut Rng) -> Vec<u32> {
+    let words = with_owners(words, n, rng);
+    with_named(words, n, rng)
 }
 
 /// The circuit with its inputs' owners drawn anew among n parties.

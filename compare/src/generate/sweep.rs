@@ -99,8 +99,22 @@ fn byte_fields() -> Vec<Vec<u32>> {
         }
         files.push(projected(byte, [0, 1]));
         files.push(multiplied(byte));
+        files.push(named([byte, 0, 0]));
+        files.push(named([0, 0, byte]));
+        files.push(named([3, byte, 128]));
     }
     files
+}
+
+/// Three outputs that name these seats. Each has another number than its wire.
+fn named(seats: [u32; 3]) -> Vec<u32> {
+    let inputs = [2, 3, 5, 7].map(|p| word::input(p % 2, p));
+    let outputs = [(seats[0], 3), (seats[1], 2), (seats[2], 0)];
+    let mut words = vec![HEAD];
+    words.extend(inputs);
+    words.extend(outputs.map(|(named, wire)| word::named_output(named, wire)));
+    words.push(END);
+    words
 }
 
 /// A square, another product, and the square of that square.

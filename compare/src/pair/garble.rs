@@ -39,8 +39,8 @@ pub fn garble(
     };
     garbler.wires();
     rows.copy_from_slice(&garbler.rows);
-    for (mask, wire) in output_masks.iter_mut().zip(&circuit.outputs) {
-        *mask = garbler.mask(*wire) as u8;
+    for (mask, output) in output_masks.iter_mut().zip(&circuit.outputs) {
+        *mask = garbler.mask(output.wire) as u8;
     }
     Ok(())
 }

@@ -7,6 +7,7 @@ use super::step::{Name, Step, WITH_BUFFERS};
 use crate::call::Answer;
 use crate::round::high;
 use compare::circuit::read;
+use std::cmp::Ordering;
 
 pub const HEADING: &str = "bytes too large";
 
@@ -18,23 +19,32 @@ const BESIDE: [&str; 2] = ["alone", "before others"];
 
 const BOTH: &str = "pair_open keys, and rows at a lower place";
 
+/// Decoding judges two buffers together.
+const EITHER: [&str; 3] = [
+    "pair_decode externals, and masks at a higher place",
+    "pair_decode masks, and externals at a higher place",
+    "pair_decode externals and masks at one place",
+];
+
 /// How many such calls each case makes.
 const CALLS: usize = 6;
 
 /// A call, a buffer that it reads, and the number by which it refuses the buffer's bytes.
-const BUFFERS: [(Name, usize, u32); 5] = [
+const BUFFERS: [(Name, usize, u32); 7] = [
     (Name::Garble, 0, 16),
     (Name::InputKeys, 0, 16),
     (Name::InputKeys, 1, 15),
     (Name::Open, 0, 18),
     (Name::Open, 1, 18),
+    (Name::Decode, 0, 15),
+    (Name::Decode, 1, 15),
 ];
 
 /// Which buffer, where in it, what byte, and what is beside it. There is no place after the last.
 fn all() -> Vec<[usize; 4]> {
-    let choice = |at: usize| [at % 5, at / 5 % 3, at / 15 % 3, at / 45];
+    let choice = |at: usize| [at % 7, at / 7 % 3, at / 21 % 3, at / 63];
     let can_be = |choice: &[usize; 4]| choice[1] != 1 || choice[3] == 0;
-    (0..90).map(choice).filter(can_be).collect()
+    (0..126).map(choice).filter(can_be).collect()
 }
 
 fn sort([buffer, place, byte, beside]: [usize; 4]) -> String {
@@ -45,7 +55,8 @@ fn sort([buffer, place, byte, beside]: [usize; 4]) -> String {
 }
 
 pub fn sorts() -> Vec<String> {
-    all().into_iter().map(sort).chain([BOTH.into()]).collect()
+    let judged_together = [BOTH].into_iter().chain(EITHER).map(String::from);
+    all().into_iter().map(sort).chain(judged_together).collect()
 }
 
 impl Case<'_> {
@@ -56,6 +67,7 @@ impl Case<'_> {
             self.play_high_byte(good, all[turn]);
         }
         self.play_high_key_and_row(&good[2]);
+        self.play_high_external_and_mask(&good[3]);
     }
 
     fn play_high_byte(&mut self, good: &[Step], [buffer, place, byte, beside]: [usize; 4]) {
@@ -119,6 +131,31 @@ impl Case<'_> {
         let answer = self.make(&step).engines.answer;
         if self.law(LOWEST_BYTE, answer == due) {
             self.tally.counts.add(HEADING, BOTH, 0);
+        }
+    }
+
+    /// A byte of the external values and one of the masks: the lower place of the two is named.
+    fn play_high_external_and_mask(&mut self, decoding: &Step) {
+        let circuit = read(&decoding.file).expect("an accepted circuit");
+        let moduli = decoding.moduli(&circuit);
+        let mut step = decoding.clone();
+        let [external, mask] = [0, 1].map(|buffer: usize| {
+            let at = self.rng.below(moduli[buffer].len());
+            step.buffers[buffer][at] = high(&mut self.rng, moduli[buffer][at]);
+            at
+        });
+        let due = Answer {
+            number: 15,
+            place: external.min(mask),
+        };
+        let answer = self.make(&step).engines.answer;
+        if self.law(LOWEST_BYTE, answer == due) {
+            let sort = match external.cmp(&mask) {
+                Ordering::Less => EITHER[0],
+                Ordering::Greater => EITHER[1],
+                Ordering::Equal => EITHER[2],
+            };
+            self.tally.counts.add(HEADING, sort, 0);
         }
     }
 }

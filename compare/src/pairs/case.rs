@@ -1,12 +1,11 @@
 //! The calls of one case: each is made of both programs, printed if that is asked for, and counted.
 
 use super::laws::UNTOUCHED;
-use super::step::Step;
+use super::step::{Name, Step};
 use super::tally::Tally;
 use super::{engine, second};
 use crate::call::ACCEPTED;
 use crate::round::{self, Made};
-use compare::meter::Meter;
 use compare::rng::Rng;
 
 pub struct Case<'t> {
@@ -31,8 +30,7 @@ impl Case<'_> {
         made
     }
 
-    /// Makes a call for n parties: decoding, which both forms share, or a garbling with the same
-    /// meter.
+    /// Makes a call for n parties: a garbling with the same meter.
     pub fn make_for_parties(&mut self, step: &round::Step) -> Made {
         let made = round::make(step);
         self.say(step, &made);
@@ -47,22 +45,19 @@ impl Case<'_> {
         }
     }
 
-    /// What the engine decodes from external values and masks that are good.
-    pub fn decode(&mut self, file: &[u8], externals: &[u8], masks: &[u8]) -> Option<Vec<u8>> {
+    /// The decoding of what an opening wrote, with these masks.
+    pub fn decoding(&mut self, opening: &Step, externals: &[u8], masks: &[u8]) -> Step {
         let outputs = self.rng.bytes(masks.len());
-        let step = round::Step {
-            name: round::Name::Decode,
-            file: file.to_vec(),
-            n: 0,
-            k: 0,
-            party: 0,
-            round: 0,
-            account: 0,
-            meter: Meter::default(),
+        Step {
+            name: Name::Decode,
             buffers: vec![externals.to_vec(), masks.to_vec(), outputs],
-            nulls: self.rng.once_in(2),
-        };
-        let after = self.make_for_parties(&step).engines;
+            ..opening.clone()
+        }
+    }
+
+    /// What the engine decodes, if it does.
+    pub fn decoded(&mut self, decoding: &Step) -> Option<Vec<u8>> {
+        let after = self.make(decoding).engines;
         let outputs = || after.loan.buffers[2].content().to_vec();
         (after.answer == ACCEPTED).then(outputs)
     }

@@ -1,7 +1,9 @@
 //! What a thorough run must have met, heading by heading.
 
-use super::counts::Due;
-use super::{bytes, garblings, gates, lengths, offsets, owners, reopened, selectors, sequence};
+use super::{
+    bytes, garblings, gates, lengths, offsets, owners, reopened, seats, selectors, sequence,
+};
+use crate::counts::Due;
 use crate::round::ABOVE;
 use crate::round::accounts::{ACCEPTED, SORTS};
 use compare::generate::circuits::all_moduli;
@@ -49,6 +51,8 @@ pub fn all() -> Vec<Due> {
         due(offsets::HEADING_OF_FIRSTS, offsets::sorts(), &once),
         due(owners::HEADING, owners::sorts(), &owners::OWNERS),
         due(selectors::HEADING, selectors::sorts(), &once),
+        due(seats::HEADING, seats::sorts(), &once),
+        due(seats::DECODED, named(&seats::SORTS_OF_DECODED), &once),
         due(garblings::BY_ACCOUNT, named(&SORTS), &accounts),
         due(garblings::ROUNDS_BY_ACCOUNT, named(&ACCEPTED), &accounts),
         due(garblings::ABOVE_7, named(&ABOVE), &once),

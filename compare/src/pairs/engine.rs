@@ -49,6 +49,17 @@ unsafe extern "C" {
         wire_externals: *mut u8,
         wire_externals_length: usize,
     ) -> Answer;
+
+    fn lupiknam_pair_decode(
+        file: *const u8,
+        file_length: usize,
+        externals: *const u8,
+        externals_length: usize,
+        masks: *const u8,
+        masks_length: usize,
+        outputs: *mut u8,
+        outputs_length: usize,
+    ) -> Answer;
 }
 
 /// Makes a call of the engine.
@@ -59,6 +70,7 @@ pub fn run(step: &Step) -> After {
         Name::Garble => garble(step, &mut loan),
         Name::InputKeys => input_keys(step, &mut loan),
         Name::Open => open(step, &mut loan),
+        Name::Decode => decode(&mut loan),
     };
     After { answer, loan }
 }
@@ -121,4 +133,10 @@ fn open(step: &Step, loan: &mut Loan) -> Answer {
             wire_externals.1,
         )
     }
+}
+
+fn decode(loan: &mut Loan) -> Answer {
+    let (file, size) = loan.file.pointer();
+    let [(externals, e), (masks, m), (outputs, o)] = pointers(&mut loan.buffers);
+    unsafe { lupiknam_pair_decode(file, size, externals, e, masks, m, outputs, o) }
 }

@@ -9,7 +9,7 @@ impl Case<'_> {
     pub fn play_example(&mut self) {
         for values in 0..9 {
             let round = self.play_round(&by_hand([values / 3, values % 3]));
-            let [.., opening] = &round.steps;
+            let [.., opening, _] = &round.steps;
             let as_by_hand = opening.buffers[1] == ROWS && round.output_masks == MASKS;
             self.law(AS_BY_HAND, as_by_hand && round.right);
         }

@@ -6,6 +6,7 @@ use super::step::{Name, Step};
 use crate::round::high;
 use compare::circuit::{Circuit, read};
 use compare::generate::meters::{with_space, without_space, wrong_account};
+use compare::generate::named::put_any_seats;
 use compare::generate::round_numbers::others;
 use compare::generate::selects::with_selects;
 use compare::meter::ACCOUNTS;
@@ -185,16 +186,18 @@ impl Spoiler<'_> {
         step.round = self.rng.pick(&others).1;
     }
 
-    /// The file with a bit flipped, cut off, made longer, or with selectors if it is still good.
+    /// The file with a bit flipped, cut off, made longer, or, if it is still good, with selectors or with
+    /// an output that names other seats.
     fn file(&mut self, step: &mut Step) {
         let length = step.file.len();
-        match self.rng.below(6) {
+        match self.rng.below(7) {
             0 => step.file.truncate(self.rng.below(length + 1)),
             1 => step.file.push(0),
             2 if read(&step.file).is_ok() => {
                 let with = with_selects(&step.file, self.rng);
                 step.file = with.unwrap_or(step.file.clone());
             }
+            3 => put_any_seats(&mut step.file, self.rng),
             _ if length > 0 => step.file[self.rng.below(length)] ^= 1 << self.rng.below(8),
             _ => {}
         }

@@ -1,9 +1,9 @@
 //! What garblings show of the accounts.
 
 use super::case::Case;
-use super::counts::Counts;
 use super::laws::NAMED_TOTAL;
 use super::step::{Name, Step};
+use crate::counts::Counts;
 use crate::round::above;
 use crate::round::accounts::sorts_of;
 use compare::circuit::read;

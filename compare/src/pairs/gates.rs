@@ -1,7 +1,7 @@
 //! What a round that came out right shows: which gates its circuit has at which moduli, and which of
 //! their rows were opened.
 
-use compare::circuit::{Circuit, Gate, MOST_OUTPUTS, MOST_WIRES};
+use compare::circuit::{Circuit, Gate, MOST_OUTPUTS, MOST_WIRES, Output};
 use compare::pair::total_rows;
 use std::collections::BTreeSet;
 
@@ -67,7 +67,7 @@ const MODULI: usize = 54;
 const MOST_ROWS: u32 = 1023 * 500;
 
 /// The sorts of circuits that must be met.
-pub const SORTS_OF_CIRCUITS: [&str; 8] = [
+pub const SORTS_OF_CIRCUITS: [&str; 9] = [
     "without gates",
     "without rows, but with gates",
     "of 1,024 wires",
@@ -75,14 +75,16 @@ pub const SORTS_OF_CIRCUITS: [&str; 8] = [
     "with 256 outputs",
     "with all 54 moduli",
     "with a wire that is output twice",
+    "with outputs of one wire for other seats",
     "with as many rows as there may be",
 ];
 
 /// Which of them a circuit is of.
-pub fn of_circuit(circuit: &Circuit) -> [bool; 8] {
+pub fn of_circuit(circuit: &Circuit) -> [bool; 9] {
     let (wires, inputs) = (circuit.wires.len(), circuit.inputs);
     let rows = total_rows(circuit);
-    let different: BTreeSet<&u16> = circuit.outputs.iter().collect();
+    let different: BTreeSet<&Output> = circuit.outputs.iter().collect();
+    let output_wires: BTreeSet<u16> = circuit.outputs.iter().map(|output| output.wire).collect();
     [
         wires == inputs,
         wires > inputs && rows == 0,
@@ -90,7 +92,8 @@ pub fn of_circuit(circuit: &Circuit) -> [bool; 8] {
         inputs == MOST_WIRES,
         circuit.outputs.len() == MOST_OUTPUTS,
         circuit.moduli().len() == MODULI,
-        different.len() < circuit.outputs.len(),
+        output_wires.len() < circuit.outputs.len(),
+        output_wires.len() < different.len(),
         rows == MOST_ROWS,
     ]
 }

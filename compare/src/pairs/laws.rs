@@ -6,8 +6,9 @@ pub const WRONG_LENGTH: &str = "a length that is not exact is refused by 14 at 0
 pub const LOWEST_BYTE: &str = "the lowest byte too large is named, keys before rows";
 pub const LOWEST_OFFSET: &str = "27 names the lowest modulus whose offset does not begin with 1";
 pub const LOWEST_STRANGER: &str = "13 names the lowest input of an owner above 1";
-pub const STRANGERS_READ: &str = "reading does not look at owners";
+pub const STRANGERS_TAKEN: &str = "reading and decoding do not look at owners";
 pub const FIRST_SELECTOR: &str = "26 names the word of the first selector";
+pub const SEATS_PASSED: &str = "whomever outputs name, all answers and bytes are the same";
 pub const ROWS_CHARGED: &str =
     "an accepted garbling adds the rows that reading gives to the total named, and to no other";
 pub const NAMED_TOTAL: &str = "21 goes by the named total, whatever the others have";
@@ -23,15 +24,16 @@ pub const TOTALS_RECKONED: &str =
     "after a sequence each total is its start plus the rows accepted in its name";
 
 /// All of them; a thorough run looks at each.
-pub const LAWS: [&str; 17] = [
+pub const LAWS: [&str; 18] = [
     FIRST_FAULT,
     UNTOUCHED,
     WRONG_LENGTH,
     LOWEST_BYTE,
     LOWEST_OFFSET,
     LOWEST_STRANGER,
-    STRANGERS_READ,
+    STRANGERS_TAKEN,
     FIRST_SELECTOR,
+    SEATS_PASSED,
     ROWS_CHARGED,
     NAMED_TOTAL,
     INPUTS_KEPT,

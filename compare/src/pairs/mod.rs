@@ -3,7 +3,6 @@
 
 mod bytes;
 mod case;
-mod counts;
 mod difference;
 mod due;
 mod engine;
@@ -20,6 +19,7 @@ mod owners;
 mod play;
 mod reopened;
 mod run;
+mod seats;
 mod second;
 mod selectors;
 mod sequence;

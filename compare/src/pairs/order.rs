@@ -71,7 +71,15 @@ pub fn faulty(good: &Step, faults: &[u32], rng: &mut Rng) -> (Step, Vec<u32>) {
             11 => put_key_length(&mut step, rng),
             13 => put_stranger(&mut step, &circuit, rng),
             14 => put_length(&mut step, rng),
-            15 => put_high_byte(&mut step, &circuit, 1, rng),
+            15 => {
+                // Input keys are lent values after the draw, decoding bytes of both sorts alone.
+                let buffer = if step.name.has_draw() {
+                    1
+                } else {
+                    rng.below(2)
+                };
+                put_high_byte(&mut step, &circuit, buffer, rng)
+            }
             16 => put_high_byte(&mut step, &circuit, 0, rng),
             18 => {
                 let buffer = rng.pick(&[0, 0, usize::from(!step.buffers[1].is_empty())]);

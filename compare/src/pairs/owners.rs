@@ -1,9 +1,9 @@
 //! Calls on circuits with inputs of a third party.
 
 use super::case::Case;
-use super::laws::{LOWEST_STRANGER, STRANGERS_READ};
+use super::laws::{LOWEST_STRANGER, STRANGERS_TAKEN};
 use super::order::put_owner;
-use super::step::{Step, WITH_BUFFERS};
+use super::step::{NAMES, Name, Step};
 use crate::call::{ACCEPTED, Answer};
 use compare::circuit::read;
 
@@ -15,13 +15,14 @@ pub const OWNERS: [u32; 6] = [2, 3, 4, 5, 6, 7];
 const BESIDE: [&str; 2] = ["alone", "before others"];
 
 pub fn sorts() -> Vec<String> {
-    let sorts = |beside: &str| WITH_BUFFERS.map(|name| format!("{} {beside}", name.text()));
-    BESIDE.iter().flat_map(|beside| sorts(beside)).collect()
+    let judging = NAMES.into_iter().filter(|name| name.gives(13));
+    let sorts = |name: Name| BESIDE.map(|beside| format!("{} {beside}", name.text()));
+    judging.flat_map(sorts).collect()
 }
 
 impl Case<'_> {
-    /// Makes the calls of a round, of which the first is reading, with a stranger among the owners
-    /// and perhaps others at higher inputs. Which owner it is goes by turns.
+    /// Makes the calls of a round with a stranger among the owners and perhaps others at higher inputs.
+    /// Which owner it is goes by turns.
     pub fn play_owners(&mut self, good: &[Step]) {
         let circuit = read(&good[0].file).expect("an accepted circuit");
         let last = circuit.inputs - 1;
@@ -40,15 +41,15 @@ impl Case<'_> {
                 number: 13,
                 place: lowest,
             };
-            let on_file = |step: &Step| Step {
-                file: file.clone(),
-                ..step.clone()
-            };
-            let answer = self.make(&on_file(&good[0])).engines.answer;
-            self.law(STRANGERS_READ, answer == ACCEPTED);
-            for step in &good[1..] {
-                let answer = self.make(&on_file(step)).engines.answer;
-                if self.law(LOWEST_STRANGER, answer == due) {
+            for step in good {
+                let on_file = Step {
+                    file: file.clone(),
+                    ..step.clone()
+                };
+                let answer = self.make(&on_file).engines.answer;
+                if !step.name.gives(13) {
+                    self.law(STRANGERS_TAKEN, answer == ACCEPTED);
+                } else if self.law(LOWEST_STRANGER, answer == due) {
                     let sort = format!("{} {}", step.name.text(), BESIDE[others.min(1)]);
                     self.tally.counts.add(HEADING, sort, owner);
                 }

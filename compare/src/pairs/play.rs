@@ -15,8 +15,8 @@ use compare::plain::wire_values;
 
 /// A round: its calls, and what garbling and opening wrote.
 pub struct Round {
-    /// Reading, garbling, input keys and opening.
-    pub steps: [Step; 4],
+    /// Reading, garbling, input keys, opening and decoding.
+    pub steps: [Step; 5],
     pub output_masks: Vec<u8>,
     pub opened: Opened,
     pub right: bool,
@@ -25,6 +25,7 @@ pub struct Round {
 pub struct Opened {
     keys: Step,
     opening: Step,
+    decoding: Step,
     pub wire_keys: Vec<u8>,
     pub wire_externals: Vec<u8>,
     right: bool,
@@ -64,6 +65,7 @@ impl Case<'_> {
                 garbling,
                 opened.keys.clone(),
                 opened.opening.clone(),
+                opened.decoding.clone(),
             ],
             output_masks: garbled.output_masks,
             opened,
@@ -117,12 +119,14 @@ impl Case<'_> {
         right &= self.law(INPUTS_KEPT, wire_keys.starts_with(&input_keys));
         let firsts = wire_keys.iter().step_by(setting.k as usize);
         right &= self.law(KEY_IS_EXTERNAL, firsts.eq(&wire_externals));
-        let decoded = self.decode(&setting.file, &wire_externals, &garbled.output_masks);
+        let decoding = self.decoding(&opening, &wire_externals, &garbled.output_masks);
+        let decoded = self.decoded(&decoding);
         let plain = plain(&setting.file, values, circuit.outputs.len());
         right &= self.law(PLAIN_DECODED, decoded.is_some() && decoded == plain);
         Opened {
             keys,
             opening,
+            decoding,
             wire_keys,
             wire_externals,
             right,

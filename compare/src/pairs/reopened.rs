@@ -24,7 +24,7 @@ pub fn sorts() -> Vec<String> {
 
 impl Case<'_> {
     pub fn reopen(&mut self, round: &Round) {
-        let [.., opening] = &round.steps;
+        let [.., opening, _] = &round.steps;
         let circuit = read(&opening.file).expect("an accepted circuit");
         for (way, other) in others(opening.round, &mut self.rng) {
             let mut step = opening.clone();
@@ -49,7 +49,8 @@ impl Case<'_> {
             self.tally.counts.add(HEADING, sort, 0);
         }
         let externals = after.loan.buffers[3].content();
-        let decoded = self.decode(&step.file, externals, &round.output_masks);
+        let decoding = self.decoding(step, externals, &round.output_masks);
+        let decoded = self.decoded(&decoding);
         self.law(OPENS_ANYWAY, decoded.is_some());
     }
 }

@@ -50,6 +50,7 @@ fn play_case(seed: u64, number: u64, tally: &mut Tally, print: bool) {
     case.play_offsets(&with_buffers[..2]);
     case.play_owners(&round.steps);
     case.play_selectors(&round.steps);
+    case.play_seats(&round.steps);
     case.play_limits(&with_buffers[0]);
     for _ in 0..spoiled_calls(setting.cost()) {
         let good = one_of(&round.steps, &mut case.rng);
@@ -69,9 +70,9 @@ fn play_case(seed: u64, number: u64, tally: &mut Tally, print: bool) {
 
 /// A call of a round; those that check most are likeliest.
 fn one_of<'s>(steps: &'s [Step], rng: &mut Rng) -> &'s Step {
-    use Name::{Garble, InputKeys, Open, Read};
+    use Name::{Decode, Garble, InputKeys, Open, Read};
     let likely = [
-        Garble, Garble, Garble, InputKeys, InputKeys, InputKeys, Open, Open, Open, Read,
+        Garble, Garble, Garble, InputKeys, InputKeys, InputKeys, Open, Open, Open, Decode, Read,
     ];
     let name = rng.pick(&likely);
     let same = steps.iter().find(|step| step.name == name);

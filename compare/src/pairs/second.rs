@@ -4,7 +4,7 @@ use super::step::{Name, Step};
 use crate::call::{ACCEPTED, After, Answer, Loan};
 use crate::round::second::changed;
 use compare::circuit::Refusal;
-use compare::pair::{garble, input_keys, open, read};
+use compare::pair::{decode, garble, input_keys, open, read};
 
 /// Makes a call of this program.
 pub fn run(step: &Step) -> After {
@@ -45,6 +45,12 @@ fn made(step: &Step, loan: &mut Loan) -> Result<(), Refusal> {
             rows.content(),
             wire_keys.content_mut(),
             wire_externals.content_mut(),
+        ),
+        (Name::Decode, [externals, masks, outputs]) => decode(
+            file,
+            externals.content(),
+            masks.content(),
+            outputs.content_mut(),
         ),
         _ => unreachable!("each call is lent its own number of buffers"),
     }

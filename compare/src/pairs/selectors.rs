@@ -2,7 +2,7 @@
 
 use super::case::Case;
 use super::laws::FIRST_SELECTOR;
-use super::step::{NAMES, Step};
+use super::step::{NAMES, Name, Step};
 use crate::call::Answer;
 use compare::generate::selects::with_selects;
 
@@ -11,13 +11,14 @@ pub const HEADING: &str = "26 with selectors";
 const COUNTS: [&str; 2] = ["one", "several"];
 
 pub fn sorts() -> Vec<String> {
-    let sorts = |count: &str| NAMES.map(|name| format!("{} {count}", name.text()));
-    COUNTS.iter().flat_map(|count| sorts(count)).collect()
+    let judging = NAMES.into_iter().filter(|name| name.gives(26));
+    let sorts = |name: Name| COUNTS.map(|count| format!("{} {count}", name.text()));
+    judging.flat_map(sorts).collect()
 }
 
 impl Case<'_> {
-    /// Makes all calls of a round on its circuit with selectors put in. All else that is lent is as it
-    /// would be without them.
+    /// Makes all calls of a round but decoding, which takes any circuit, on its circuit with selectors put
+    /// in. All else that is lent is as it would be without them.
     pub fn play_selectors(&mut self, good: &[Step]) {
         let Some(file) = with_selects(&good[0].file, &mut self.rng) else {
             return;
@@ -34,7 +35,7 @@ impl Case<'_> {
             place: selectors[0],
         };
         let count = COUNTS[(selectors.len() - 1).min(1)];
-        for step in good {
+        for step in good.iter().filter(|step| step.name.gives(26)) {
             let step = Step {
                 file: file.clone(),
                 ..step.clone()

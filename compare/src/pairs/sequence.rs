@@ -73,9 +73,7 @@ impl Case<'_> {
             .zip(parties)
             .any(|(two, parties)| two && parties);
         let is = [start == NEW, start == NEARLY_FULL, sequence.went_on, both];
-        for (sort, _) in SORTS.into_iter().zip(is).filter(|(_, is)| *is) {
-            self.tally.counts.add(HEADING, sort, 0);
-        }
+        self.tally.counts.add_met(HEADING, &SORTS, &is, 0);
     }
 
     /// A garbling for two, now and then with faults that leave the meter as it is.

@@ -10,21 +10,22 @@ use compare::pair::{row_moduli, total_rows};
 use compare::rng::Rng;
 use std::fmt;
 
-/// The calls for two. Decoding is that of n parties.
+/// The calls for two, in the order of a round.
 #[derive(Clone, Copy, Debug, PartialEq, Eq, PartialOrd, Ord)]
 pub enum Name {
     Read,
     Garble,
     InputKeys,
     Open,
+    Decode,
 }
 
-use Name::{Garble, InputKeys, Open, Read};
+use Name::{Decode, Garble, InputKeys, Open, Read};
 
-pub const NAMES: [Name; 4] = [Read, Garble, InputKeys, Open];
+pub const NAMES: [Name; 5] = [Read, Garble, InputKeys, Open, Decode];
 
 /// Those that take more than a file.
-pub const WITH_BUFFERS: [Name; 3] = [Garble, InputKeys, Open];
+pub const WITH_BUFFERS: [Name; 4] = [Garble, InputKeys, Open, Decode];
 
 impl Name {
     pub fn text(self) -> &'static str {
@@ -33,6 +34,7 @@ impl Name {
             Garble => "pair_garble",
             InputKeys => "pair_input_keys",
             Open => "pair_open",
+            Decode => "pair_decode",
         }
     }
 
@@ -43,7 +45,13 @@ impl Name {
             Garble => &[26, 11, 13, 14, 25, 16, 27, 21],
             InputKeys => &[26, 11, 13, 14, 15, 16, 27],
             Open => &[26, 11, 13, 14, 18],
+            Decode => &[14, 15],
         }
+    }
+
+    /// Whether this is one of its refusals.
+    pub fn gives(self, number: u32) -> bool {
+        self.refusals().contains(&number)
     }
 
     /// The names of its buffers, in the order of its parameters.
@@ -53,6 +61,7 @@ impl Name {
             Garble => &["draw", "rows", "output_masks"],
             InputKeys => &["draw", "values", "keys"],
             Open => &["keys", "rows", "wire_keys", "wire_externals"],
+            Decode => &["externals", "masks", "outputs"],
         }
     }
 
@@ -70,11 +79,13 @@ impl Name {
     pub fn lengths(self, circuit: &Circuit, k: usize) -> Vec<usize> {
         let (wires, inputs) = (circuit.wires.len(), circuit.inputs);
         let (draw, rows) = (length(circuit, k), k * total_rows(circuit) as usize);
+        let outputs = circuit.outputs.len();
         match self {
             Read => vec![],
-            Garble => vec![draw, rows, circuit.outputs.len()],
+            Garble => vec![draw, rows, outputs],
             InputKeys => vec![draw, inputs, k * inputs],
             Open => vec![k * inputs, rows, k * wires, wires],
+            Decode => vec![wires, outputs, outputs],
         }
     }
 
@@ -87,6 +98,10 @@ impl Name {
             Garble => vec![byte_moduli(circuit, k)],
             InputKeys => vec![byte_moduli(circuit, k), inputs],
             Open => vec![each(&inputs), each(&row_moduli(circuit))],
+            Decode => vec![
+                circuit.wires.iter().map(|wire| wire.modulus).collect(),
+                circuit.output_moduli().collect(),
+            ],
         }
     }
 }
@@ -144,7 +159,7 @@ impl Step {
         let numbers = match self.name {
             Read => vec![self.before],
             Garble => self.meter.totals.to_vec(),
-            InputKeys | Open => Vec::new(),
+            InputKeys | Open | Decode => Vec::new(),
         };
         let lent = |buffer: &Vec<u8>| Lent::of(buffer).null_if_empty(self.nulls);
         let buffers = self.buffers.iter().map(lent).collect();
@@ -161,7 +176,7 @@ impl fmt::Display for Step {
         let round = format!("{:#010x}", self.round);
         write!(to, "{}", self.name.text())?;
         match self.name {
-            Read => write!(to, " file of {} bytes", self.file.len()),
+            Read | Decode => write!(to, " file of {} bytes", self.file.len()),
             Garble => {
                 write!(to, " k={k} round={round} account={account}")?;
                 write!(to, " meter={:?}", self.meter.totals)

@@ -1,13 +1,13 @@
 //! What a run has met.
 
-use super::counts::Counts;
 use super::difference::Difference;
 use super::due::{self, KEY_LENGTHS, NUMBERS, ROUND_NUMBERS, WITH_ROWS};
 use super::laws::LAWS;
 use super::order::choices;
 use super::play::Round;
 use super::step::{NAMES, Name, Step};
-use super::{garblings, gates};
+use super::{garblings, gates, seats};
+use crate::counts::Counts;
 use crate::round::laws::Laws;
 use crate::round::{self, Made};
 use crate::smallest::Smallest;
@@ -45,6 +45,7 @@ impl Tally {
         let number = made.ours.answer.number;
         *self.met.entry((step.name, number)).or_default() += 1;
         garblings::count(step, number, &mut self.counts);
+        seats::count(step, number, &mut self.counts);
         if made.ours != made.engines {
             self.differences += 1;
             self.smallest.keep(Difference {
@@ -83,11 +84,8 @@ impl Tally {
         }
         let circuit = read(&setting.file).expect("an accepted circuit");
         let is = gates::of_circuit(&circuit);
-        for (sort, is) in gates::SORTS_OF_CIRCUITS.into_iter().zip(is) {
-            if is {
-                self.counts.add(gates::CIRCUITS, sort, 0);
-            }
-        }
+        let sorts = gates::SORTS_OF_CIRCUITS;
+        self.counts.add_met(gates::CIRCUITS, &sorts, &is, 0);
         if setting.rows() == 0 {
             return;
         }

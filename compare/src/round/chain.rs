@@ -3,7 +3,8 @@
 use super::step::{Name, Step};
 use crate::call::{ACCEPTED, After, Call};
 use crate::{engine, second};
-use compare::circuit::{Circuit, read};
+use compare::circuit::{Circuit, Output, read};
+use compare::garble::UNREAD;
 use compare::generate::settings::Setting;
 use compare::rng::Rng;
 
@@ -14,10 +15,11 @@ pub struct Made {
     pub engines: After,
 }
 
-/// The calls of a round, of which the first is its garbling, what each party decoded, and whether that
-/// is what plain evaluation gives.
+/// The calls of a round, of which the first is its garbling, the sheet of each party, what it decoded,
+/// and whether that is what plain evaluation gives, or 255 where it may not read.
 pub struct Round {
     pub steps: Vec<Step>,
+    pub sheets: Vec<Vec<u8>>,
     pub decoded: Vec<Vec<u8>>,
     pub right: bool,
 }
@@ -31,12 +33,14 @@ pub fn play(setting: &Setting, rng: &mut Rng, make: &mut dyn FnMut(&Step) -> Mad
         rng,
         make,
         steps: Vec::new(),
+        sheets: Vec::new(),
         decoded: Vec::new(),
         accepted: true,
     };
     let right = player.round();
     Round {
         steps: player.steps,
+        sheets: player.sheets,
         decoded: player.decoded,
         right,
     }
@@ -48,18 +52,21 @@ struct Player<'p> {
     rng: &'p mut Rng,
     make: &'p mut dyn FnMut(&Step) -> Made,
     steps: Vec<Step>,
+    sheets: Vec<Vec<u8>>,
     decoded: Vec<Vec<u8>>,
     accepted: bool,
 }
 
 impl Player<'_> {
-    /// Whether the engine accepted every call and every party decoded the plain outputs.
+    /// Whether the engine accepted every call and every party decoded the plain outputs that it may read.
     fn round(&mut self) -> bool {
         let parties = 0..self.setting.n;
         let garbled = self.written(Name::Garble, 0, vec![self.setting.contributions.clone()]);
         let [rows, input_masks, output_masks] = &garbled[..] else {
             unreachable!("garbling writes three buffers");
         };
+        let sheets = output_masks.chunks(self.circuit.outputs.len());
+        self.sheets = sheets.map(<[u8]>::to_vec).collect();
         let externals = self.externals(input_masks);
         let keys = self.input_keys(&externals);
         let plain = self.plain();
@@ -68,12 +75,23 @@ impl Player<'_> {
             let own = self.contribution(party);
             let given = vec![own, externals.clone(), keys.clone(), rows.clone()];
             let opened = self.written(Name::Open, party, given);
-            let given = vec![opened[1].clone(), output_masks.clone()];
+            let sheet = self.sheets[party as usize].clone();
+            let given = vec![opened[1].clone(), sheet];
             let decoded = self.written(Name::Decode, party, given).swap_remove(0);
-            right &= plain.as_ref() == Some(&decoded);
+            right &= self.due(party, plain.as_deref()) == Some(decoded.clone());
             self.decoded.push(decoded);
         }
         right && self.accepted
+    }
+
+    /// What a party must decode: the plain outputs, and 255 where it may not read.
+    fn due(&self, party: u32, plain: Option<&[u8]>) -> Option<Vec<u8>> {
+        let outputs = self.circuit.outputs.iter().zip(plain?);
+        let due = |(output, value): (&Output, &u8)| match output.is_for(party) {
+            true => *value,
+            false => UNREAD,
+        };
+        Some(outputs.map(due).collect())
     }
 
     /// Makes a call of both programs, and gives what the engine wrote.

@@ -85,6 +85,8 @@ unsafe extern "C" {
     fn lupiknam_decode(
         file: *const u8,
         file_length: usize,
+        n: u32,
+        party: u32,
         externals: *const u8,
         externals_length: usize,
         masks: *const u8,
@@ -102,7 +104,7 @@ pub fn run(step: &Step) -> After {
         Name::Externals => externals(step, &mut loan),
         Name::InputKeys => input_keys(step, &mut loan),
         Name::Open => open(step, &mut loan),
-        Name::Decode => decode(&mut loan),
+        Name::Decode => decode(step, &mut loan),
     };
     After { answer, loan }
 }
@@ -200,8 +202,9 @@ fn open(step: &Step, loan: &mut Loan) -> Answer {
     }
 }
 
-fn decode(loan: &mut Loan) -> Answer {
+fn decode(step: &Step, loan: &mut Loan) -> Answer {
     let (file, size) = loan.file.pointer();
     let [(externals, e), (masks, m), (outputs, o)] = pointers(&mut loan.buffers);
-    unsafe { lupiknam_decode(file, size, externals, e, masks, m, outputs, o) }
+    let Step { n, party, .. } = *step;
+    unsafe { lupiknam_decode(file, size, n, party, externals, e, masks, m, outputs, o) }
 }

@@ -7,6 +7,7 @@ use super::step::{Name, Step};
 use compare::circuit::{Circuit, read};
 use compare::contribution::{combined, length};
 use compare::generate::meters::{with_space, without_space, wrong_account};
+use compare::generate::named::put_any_seats;
 use compare::generate::round_numbers::others;
 use compare::meter::ACCOUNTS;
 use compare::rng::Rng;
@@ -41,7 +42,7 @@ struct Spoiler<'s> {
 impl Spoiler<'_> {
     /// Puts in one fault, or what might be one.
     fn spoil(&mut self, step: &mut Step) {
-        match self.rng.below(23) {
+        match self.rng.below(24) {
             0 => step.n = self.number(step.n, 8),
             1 => step.k = self.number(step.k, 128),
             2 => step.party = self.party(step),
@@ -57,6 +58,7 @@ impl Spoiler<'_> {
             19 => self.raise_both(step),
             20 => self.round(step),
             21 => self.account(step),
+            22 => put_any_seats(&mut step.file, self.rng),
             _ => self.file(step),
         }
     }

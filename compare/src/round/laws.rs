@@ -2,13 +2,30 @@
 
 use std::collections::BTreeMap;
 
-pub const FIRST_FAULT: &str = "the first of a garbling's faults is named";
+pub const FIRST_FAULT: &str = "the first of a call's faults is named";
+pub const FIRST_STRANGER: &str = "28 names the first output that names a seat at or above n";
+pub const SHEETS_WRITTEN: &str =
+    "a sheet has 255 where its seat may not read, and the mask of each output elsewhere";
+pub const SAME_SHEET: &str =
+    "equal masks of all that a seat may read give it the same sheet, whatever else is drawn";
+pub const UNREAD_PASSED: &str = "no byte of a sheet where its seat may not read changes a figure";
+pub const LOWEST_COUNTS: &str =
+    "15 passes over masks that a seat may not read, and over no external value";
 pub const TOTALS_RECKONED: &str =
     "after a sequence each total is its start plus the rows accepted in its name";
 pub const TOTAL_CARRIED: &str = "an old total becomes account 0's, the others are 0";
 
 /// All of them; a thorough run looks at each.
-pub const LAWS: [&str; 3] = [FIRST_FAULT, TOTALS_RECKONED, TOTAL_CARRIED];
+pub const LAWS: [&str; 8] = [
+    FIRST_FAULT,
+    FIRST_STRANGER,
+    SHEETS_WRITTEN,
+    SAME_SHEET,
+    UNREAD_PASSED,
+    LOWEST_COUNTS,
+    TOTALS_RECKONED,
+    TOTAL_CARRIED,
+];
 
 #[derive(Default)]
 pub struct Laws {

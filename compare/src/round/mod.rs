@@ -3,15 +3,18 @@
 
 mod account_tally;
 pub mod accounts;
+mod again;
 mod caller;
 mod carry;
 mod chain;
 pub mod difference;
+mod due;
 pub mod engine;
 mod faults;
 pub mod laws;
 mod loose;
 mod order;
+mod readers;
 mod reopened;
 mod run;
 pub mod second;
@@ -19,7 +22,9 @@ mod sequence;
 mod several;
 mod squares;
 mod step;
+mod strangers;
 mod tally;
+mod unread;
 
 pub use account_tally::{ABOVE, above};
 pub use caller::make;

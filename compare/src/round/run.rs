@@ -8,7 +8,7 @@ use super::reopened::reopen;
 use super::squares::lend_old_layout;
 use super::step::{Name, Step};
 use super::tally::Tally;
-use super::{carry, order, sequence};
+use super::{again, carry, order, readers, sequence, strangers, unread};
 use compare::generate::settings::setting;
 use compare::rng::Rng;
 use std::process::ExitCode;
@@ -32,7 +32,8 @@ pub fn one(seed: u64, case: u64) -> ExitCode {
 }
 
 /// A case: a whole round, openings of it with other round numbers, calls lent the squares' old
-/// layout, calls with faults, old totals carried over, and a sequence of garblings.
+/// layout, calls with faults, what goes with the seats that outputs name, old totals carried over, and
+/// a sequence of garblings.
 fn play_case(seed: u64, case: u64, tally: &mut Tally, print: bool) {
     let mut rng = Rng::of_case(seed, case);
     let setting = setting(case, &mut rng);
@@ -54,8 +55,11 @@ fn play_case(seed: u64, case: u64, tally: &mut Tally, print: bool) {
         count(&loose(&setting.file, &mut rng));
         count(&on_any_file(&mut rng));
     }
-    // A round begins with its garbling.
-    order::play(&round.steps[0], &mut rng, &mut caller);
+    order::play(&round.steps, &mut rng, &mut caller);
+    strangers::play(&round.steps, &mut rng, &mut caller);
+    readers::look_at_sheets(&setting, &round, &mut caller);
+    unread::play(&round, &mut rng, &mut caller);
+    again::play(&setting, &round, &mut rng, &mut caller);
     for carry in carry::drawn(&mut rng) {
         caller.carry(&carry);
     }

@@ -78,6 +78,7 @@ fn made(step: &Step, loan: &mut Loan) -> Result<(), Refusal> {
         ),
         (Name::Decode, [externals, masks, outputs]) => decode(
             file,
+            (n, party),
             externals.content(),
             masks.content(),
             outputs.content_mut(),

@@ -38,11 +38,10 @@ impl Name {
     /// The refusals that this call can give, beside 1 to 10, in the order of its checks.
     pub fn refusals(self) -> &'static [u32] {
         match self {
-            Garble => &[11, 13, 14, 25, 16, 17, 21],
-            Externals => &[11, 12, 13, 14, 15],
-            InputKeys => &[11, 12, 13, 14, 15, 16, 17],
-            Open => &[11, 12, 13, 14, 15, 16, 17, 18, 19, 20],
-            Decode => &[14, 15],
+            Garble => &[11, 13, 28, 14, 25, 16, 17, 21],
+            Externals | Decode => &[11, 12, 13, 28, 14, 15],
+            InputKeys => &[11, 12, 13, 28, 14, 15, 16, 17],
+            Open => &[11, 12, 13, 28, 14, 15, 16, 17, 18, 19, 20],
         }
     }
 
@@ -78,7 +77,7 @@ impl Name {
         matches!(self, Garble | Open)
     }
 
-    /// Whether its first buffer holds one or several contributions.
+    /// Whether its first buffer holds one or several contributions. Then it takes the key length too.
     pub fn has_contribution(self) -> bool {
         matches!(self, Garble | InputKeys | Open)
     }
@@ -91,7 +90,7 @@ impl Name {
         let contribution = length(circuit, k);
         let own = circuit.inputs_of(party) as usize;
         match self {
-            Garble => vec![n * contribution, rows, inputs, outputs],
+            Garble => vec![n * contribution, rows, inputs, n * outputs],
             Externals => vec![own; 3],
             InputKeys => vec![contribution, inputs, inputs * k],
             Open => {
@@ -102,7 +101,8 @@ impl Name {
         }
     }
 
-    /// The modulus of each byte of the buffers that it only reads.
+    /// The modulus of each byte of the buffers that it only reads; of a sheet's also where its party may
+    /// not read.
     fn moduli(self, circuit: &Circuit, n: usize, k: usize, party: u32) -> Vec<Vec<u8>> {
         let inputs: Vec<u8> = circuit.input_moduli().collect();
         let each = |moduli: &[u8], times: usize| -> Vec<u8> {
@@ -213,10 +213,9 @@ impl fmt::Display for Step {
                 write!(to, " n={n} k={k} round={round} account={account}")?;
                 write!(to, " meter={:?}", self.meter.totals)
             }
-            Externals => write!(to, " n={n} party={party}"),
+            Externals | Decode => write!(to, " n={n} party={party}"),
             InputKeys => write!(to, " n={n} k={k} party={party}"),
             Open => write!(to, " n={n} k={k} party={party} round={round}"),
-            Decode => Ok(()),
         }
     }
 }

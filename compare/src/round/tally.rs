@@ -9,7 +9,9 @@ use super::reopened::Reopened;
 use super::several::sorts;
 use super::squares::{self, SORTS};
 use super::step::{NAMES, Name, Step};
+use super::{due, readers};
 use crate::call::Answer;
+use crate::counts::Counts;
 use crate::smallest::Smallest;
 use compare::generate::circuits::all_moduli;
 use compare::generate::round_numbers::{WAYS, has_different_bytes};
@@ -19,7 +21,7 @@ use std::process::ExitCode;
 
 /// A run of this many cases must meet every refusal that each call can give, 16 and 18 with several
 /// bytes too large, the round numbers below, squares of each sort at every modulus, the refusals of
-/// their old layout, what is counted of accounts, and each law.
+/// their old layout, what is counted of accounts and of the seats that outputs name, and each law.
 const THOROUGH: u64 = 1000;
 
 /// A sort of round numbers, by its name.
@@ -56,6 +58,8 @@ pub struct Tally {
     /// How often each call refused a contribution in the squares' old layout.
     old_layout: BTreeMap<Name, u64>,
     pub accounts: AccountTally,
+    /// What was met of the seats that outputs name.
+    pub counts: Counts,
     pub laws: Laws,
     smallest: Smallest<Difference>,
     smallest_carries: Smallest<carry::Difference>,
@@ -102,6 +106,9 @@ impl Tally {
         let right = round.right;
         self.rounds += 1;
         self.wrong_rounds += u64::from(!right);
+        if right {
+            readers::count(setting, &mut self.counts);
+        }
         if setting.rows() == 0 {
             return;
         }
@@ -159,7 +166,7 @@ impl Tally {
 
     /// Prints the counts; the run failed if anything is wrong, or if a long run missed a refusal, a
     /// sort of several bytes too large, a sort of round numbers, a sort of squares, something of
-    /// accounts or a law.
+    /// accounts or of named seats, or a law.
     pub fn report(mut self) -> ExitCode {
         let count = self.passed + self.failed;
         let mut missed = Vec::new();
@@ -172,6 +179,9 @@ impl Tally {
         missed.extend(self.line_of_squares());
         missed.extend(self.line_of_old_layout());
         missed.extend(self.accounts.lines());
+        for due in due::all() {
+            missed.extend(self.counts.lines(&due));
+        }
         missed.extend(self.laws.lines(&LAWS));
         self.failed += self.laws.unlisted(&LAWS);
         println!(

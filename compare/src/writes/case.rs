@@ -142,6 +142,7 @@ fn any_record(rng: &mut Rng) -> Record {
     for field in record.fields_mut() {
         *field = rng.next_u32();
     }
+    record.named = rng.next_u32() as u8;
     record
 }
 

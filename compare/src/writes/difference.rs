@@ -28,7 +28,7 @@ impl smallest::Difference for Difference {
             file,
             ..
         } = &self.call;
-        28 * records.len() + tables.len() + file.len()
+        32 * records.len() + tables.len() + file.len()
     }
 }
 

@@ -22,6 +22,7 @@ const BLANK: Record = Record {
     bit: BLANK_NUMBER,
     a: BLANK_NUMBER,
     b: BLANK_NUMBER,
+    named: BLANK_NUMBER as u8,
 };
 
 impl LentRecords {

@@ -8,6 +8,7 @@ mod engine;
 mod laws;
 mod lent;
 mod run;
+mod seats;
 mod second;
 mod tally;
 

@@ -2,14 +2,16 @@
 
 use super::call::{Call, Made, Name};
 use super::difference::Difference;
+use super::seats;
 use crate::call::Answer;
+use crate::counts::Counts;
 use crate::smallest::Smallest;
 use std::collections::BTreeMap;
 use std::process::ExitCode;
 
 /// A run of this many cases must meet every refusal that writing can give, at every sort of
-/// record, and the refusal of wrong lengths in taking back.
-const THOROUGH: u64 = 5000;
+/// record, what is counted of named seats, and the refusal of wrong lengths in taking back.
+const THOROUGH: u64 = 6000;
 
 /// Where writing refuses, and by which numbers it can there.
 const REFUSALS: [(&str, &[u32]); 10] = [
@@ -35,6 +37,8 @@ pub struct Tally {
     written: BTreeMap<(&'static str, u32), u64>,
     /// How often taking back gave each number.
     taken: BTreeMap<u32, u64>,
+    /// What was met of the seats that outputs name.
+    counts: Counts,
     smallest: Smallest<Difference>,
     /// The laws: how often each was looked at, how often it did not hold, and the first such case.
     laws: BTreeMap<&'static str, (u64, u64, u64)>,
@@ -53,6 +57,7 @@ impl Tally {
             Name::Records => self.taken.entry(answer.number).or_default(),
         };
         *met += 1;
+        seats::count(call, made, &mut self.counts);
         if made.ours != made.engines {
             self.differences += 1;
             self.smallest.keep(Difference {
@@ -108,6 +113,9 @@ impl Tally {
             missed.extend(self.line(place, numbers));
         }
         missed.extend(self.line_of_records());
+        for due in seats::due() {
+            missed.extend(self.counts.lines(&due));
+        }
         for (law, (times, broken, _)) in &self.laws {
             println!("{law}: {times} times, {broken} not");
         }
@@ -152,7 +160,7 @@ impl Tally {
 }
 
 /// Where an answer to writing points: the sort of the record, or what comes after all of them.
-fn place_of(call: &Call, answer: Answer) -> &'static str {
+pub fn place_of(call: &Call, answer: Answer) -> &'static str {
     match answer.number {
         0 => return "list",
         22 => return "buffer",

@@ -14,7 +14,7 @@ use Rattle.words.specs.declared.gate.Wire.{Wire}
 use Rattle.circuit.specs.Wires.{wireAt, modulusAt}
 use Rattle.circuit.specs.File.{readFile}
 use Rattle.counts.specs.Counts.{ownedBy}
-use Rattle.session.specs.Session.{fileChecked, partiesChecked, partyChecked, ownersChecked, lengthsChecked, tooLarge}
+use Rattle.session.specs.Session.{fileChecked, partiesChecked, partyChecked, partakersChecked, lengthsChecked, tooLarge}
 
 -- the wires of a party's own inputs, ascending
 unfoldable pub ownInputs : ℕ → List Wire → List ℕ
@@ -37,10 +37,10 @@ module _ (party : ℕ) (wires : List Wire) (values masks : List ℕ) where
   externalsLent externals =
       andThen (lengthsChecked (length values ∷ length masks ∷ externals ∷ []) (length own ∷ length own ∷ length own ∷ [])) externalsBytes
 
-  -- 11, 12 and 13, with n parties, then those
-  abbrev pub externalsAsked : ℕ → ℕ → Answer
-  externalsAsked n externals =
-      andThen (partiesChecked n) (andThen (partyChecked n party) (andThen (ownersChecked n wires) (externalsLent externals)))
+  -- 11, 12, 13 and 28, with n parties, where the outputs name these, then those
+  abbrev pub externalsAsked : List ℕ → ℕ → ℕ → Answer
+  externalsAsked named n externals =
+      andThen (partiesChecked n) (andThen (partyChecked n party) (andThen (partakersChecked n wires named) (externalsLent externals)))
 
   -- e = (v + m) mod p
   abbrev pub externalsMade : List ℕ
@@ -52,7 +52,7 @@ module _ (file : List ℕ) (n party : ℕ) (values masks externals : List ℕ) w
   wires = readFile file .wires
 
   unfoldable pub externalsChecked : Answer
-  externalsChecked = andThen (fileChecked file) (externalsAsked party wires values masks n (length externals))
+  externalsChecked = andThen (fileChecked file) (externalsAsked party wires values masks (readFile file .named) n (length externals))
 
   unfoldable pub externalsAfter : List ℕ
   externalsAfter = afterwards externalsChecked (externalsMade party wires values masks) externals

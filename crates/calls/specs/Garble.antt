@@ -1,4 +1,4 @@
--- The call for garbling in a round: from all n contributions, rows, one mask byte per input and one per output; the row meter in and
+-- The call for garbling in a round: from all n contributions, rows, one mask byte per input and n sheets with one per output; the row meter in and
 -- back, the named account charged.
 -- Assumes nothing.
 use mathlib.Core.Path.{_≡_}
@@ -15,8 +15,8 @@ use Rattle.counts.specs.Counts.{rowsIn}
 use Rattle.scheme.specs.Contribution.{contributionSize}
 use Rattle.scheme.specs.Draw.{Draw, drawn}
 use Rattle.pads.specs.Pad.{Pad, shakePad}
-use Rattle.scheme.specs.Rows.{garbledRows, inputMasks, outputMasks}
-use Rattle.session.specs.Session.{fileChecked, sessionChecked, ownersChecked, lengthsChecked}
+use Rattle.scheme.specs.Rows.{garbledRows, inputMasks, outputSheets}
+use Rattle.session.specs.Session.{fileChecked, sessionChecked, partakersChecked, lengthsChecked}
 use Rattle.scheme.specs.Bytes.{contributionsChecked, offsetsChecked}
 
 -- on the wires and outputs of a circuit: 16 and 17
@@ -32,19 +32,19 @@ module _ (n K : ℕ) (wires : List Wire) (outputs contributions : List ℕ) wher
   abbrev pub garbleLengths : ℕ → ℕ → ℕ → Answer
   garbleLengths rows masks outs =
       lengthsChecked (length contributions ∷ rows ∷ masks ∷ outs ∷ [])
-      (n * contributionSize K wires ∷ rowsIn wires * (n * K) ∷ inputsIn wires ∷ length outputs ∷ [])
+      (n * contributionSize K wires ∷ rowsIn wires * (n * K) ∷ inputsIn wires ∷ n * length outputs ∷ [])
 
   -- 14, then 25, 16 and 17, where this account is named
   abbrev pub garbleLent : ℕ → ℕ → ℕ → ℕ → Answer
   garbleLent rows masks outs account = andThen (garbleLengths rows masks outs) (garbleNamed n K wires contributions account)
 
-  -- 13, then those
-  abbrev pub garbleOwned : ℕ → ℕ → ℕ → ℕ → Answer
-  garbleOwned rows masks outs account = andThen (ownersChecked n wires) (garbleLent rows masks outs account)
+  -- 13 and 28, where the outputs name these, then those
+  abbrev pub garbleOwned : List ℕ → ℕ → ℕ → ℕ → ℕ → Answer
+  garbleOwned named rows masks outs account = andThen (partakersChecked n wires named) (garbleLent rows masks outs account)
 
   -- 11, then those
-  abbrev pub garbleAsked : ℕ → ℕ → ℕ → ℕ → Answer
-  garbleAsked rows masks outs account = andThen (sessionChecked n K) (garbleOwned rows masks outs account)
+  abbrev pub garbleAsked : List ℕ → ℕ → ℕ → ℕ → ℕ → Answer
+  garbleAsked named rows masks outs account = andThen (sessionChecked n K) (garbleOwned named rows masks outs account)
 
 -- the call: the file first, the meter's limit last
 module _ (file : List ℕ) (n K : ℕ) (contributions rows masks outs : List ℕ) (meter : Charge) where
@@ -54,12 +54,15 @@ module _ (file : List ℕ) (n K : ℕ) (contributions rows masks outs : List ℕ
   abbrev outputs : List ℕ
   outputs = readFile file .outputs
 
+  abbrev named : List ℕ
+  named = readFile file .named
+
   abbrev draw : Draw
   draw = drawn n K wires contributions
 
   unfoldable pub garbleChecked : Answer
   garbleChecked =
-      andThen (andThen (fileChecked file) (garbleAsked n K wires outputs contributions (length rows) (length masks) (length outs) (meter .account)))
+      andThen (andThen (fileChecked file) (garbleAsked n K wires outputs contributions named (length rows) (length masks) (length outs) (meter .account)))
       (meterChecked meter (rowsIn wires))
 
   -- afterwards: input masks, output masks, meter, and the rows, which alone depend on the pad
@@ -67,7 +70,7 @@ module _ (file : List ℕ) (n K : ℕ) (contributions rows masks outs : List ℕ
   garbleInputMasks = afterwards garbleChecked (inputMasks wires draw) masks
 
   unfoldable pub garbleOutputMasks : List ℕ
-  garbleOutputMasks = afterwards garbleChecked (outputMasks wires outputs draw) outs
+  garbleOutputMasks = afterwards garbleChecked (outputSheets wires outputs named draw n) outs
 
   unfoldable pub garbleMeter : List ℕ
   garbleMeter = afterwards garbleChecked (charged meter (rowsIn wires)) (meter .totals)

@@ -13,7 +13,7 @@ use Rattle.circuit.specs.Wires.{modulusAt, inputsIn}
 use Rattle.circuit.specs.File.{readFile}
 use Rattle.scheme.specs.Contribution.{contributionSize}
 use Rattle.scheme.specs.Draw.{Draw, drawn}
-use Rattle.session.specs.Session.{fileChecked, sessionChecked, partyChecked, ownersChecked, lengthsChecked, valuesChecked}
+use Rattle.session.specs.Session.{fileChecked, sessionChecked, partyChecked, partakersChecked, lengthsChecked, valuesChecked}
 use Rattle.scheme.specs.Bytes.{contributionsChecked, offsetsChecked}
 
 -- a party's key on input w: its zero key plus the external value times its offset
@@ -35,13 +35,13 @@ module _ (K : ℕ) (wires : List Wire) (contribution externals : List ℕ) where
       (lengthsChecked (length contribution ∷ length externals ∷ keys ∷ []) (contributionSize K wires ∷ inputsIn wires ∷ inputsIn wires * K ∷ []))
       inputKeysBytes
 
-  -- 12 and 13, with n parties, then those
-  abbrev pub inputKeysParty : ℕ → ℕ → ℕ → Answer
-  inputKeysParty n party keys = andThen (partyChecked n party) (andThen (ownersChecked n wires) (inputKeysLent keys))
+  -- 12, 13 and 28, with n parties, where the outputs name these, then those
+  abbrev pub inputKeysParty : List ℕ → ℕ → ℕ → ℕ → Answer
+  inputKeysParty named n party keys = andThen (partyChecked n party) (andThen (partakersChecked n wires named) (inputKeysLent keys))
 
   -- 11, then those
-  abbrev pub inputKeysAsked : ℕ → ℕ → ℕ → Answer
-  inputKeysAsked n party keys = andThen (sessionChecked n K) (inputKeysParty n party keys)
+  abbrev pub inputKeysAsked : List ℕ → ℕ → ℕ → ℕ → Answer
+  inputKeysAsked named n party keys = andThen (sessionChecked n K) (inputKeysParty named n party keys)
 
   abbrev pub inputKeysMade : List ℕ
   inputKeysMade = blocks (inputsIn wires) (inputKey wires (drawn 1 K wires contribution) externals)
@@ -52,7 +52,7 @@ module _ (file : List ℕ) (n K party : ℕ) (contribution externals keys : List
   wires = readFile file .wires
 
   unfoldable pub inputKeysChecked : Answer
-  inputKeysChecked = andThen (fileChecked file) (inputKeysAsked K wires contribution externals n party (length keys))
+  inputKeysChecked = andThen (fileChecked file) (inputKeysAsked K wires contribution externals (readFile file .named) n party (length keys))
 
   unfoldable pub inputKeysAfter : List ℕ
   inputKeysAfter = afterwards inputKeysChecked (inputKeysMade K wires contribution externals) keys

@@ -19,7 +19,7 @@ use Rattle.scheme.specs.Draw.{Draw, drawn}
 use Rattle.pads.specs.Pad.{Pad, shakePad}
 use Rattle.search.specs.Search.{same}
 use Rattle.scheme.specs.Opening.{opened, wireKeys, wireExternals, nothing}
-use Rattle.session.specs.Session.{fileChecked, sessionChecked, partyChecked, ownersChecked, lengthsChecked, valuesChecked}
+use Rattle.session.specs.Session.{fileChecked, sessionChecked, partyChecked, partakersChecked, lengthsChecked, valuesChecked}
 use Rattle.scheme.specs.Bytes.{contributionsChecked, offsetsChecked, keysChecked, rowsChecked}
 use Rattle.calls.specs.InputKeys.{inputKey}
 
@@ -45,13 +45,13 @@ module _ (n K : ℕ) (wires : List Wire) (contribution externals keys rows : Lis
   abbrev pub openLent : ℕ → ℕ → Answer
   openLent wkeys wexternals = andThen (openLengths wkeys wexternals) openBytes
 
-  -- 12 and 13, then those
-  abbrev pub openParty : ℕ → ℕ → ℕ → Answer
-  openParty party wkeys wexternals = andThen (partyChecked n party) (andThen (ownersChecked n wires) (openLent wkeys wexternals))
+  -- 12, 13 and 28, where the outputs name these, then those
+  abbrev pub openParty : List ℕ → ℕ → ℕ → ℕ → Answer
+  openParty named party wkeys wexternals = andThen (partyChecked n party) (andThen (partakersChecked n wires named) (openLent wkeys wexternals))
 
   -- 11, then those
-  abbrev pub openAsked : ℕ → ℕ → ℕ → Answer
-  openAsked party wkeys wexternals = andThen (sessionChecked n K) (openParty party wkeys wexternals)
+  abbrev pub openAsked : List ℕ → ℕ → ℕ → ℕ → Answer
+  openAsked named party wkeys wexternals = andThen (sessionChecked n K) (openParty named party wkeys wexternals)
 
 -- 19: the party's own key on each input is zero key plus external value times offset
 module _ (n K party : ℕ) (wires : List Wire) (contribution externals keys : List ℕ) where
@@ -71,7 +71,7 @@ unfoldable pub beforeOpening : List ℕ → ℕ → ℕ → ℕ → List ℕ →
 beforeOpening file n K party contribution externals keys rows wkeys wexternals =
     andThen
     (andThen (fileChecked file)
-    (openAsked n K (readFile file .wires) contribution externals keys rows party (length wkeys) (length wexternals)))
+    (openAsked n K (readFile file .wires) contribution externals keys rows (readFile file .named) party (length wkeys) (length wexternals)))
     (ownKeysChecked n K party (readFile file .wires) contribution externals keys)
 
 module _ (pad : Pad) (file : List ℕ) (n K party : ℕ) (contribution externals keys rows wkeys wexternals : List ℕ) where

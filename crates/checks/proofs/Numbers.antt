@@ -5,7 +5,7 @@ use Prim.Native.Nat.{ℕ, _<_}
 use native.Mathlib.Omega.{arith}
 use lib.Dec.{lit<}
 use Rattle.checks.specs.declared.Refusal.{Refusal}
-use Rattle.checks.specs.declared.Refusal.the-variants.{NoHead, UnknownWord, NotDue, NotPrime, NotMade, ModuliDiffer, OutOfRange, TooMany, NoOutput, WrongEnd, SessionRange, NoSuchParty, OwnerAbsent, WrongLength, ValueTooLarge, ContributionTooLarge, ZeroOffset, KeyOrRowTooLarge, WrongInputKey, NoMultiplier, MeterFull, TooShort, BundleRange, IntegerTooLarge, NoSuchAccount, SelectPresent, OffsetNotOne}
+use Rattle.checks.specs.declared.Refusal.the-variants.{NoHead, UnknownWord, NotDue, NotPrime, NotMade, ModuliDiffer, OutOfRange, TooMany, NoOutput, WrongEnd, SessionRange, NoSuchParty, OwnerAbsent, WrongLength, ValueTooLarge, ContributionTooLarge, ZeroOffset, KeyOrRowTooLarge, WrongInputKey, NoMultiplier, MeterFull, TooShort, BundleRange, IntegerTooLarge, NoSuchAccount, SelectPresent, OffsetNotOne, NamedAbsent}
 use Rattle.checks.specs.Answer.{numberOf, numberIn}
 use Rattle.checks.specs.declared.Answer.{Answer}
 use Rattle.checks.specs.declared.Answer.the-variants.{Accepted, Refused}
@@ -42,6 +42,7 @@ some-number IntegerTooLarge = lit< tt
 some-number NoSuchAccount = lit< tt
 some-number SelectPresent = lit< tt
 some-number OffsetNotOne = lit< tt
+some-number NamedAbsent = lit< tt
 
 pub zero-passed : {checks : Answer} {number place : ℕ} → Reports checks number place → number ≡ 0 → checks ≡ Accepted
 zero-passed {checks} r e = by checks (sym (r .numberIs) ∙ e)

@@ -2,7 +2,7 @@
 -- Assumes nothing.
 use Prim.Native.Nat.{ℕ}
 use Rattle.checks.specs.declared.Refusal.{Refusal}
-use Rattle.checks.specs.declared.Refusal.the-variants.{NoHead, UnknownWord, NotDue, NotPrime, NotMade, ModuliDiffer, OutOfRange, TooMany, NoOutput, WrongEnd, SessionRange, NoSuchParty, OwnerAbsent, WrongLength, ValueTooLarge, ContributionTooLarge, ZeroOffset, KeyOrRowTooLarge, WrongInputKey, NoMultiplier, MeterFull, TooShort, BundleRange, IntegerTooLarge, NoSuchAccount, SelectPresent, OffsetNotOne}
+use Rattle.checks.specs.declared.Refusal.the-variants.{NoHead, UnknownWord, NotDue, NotPrime, NotMade, ModuliDiffer, OutOfRange, TooMany, NoOutput, WrongEnd, SessionRange, NoSuchParty, OwnerAbsent, WrongLength, ValueTooLarge, ContributionTooLarge, ZeroOffset, KeyOrRowTooLarge, WrongInputKey, NoMultiplier, MeterFull, TooShort, BundleRange, IntegerTooLarge, NoSuchAccount, SelectPresent, OffsetNotOne, NamedAbsent}
 use Rattle.checks.specs.declared.Answer.{Answer}
 use Rattle.checks.specs.declared.Answer.the-variants.{Accepted, Refused}
 
@@ -61,6 +61,8 @@ numberOf NoSuchAccount = 25
 numberOf SelectPresent = 26
 -- component 0 of an offset is not 1, in the two-party form
 numberOf OffsetNotOne = 27
+-- a party named by an output not below the number of parties
+numberOf NamedAbsent = 28
 
 -- an answer's number and place, 0 and 0 where the call is accepted
 abbrev pub numberIn : Answer → ℕ

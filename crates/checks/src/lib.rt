@@ -36,6 +36,7 @@ pub enum Refusal {
     NoSuchAccount,
     SelectPresent,
     OffsetNotOne,
+    NamedAbsent,
 }
 
 pub enum Answer {
@@ -75,6 +76,7 @@ pub fn number(reason: Refusal) -> u32
         Refusal::NoSuchAccount => 25,
         Refusal::SelectPresent => 26,
         Refusal::OffsetNotOne => 27,
+        Refusal::NamedAbsent => 28,
     }
 }
 

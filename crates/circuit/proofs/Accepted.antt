@@ -25,12 +25,12 @@ abbrev Good : List ℕ → Read → Type 0
 Good file read = read .answer ≡ Accepted → AcceptedCircuit file (read .wires) (read .outputs)
 
 finish :
-    (b : Bool) (file : List ℕ) (at : ℕ) (wires : List Wire) (given : List ℕ)
+    (b : Bool) (file : List ℕ) (at : ℕ) (wires : List Wire) (given named : List ℕ)
     → Sound file at wires given
     → 0 < length given
-    → Good file (ended b at wires given)
+    → Good file (ended b at wires given named)
 unfolding ended
-finish true file at wires given s l e =
+finish true file at wires given named s l e =
     record {
       wiresLimit = s .wiresLimit;
       outputsSome = l;
@@ -39,7 +39,7 @@ finish true file at wires given s l e =
       inputsFirst = s .inputsFirst;
       fits = s .fits;
     }
-finish false file at wires given s l e = never e
+finish false file at wires given named s l e = never e
 
 module _ (file : List ℕ) (at : ℕ) (wires : List Wire) (given : List ℕ) (then : Due → List Wire → List ℕ → Read)
     (rest : (due : Due) (wires : List Wire) (given : List ℕ) → State file (suc at) due wires given → Good file (then due wires given)) where
@@ -49,7 +49,7 @@ module _ (file : List ℕ) (at : ℕ) (wires : List Wire) (given : List ℕ) (th
   step (Next.makes st) e = rest _ _ _ st e
   step (Next.goes st) e = rest _ _ _ st e
   step (Next.gives st) e = rest _ _ _ st e
-  step (Next.ends s some) e = finish _ file at wires given s some e
+  step (Next.ends s some) e = finish _ file at wires given _ s some e
 
 from :
     (file : List ℕ) (left at : ℕ) (due : Due) (wires : List Wire) (given : List ℕ)

@@ -26,8 +26,9 @@ use Rattle.words.specs.declared.gate.Step.{Step}
 use Rattle.words.specs.declared.gate.Step.the-variants.{Refused, Makes, Goes, Gives, Ends}
 use Rattle.circuit.specs.declared.Circuit.{Circuit}
 use Rattle.circuit.specs.Held.{circuitOf, Holds}
+use Rattle.circuit.specs.Entry.{NamesHeld}
 use Rattle.circuit.specs.Wires.{noWire, moduliOf, isInput, inputsIn}
-use Rattle.circuit.specs.File.{Read, refused, accepted, wordsIn, ended, after, readFrom, hasHead, headed, readFile}
+use Rattle.circuit.specs.File.{Read, refused, accepted, wordsIn, namedBefore, ended, after, readFrom, hasHead, headed, readFile}
 use Rattle.circuit.proofs.More.{inputs-le, inputs-more, length-more}
 use Rattle.circuit.proofs.State.{State, Next, next, nothing, within}
 
@@ -37,6 +38,7 @@ pub record Loop (file : List ℕ) (wires : List Wire) (moduli outputs : List ℕ
   pub outputsRoom : length outputs ≡ 256
   pub madeWithin : made ≤ 1024
   pub givenWithin : given ≤ 256
+  pub passed : given ≤ at
   pub inside : at ≤ wordsIn file
   pub state : State file at due (take made wires) (take given outputs)
   pub same : take made moduli ≡ moduliOf (take made wires)
@@ -67,7 +69,7 @@ unfolding readFrom
 over file left at due wires given e = rw e refl
 
 -- an array that is blank behind its first n elements, and one more of them
-blank-next :
+pub blank-next :
     {A : Type 0} (xs : List A) (n limit : ℕ) (x blank : A)
     → drop n xs ≡ replicate (limit - n) blank
     → n < limit
@@ -155,6 +157,7 @@ module _ {file : List ℕ} {wires : List Wire} {moduli outputs : List ℕ} {made
         outputsRoom = l .outputsRoom;
         madeWithin = omega arith;
         givenWithin = l .givenWithin;
+        passed = omega (arith, l .passed);
         inside = omega (arith, t .inside);
         state = rw (front, add-one at) (makes-state (t .next));
         same =
@@ -183,6 +186,7 @@ module _ {file : List ℕ} {wires : List Wire} {moduli outputs : List ℕ} {made
         outputsRoom = l .outputsRoom;
         madeWithin = l .madeWithin;
         givenWithin = l .givenWithin;
+        passed = omega (arith, l .passed);
         inside = omega (arith, t .inside);
         state = rw (add-one at) (goes-state (t .next));
         same = l .same;
@@ -207,6 +211,7 @@ module _ {file : List ℕ} {wires : List Wire} {moduli outputs : List ℕ} {made
         outputsRoom = length-set outputs given b ∙ l .outputsRoom;
         madeWithin = l .madeWithin;
         givenWithin = omega arith;
+        passed = omega (arith, l .passed);
         inside = omega (arith, t .inside);
         state = rw (front, add-one at) (gives-state (t .next));
         same = l .same;
@@ -220,17 +225,23 @@ module _ {file : List ℕ} {wires : List Wire} {moduli outputs : List ℕ} {made
   pub ended-well :
       Turn file at (take made wires) (take given outputs) Ends
       → length file ≤ 4 * (at + 1)
-      → accepted (take made wires) (take given outputs) ≡ readFile file
+      → accepted (take made wires) (take given outputs) (namedBefore file at given) ≡ readFile file
   unfolding after ended
-  ended-well t h = (rw (le-leb (length file) (4 * suc at) (omega arith)) at (t .rest))
+  ended-well t h =
+      ap (λ (n : ℕ). accepted (take made wires) (take given outputs) (namedBefore file at n)) (sym outputs-so-far)
+      ∙ (rw (le-leb (length file) (4 * suc at) (omega arith)) at (t .rest))
 
   pub ended-early : Turn file at (take made wires) (take given outputs) Ends → 4 * (at + 1) < length file → refused WrongEnd (at + 1) ≡ readFile file
   unfolding after ended
   ended-early t h = ap (refused WrongEnd) (add-one at) ∙ (rw (lt-leb (length file) (4 * suc at) (omega arith)) at (t .rest))
 
   -- what the arrays hold is the circuit of such a file
-  pub holds : {read : Read} → accepted (take made wires) (take given outputs) ≡ read → Holds (record { answer = Accepted; circuit = circuitOf wires outputs made inputs given }) read
-  holds e =
+  pub holds :
+      {read : Read} {named : List ℕ}
+      → NamesHeld file at given named
+      → accepted (take made wires) (take given outputs) (namedBefore file at given) ≡ read
+      → Holds (record { answer = Accepted; circuit = circuitOf wires outputs named made inputs given }) read
+  holds n e =
       subst (Holds _) e
       (record {
         answer = refl;
@@ -238,9 +249,17 @@ module _ {file : List ℕ} {wires : List Wire} {moduli outputs : List ℕ} {made
         made = sym wires-so-far;
         inputs = l .count;
         outputs = refl;
+        named = n .front;
         given = sym outputs-so-far;
-        held = record { room = record { made = l .madeWithin; wires = l .wiresRoom }; inputs = l .count; given = l .givenWithin; outputs = l .outputsRoom };
-        blank = record { wires = l .wiresBlank; outputs = l .outputsBlank };
+        held =
+            record {
+              room = record { made = l .madeWithin; wires = l .wiresRoom };
+              inputs = l .count;
+              given = l .givenWithin;
+              outputs = l .outputsRoom;
+              named = n .room;
+            };
+        blank = record { wires = l .wiresBlank; outputs = l .outputsBlank; named = n .blank };
       })
 
   -- the words ran out
@@ -263,6 +282,7 @@ start file wires moduli outputs w m o h =
       outputsRoom = ap length o ∙ length-replicate {A = ℕ} 256 0;
       madeWithin = omega arith;
       givenWithin = omega arith;
+      passed = omega arith;
       inside = ltb-true 0 (wordsIn file) (and-left (ltb 0 (wordsIn file)) _ h);
       state = nothing file;
       same = refl;
@@ -275,7 +295,7 @@ start file wires moduli outputs w m o h =
 -- a refused file's circuit is empty
 pub holds-refused :
     {reason : Refusal} {place : ℕ} {circuit : Circuit}
-    → circuit ≡ circuitOf (replicate 1024 noWire) (replicate 256 0) 0 0 0
+    → circuit ≡ circuitOf (replicate 1024 noWire) (replicate 256 0) (replicate 256 0) 0 0 0
     → Holds (record { answer = Answer.Refused reason place; circuit = circuit }) (refused reason place)
 unfolding inputsIn
 holds-refused {reason} {place} {circuit} e =
@@ -286,6 +306,7 @@ holds-refused {reason} {place} {circuit} e =
       made = refl;
       inputs = refl;
       outputs = refl;
+      named = refl;
       given = refl;
       held =
           record {
@@ -293,8 +314,9 @@ holds-refused {reason} {place} {circuit} e =
             inputs = refl;
             given = omega arith;
             outputs = length-replicate {A = ℕ} 256 0;
+            named = length-replicate {A = ℕ} 256 0;
           };
-      blank = record { wires = refl; outputs = refl };
+      blank = record { wires = refl; outputs = refl; named = refl };
     })
 
 -- the first word

@@ -3,14 +3,15 @@
 -- Assumes nothing.
 use mathlib.Core.Bool.{Bool, true, false, _&&_}
 use mathlib.Core.List.{List, [], _∷_, _++_}
-use Prim.Native.Nat.{ℕ, zero, suc, _-_, _*_, _/_}
+use Prim.Native.Nat.{ℕ, zero, suc, _+_, _-_, _*_, _/_}
 use lib.Dec.{eqb, ltb, leb}
 use lib.ListN.{length}
+use Rattle.lists.specs.Blocks.{tab}
 use Rattle.checks.specs.declared.Answer.{Answer}
 use Rattle.checks.specs.declared.Answer.the-variants.{Accepted, Refused}
 use Rattle.checks.specs.declared.Refusal.{Refusal}
 use Rattle.checks.specs.declared.Refusal.the-variants.{NoHead, WrongEnd}
-use Rattle.words.specs.Bits.{wordAt}
+use Rattle.words.specs.Bits.{wordAt, named}
 use Rattle.words.specs.Reading.{readWord}
 use Rattle.words.specs.declared.gate.Wire.{Wire}
 use Rattle.words.specs.declared.gate.Due.{Due}
@@ -19,26 +20,32 @@ use Rattle.words.specs.declared.gate.Step.{Step}
 use Rattle.words.specs.declared.gate.Step.the-variants.{Makes, Goes, Gives, Ends}
 use Rattle.circuit.specs.Wires.{moduliOf}
 
--- an answer, and the wires and outputs of the circuit, none where it is refused
+-- an answer, and the wires and outputs of the circuit and the parties that each output names, none where it is refused
 pub record Read : Type 0 where
   pub answer : Answer
   pub wires : List Wire
   pub outputs : List ℕ
+  pub named : List ℕ
 
 abbrev pub refused : Refusal → ℕ → Read
-refused reason place = record { answer = Refused reason place; wires = []; outputs = [] }
+refused reason place = record { answer = Refused reason place; wires = []; outputs = []; named = [] }
 
-abbrev pub accepted : List Wire → List ℕ → Read
-accepted wires outputs = record { answer = Accepted; wires = wires; outputs = outputs }
+abbrev pub accepted : List Wire → List ℕ → List ℕ → Read
+accepted wires outputs named = record { answer = Accepted; wires = wires; outputs = outputs; named = named }
 
 -- whole words: one to three bytes left over count as a word only after the end word
 abbrev pub wordsIn : List ℕ → ℕ
 wordsIn file = length file / 4
 
+-- order 9: an output word's bits 17 to 10 name parties. The words of so many outputs stand directly before the end word, which is at an index;
+-- law `named-there` says so of every file.
+abbrev pub namedBefore : List ℕ → ℕ → ℕ → List ℕ
+namedBefore file at count = tab count (λ i. named (wordAt file (at - count + i)))
+
 -- after the end word, at an index, no byte may follow: whatever does, well formed or not, stands at the next index
-unfoldable pub ended : Bool → ℕ → List Wire → List ℕ → Read
-ended true at wires outputs = accepted wires outputs
-ended false at wires outputs = refused WrongEnd (suc at)
+unfoldable pub ended : Bool → ℕ → List Wire → List ℕ → List ℕ → Read
+ended true at wires outputs named = accepted wires outputs named
+ended false at wires outputs named = refused WrongEnd (suc at)
 
 -- what a word at an index does to the wires and outputs so far; `next` reads on, with what is due then
 unfoldable pub after : (Due → List Wire → List ℕ → Read) → List ℕ → ℕ → List Wire → List ℕ → Step → Read
@@ -46,7 +53,7 @@ after next file at wires outputs (Step.Refused reason) = refused reason at
 after next file at wires outputs (Makes wire due) = next due (wires ++ (wire ∷ [])) outputs
 after next file at wires outputs (Goes due) = next due wires outputs
 after next file at wires outputs (Gives wire) = next Outputs wires (outputs ++ (wire ∷ []))
-after next file at wires outputs Ends = ended (leb (length file) (4 * suc at)) at wires outputs
+after next file at wires outputs Ends = ended (leb (length file) (4 * suc at)) at wires outputs (namedBefore file at (length outputs))
 
 -- the words from an index on, so many of them, with what is due and the wires and outputs so far. Where they run out before an end
 -- word, the index is the number of words.

@@ -10,7 +10,7 @@ use words::Wire;
 
 // A circuit with no wires and no outputs.
 pub fn empty() -> Circuit
-    ensures { λ r. ⌜ r ≡ circuitOf (replicate 1024 noWire) (replicate 256 0) 0 0 0 ⌝ }
+    ensures { λ r. ⌜ r ≡ circuitOf (replicate 1024 noWire) (replicate 256 0) (replicate 256 0) 0 0 0 ⌝ }
 {
     let none = Wire {
         gate: Gate::Input(Owned { owner: 0 }),
@@ -19,6 +19,7 @@ pub fn empty() -> Circuit
     Circuit {
         wires: [none; 1024],
         outputs: [0u16; 256],
+        named: [0u8; 256],
         made: 0,
         inputs: 0,
         given: 0,

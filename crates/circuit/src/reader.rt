@@ -7,6 +7,7 @@ ghost use Rattle.circuit.specs.Held.{Holds};
 use super::Reading;
 use super::blank::empty;
 use super::blank::no_moduli;
+use super::naming::named_before;
 use super::table::after_run;
 use super::table::entries_here;
 use checks::Answer;
@@ -102,6 +103,7 @@ pub fn read(file: &[u8]) -> Reading
             }
             Step::Ends => {
                 if file.len() <= 4 * next {
+                    circuit.named = named_before(file, at, given);
                     circuit.made = made;
                     circuit.inputs = inputs;
                     circuit.given = given;

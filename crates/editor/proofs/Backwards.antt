@@ -1,7 +1,7 @@
 -- Order 1: the list of an accepted file is written as the file's own words, and so as its bytes (`read-is-written`). Along the accepted reading, by induction on
 -- the words that are left: what the reader still reads, the writer still writes, from the draft that stands at the same index.
 -- Assumes nothing.
-use mathlib.Core.Path.{_≡_, refl, sym, ap, _∙_, subst, subst₂}
+use mathlib.Core.Path.{_≡_, refl, sym, ap, ap₂, _∙_, subst, subst₂}
 use mathlib.Core.Bool.{Bool, true, false}
 use mathlib.Core.List.{List, [], _∷_}
 use Prim.Native.Nat.{ℕ, zero, suc, _+_, _-_, _*_, _≤_, _<_}
@@ -24,6 +24,7 @@ use Rattle.words.specs.declared.gate.Step.the-variants.{Ends}
 use Rattle.words.specs.declared.item.Item.{Item}
 use Rattle.circuit.specs.Wires.{moduliOf}
 use Rattle.circuit.specs.File.{Read, wordsIn, ended, after, readFrom, hasHead, headed, readFile}
+use Rattle.circuit.proofs.Outputs.{NamedThere, named-there}
 use Rattle.circuit.proofs.State.{State, Next, next, nothing, in-table}
 use Rattle.writer.specs.Written.{blank, wrote, writeFrom, writeRecords}
 use Rattle.writer.specs.Listed.{recordsOf, tablesOf}
@@ -35,7 +36,7 @@ use Rattle.editor.proofs.BackwardsTables.{tablesAhead, all-ahead}
 use Rattle.editor.proofs.BackwardsItems.{Does, did-so}
 use Rattle.editor.proofs.BackwardsLaid.{draftAt}
 use Rattle.editor.proofs.BackwardsAhead.{Ahead, Here, gates-on, make-one, begin-table, take-entry, begin-choice, take-branches, give-one, end-here}
-use Rattle.editor.proofs.BackwardsWrote.{Wrote}
+use Rattle.editor.proofs.BackwardsWrote.{recordsAhead, Wrote}
 
 -- in a table some entry is left
 some-left : {file : List ℕ} {at left q : ℕ} {wires : List Wire} {outputs : List ℕ} → State file at (Entries left q) wires outputs → 0 < left
@@ -48,15 +49,15 @@ module _ (file : List ℕ) (read : Read) (good : read .answer ≡ Accepted) (at 
     (due : Due) (wires : List Wire) (outputs : List ℕ) → State file (suc at) due wires outputs → then due wires outputs ≡ read
     → Ahead file read (suc at) due wires outputs) where
   finish :
-      {due : Due} (b : Bool)
+      {due : Due} (b : Bool) (names : List ℕ)
       → leb (length file) (4 * suc at) ≡ b
       → outputDue due ≡ true
       → Here file read at wires outputs due Item.End Ends
-      → ended b at wires outputs ≡ read
+      → ended b at wires outputs names ≡ read
       → Ahead file read at due wires outputs
   unfolding ended
-  finish true e here h r = end-here file read at wires outputs here inside (leb-true (length file) (4 * suc at) e) h r
-  finish false e here h r = never (ap (λ (k : Read). k .answer) r ∙ good)
+  finish true names e here h r = end-here file read at wires outputs here inside (leb-true (length file) (4 * suc at) e) h r
+  finish false names e here h r = never (ap (λ (k : Read). k .answer) r ∙ good)
 
   step :
       {due : Due} {x : Item} {s : Step}
@@ -74,7 +75,7 @@ module _ (file : List ℕ) (read : Read) (good : read .answer ≡ Accepted) (at 
   step st h (Does.selects here) (Next.goes st′) r = begin-choice file read at wires outputs here h (rest _ _ _ st′ r)
   step st h Does.chooses (Next.makes st′) r = take-branches file read at wires outputs h (rest _ _ _ st′ r)
   step st h (Does.gives here) (Next.gives st′) r = give-one file read at wires outputs here h (rest _ _ _ st′ r)
-  step st h (Does.ends here) n r = finish (leb (length file) (4 * suc at)) refl here h r
+  step st h (Does.ends here) n r = finish (leb (length file) (4 * suc at)) _ refl here h r
 
   -- by what the word says
   say :
@@ -127,13 +128,13 @@ begun file b true h e =
 begun file b false h e = never e
 
 -- the writer begins where the reader does
-module _ (file : List ℕ) (read : Read) (head : wordAt file 0 ≡ 0x1000_0000) (f : Ahead file read 1 Inputs [] []) where
+module _ (file : List ℕ) (read : Read) (there : NamedThere file read) (head : wordAt file 0 ≡ 0x1000_0000) (f : Ahead file read 1 Inputs [] []) where
   -- from the draft of a reader behind the head
   started : Wrote file (read .wires) 1 Inputs [] [] (read .wires) (read .outputs)
   started place =
       subst₂
       (λ (wires : List Wire) (outputs : List ℕ).
-      writeFrom place (recordsOf wires outputs) (draftAt file 1 Inputs [] [] (tablesAhead file (read .wires) wires)) ≡ wrote (tab (wordsIn file) (wordAt file)))
+      writeFrom place (recordsAhead file wires outputs) (draftAt file 1 Inputs [] [] (tablesAhead file (read .wires) wires)) ≡ wrote (tab (wordsIn file) (wordAt file)))
       (sym (f .wiresAre)) (sym (f .outputsAre)) (gates-on refl (f .writes) place)
 
   same-start : (tables : List ℕ) → blank tables ≡ draftAt file 1 Inputs [] [] tables
@@ -141,10 +142,10 @@ module _ (file : List ℕ) (read : Read) (head : wordAt file 0 ≡ 0x1000_0000) 
   same-start tables =
       ap (λ (w : ℕ). record { moduli = []; given = 0; due = Inputs; tables = tables; words = w ∷ [] }) (sym head)
 
-  written : writeRecords (recordsOf (read .wires) (read .outputs)) (tablesOf file (read .wires)) ≡ wrote (tab (wordsIn file) (wordAt file))
+  written : writeRecords (recordsOf (read .wires) (read .outputs) (read .named)) (tablesOf file (read .wires)) ≡ wrote (tab (wordsIn file) (wordAt file))
   unfolding writeRecords
   written =
-      ap (writeFrom 0 (recordsOf (read .wires) (read .outputs)))
+      ap₂ (writeFrom 0) (ap (recordsOf (read .wires) (read .outputs)) (there .are))
       (ap (λ (tables : List ℕ). blank tables) (all-ahead file (read .wires)) ∙ same-start (tablesAhead file (read .wires) (read .wires)))
       ∙ started 0
 
@@ -153,4 +154,4 @@ pub read-is-written : ReadIsWritten
 unfolding readFile recordsRead tablesRead
 read-is-written file b e =
     let so : Ahead file (readFile file) 1 Inputs [] [] × (wordAt file 0 ≡ 0x1000_0000) = begun file b (hasHead file) refl e in
-    record { words = written file (readFile file) (so .1) (so .0); bytes = whole-words file b (so .0 .sized) }
+    record { words = written file (readFile file) (named-there file) (so .1) (so .0); bytes = whole-words file b (so .0 .sized) }

@@ -4,7 +4,7 @@
 use mathlib.Core.Path.{_≡_, refl, sym, ap, _∙_}
 use mathlib.Core.Bool.{true}
 use mathlib.Core.List.{List, [], _∷_, _++_, map, append-nil}
-use Prim.Native.Nat.{ℕ, zero, suc, _+_, _*_, _≤_, _<_}
+use Prim.Native.Nat.{ℕ, zero, suc, _+_, _-_, _*_, _≤_, _<_}
 use native.Mathlib.Omega.{arith}
 use lib.ListN.{length, getD}
 use lib.Seq.{append-snoc}
@@ -26,14 +26,18 @@ use Rattle.editor.proofs.BackwardsTables.{images}
 use Rattle.editor.proofs.BackwardsItems.{gate-output, Single}
 use Rattle.editor.proofs.BackwardsWrote.{Wrote, WroteOn, wrote-one, wrote-table, wrote-entry, wrote-last, wrote-select, wrote-branches, wrote-output, wrote-end}
 
--- what the writer still writes, by what is due: behind the first output no wire comes
+-- what the writer still writes, by what is due: behind the first output no wire comes, and the outputs to come are the words up to the file's last one
 pub data Writes (file : List ℕ) (all : List Wire) (at : ℕ) (wires : List Wire) (outputs : List ℕ) : Due → List Wire → List ℕ → Type 0 where
   at-gates :
       {due : Due} {more : List Wire} {others : List ℕ}
       → gateDue due ≡ true
       → Wrote file all at due wires outputs more others
       → Writes file all at wires outputs due more others
-  at-outputs : {others : List ℕ} → Wrote file all at Outputs wires outputs [] others → Writes file all at wires outputs Outputs [] others
+  at-outputs :
+      {others : List ℕ}
+      → at + length others ≡ wordsIn file - 1
+      → Wrote file all at Outputs wires outputs [] others
+      → Writes file all at wires outputs Outputs [] others
   in-entries :
       {left q : ℕ} {more : List Wire} {others : List ℕ}
       → WroteOn file all at (Entries left q) wires outputs (map Item.Entry (images file at left)) more others
@@ -60,7 +64,7 @@ module _ {file : List ℕ} {all : List Wire} {at : ℕ} {wires : List Wire} {out
       → Writes file all at wires outputs due more others
       → Wrote file all at due wires outputs more others
   gates-on e (at-gates f w) = w
-  gates-on e (at-outputs w) = not-true e
+  gates-on e (at-outputs l w) = not-true e
   gates-on e (in-entries w) = not-true e
   gates-on e (in-branches w) = not-true e
 
@@ -74,13 +78,14 @@ module _ {file : List ℕ} {all : List Wire} {at : ℕ} {wires : List Wire} {out
   no-more :
       (due : Due) (others : List ℕ)
       → outputDue due ≡ true
+      → at + length others ≡ wordsIn file - 1
       → Wrote file all at due wires outputs [] others
       → Writes file all at wires outputs due [] others
-  no-more Inputs others e w = at-gates refl w
-  no-more Gates others e w = at-gates refl w
-  no-more Outputs others e w = at-outputs w
-  no-more (Entries left q) others e w = not-true e
-  no-more (Branches bit) others e w = not-true e
+  no-more Inputs others e l w = at-gates refl w
+  no-more Gates others e l w = at-gates refl w
+  no-more Outputs others e l w = at-outputs l w
+  no-more (Entries left q) others e l w = not-true e
+  no-more (Branches bit) others e l w = not-true e
 
 -- An item of a reading at an index, what it does there, and what comes behind it.
 module _ (file : List ℕ) (read : Read) (at : ℕ) (wires : List Wire) (outputs : List ℕ) where
@@ -189,12 +194,12 @@ module _ (file : List ℕ) (read : Read) (at : ℕ) (wires : List Wire) (outputs
 
   -- an output: no wire comes behind it
   pub give-one :
-      {due : Due} {a : ℕ}
+      {due : Due} {n a : ℕ}
       → outputDue due ≡ true
-      → Here due (Item.Output a) (Gives a)
+      → Here due (Item.Output n a) (Gives a)
       → Ahead file read (suc at) Outputs wires (outputs ++ (a ∷ []))
       → Ahead file read at due wires outputs
-  give-one {due} {a} here h f =
+  give-one {due} {n} {a} here h f =
       record {
         more = f .more;
         others = a ∷ f .others;
@@ -209,17 +214,18 @@ module _ (file : List ℕ) (read : Read) (at : ℕ) (wires : List Wire) (outputs
           → Writes file (read .wires) (suc at) wires (outputs ++ (a ∷ [])) Outputs more others
           → Writes file (read .wires) at wires outputs due more (a ∷ others)
       given (at-gates g w) = not-true g
-      given (at-outputs {others} w) =
-          no-more due (a ∷ others) here (wrote-output file (read .wires) at due wires outputs a others (h .stands .word) (h .did) w)
+      given (at-outputs {others} l w) =
+          let there : at + length (a ∷ others) ≡ wordsIn file - 1 = omega (arith, l) in
+          no-more due (a ∷ others) here there (wrote-output file (read .wires) at due wires outputs n a others (h .stands) (h .did) there w)
 
   -- the end word, behind which no byte stands
   pub end-here :
-      {due : Due}
+      {due : Due} {names : List ℕ}
       → outputDue due ≡ true
       → at < wordsIn file
       → length file ≤ 4 * suc at
       → Here due Item.End Ends
-      → accepted wires outputs ≡ read
+      → accepted wires outputs names ≡ read
       → Ahead file read at due wires outputs
   end-here {due} here inside size h e =
       record {
@@ -228,5 +234,5 @@ module _ (file : List ℕ) (read : Read) (at : ℕ) (wires : List Wire) (outputs
         wiresAre = sym (ap (λ (r : Read). r .wires) e) ∙ sym (append-nil wires);
         outputsAre = sym (ap (λ (r : Read). r .outputs) e) ∙ sym (append-nil outputs);
         sized = omega arith;
-        writes = no-more due [] here (wrote-end file (read .wires) at due wires outputs (h .stands .word) (h .did) (omega arith));
+        writes = no-more due [] here (omega arith) (wrote-end file (read .wires) at due wires outputs (h .stands .word) (h .did) (omega arith));
       }

@@ -55,7 +55,7 @@ pub data Does (moduli : List ℕ) (at : ℕ) : Due → Item → Step → Type 0 
   selects : {due : Due} {bit : ℕ} → gateDue due ≡ true → Does moduli at due (Item.Select bit) (Goes (Branches bit))
   chooses :
       {bit a b modulus : ℕ} → Does moduli at (Branches bit) (Item.Branches a b) (Makes (wireOf (Select (record { bit = bit; a = a; b = b })) modulus) Gates)
-  gives : {due : Due} {a : ℕ} → outputDue due ≡ true → Does moduli at due (Item.Output a) (Gives a)
+  gives : {due : Due} {named a : ℕ} → outputDue due ≡ true → Does moduli at due (Item.Output named a) (Gives a)
   ends : {due : Due} → outputDue due ≡ true → Does moduli at due Item.End Ends
 
 -- where inputs are due, gates are; and where gates are, outputs are
@@ -110,5 +110,5 @@ did-so moduli given at due (Item.Entry i) = entry-where due i
 did-so moduli given at due (Item.Select bit) =
     checked _ _ λ here. checked _ _ λ made. checked _ _ λ two. checked _ _ λ room. selects here
 did-so moduli given at due (Item.Branches a b) = branches-where due a b
-did-so moduli given at due (Item.Output a) = checked _ _ λ here. checked _ _ λ made. checked _ _ λ room. gives here
+did-so moduli given at due (Item.Output named a) = checked _ _ λ here. checked _ _ λ made. checked _ _ λ room. gives here
 did-so moduli given at due Item.End = checked _ _ λ here. checked _ _ λ some. ends here

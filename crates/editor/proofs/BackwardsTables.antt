@@ -14,7 +14,7 @@ use Rattle.circuit.specs.Wires.{noWire}
 use Rattle.writer.specs.Listed.{tableOf, tablesOf}
 
 -- the blocks, the first one apart
-blocks-front : {A : Type 0} (n : ℕ) (f : ℕ → List A) → blocks (suc n) f ≡ f 0 ++ blocks n (λ i. f (suc i))
+pub blocks-front : {A : Type 0} (n : ℕ) (f : ℕ → List A) → blocks (suc n) f ≡ f 0 ++ blocks n (λ i. f (suc i))
 unfolding blocks
 blocks-front zero f = sym (append-nil (f 0))
 blocks-front {A} (suc n) f =

@@ -1,15 +1,18 @@
 -- What the writer still writes, from the draft at an index, of the wires and outputs to come: one law for each thing that an item does there, from what is
 -- written behind it.
 -- Assumes nothing.
-use mathlib.Core.Path.{_≡_, refl, sym, ap, _∙_}
+use mathlib.Core.Path.{_≡_, refl, sym, ap, ap₂, _∙_}
 use mathlib.Core.Bool.{true}
-use mathlib.Core.List.{List, [], _∷_, _++_, map}
-use Prim.Native.Nat.{ℕ, suc, _+_}
+use mathlib.Core.List.{List, [], _∷_, _++_, map, zipWith}
+use Prim.Native.Nat.{ℕ, suc, _+_, _-_, _<_}
 use native.Mathlib.Numerals.{add-one}
+use native.Mathlib.Omega.{arith}
 use lib.ListN.{length, getD}
 use lib.Seq.{take-at, drop-at}
+use borrow.Author.Tests.{lt-ltb}
 use Rattle.lists.specs.Blocks.{tab}
-use Rattle.words.specs.Bits.{wordAt, image}
+use Rattle.lists.proofs.Blocks.{tab-ext}
+use Rattle.words.specs.Bits.{wordAt, named, image}
 use Rattle.words.specs.Items.{judged, outputDue, wireOf}
 use Rattle.words.specs.Encode.{wordOf}
 use Rattle.words.specs.declared.gate.Gate.the-variants.{Project, Select}
@@ -20,14 +23,20 @@ use Rattle.words.specs.declared.gate.Step.{Step}
 use Rattle.words.specs.declared.gate.Step.the-variants.{Makes, Goes, Gives, Ends}
 use Rattle.words.specs.declared.item.Item.{Item}
 use Rattle.circuit.specs.Wires.{moduliOf, modulusAt}
-use Rattle.circuit.specs.File.{wordsIn}
+use Rattle.circuit.specs.File.{wordsIn, namedBefore}
 use Rattle.writer.specs.declared.entry.Record.{Record}
 use Rattle.writer.specs.Says.{items, spoken, speechOf}
 use Rattle.writer.specs.Written.{Draft, Drafted, drafted, Written, wrote, recorded, allTaken, closed, onward, writeFrom}
 use Rattle.writer.specs.Listed.{wireRecord, outputRecord, recordsOf, tableOf}
-use Rattle.editor.proofs.BackwardsTables.{onwards, onwards-length, tab-onwards, images, tablesAhead}
+use Rattle.editor.proofs.Encoded.{names-of, names-byte}
+use Rattle.editor.proofs.Decoded.{Spells}
+use Rattle.editor.proofs.BackwardsTables.{blocks-front, onwards, onwards-length, tab-onwards, images, tablesAhead}
 use Rattle.editor.proofs.BackwardsItems.{Single}
 use Rattle.editor.proofs.BackwardsLaid.{draftAt, laidWhole, laid-makes, laid-goes, laid-gives, laid-ends, recorded-as, laid-first, laid-last}
+
+-- the list of the wires and outputs to come: the outputs' words stand directly before the file's last one
+abbrev pub recordsAhead : List ℕ → List Wire → List ℕ → List Record
+recordsAhead file more others = recordsOf more others (namedBefore file (wordsIn file - 1) (length others))
 
 -- Where the reader stands at an index with these wires and outputs so far, and all the wires are known.
 module _ (file : List ℕ) (all : List Wire) (at : ℕ) where
@@ -35,13 +44,13 @@ module _ (file : List ℕ) (all : List Wire) (at : ℕ) where
   abbrev pub Wrote : Due → List Wire → List ℕ → List Wire → List ℕ → Type 0
   Wrote due wires outputs more others =
       (place : ℕ)
-      → writeFrom place (recordsOf more others) (draftAt file at due wires outputs (tablesAhead file all more)) ≡ wrote (tab (wordsIn file) (wordAt file))
+      → writeFrom place (recordsAhead file more others) (draftAt file at due wires outputs (tablesAhead file all more)) ≡ wrote (tab (wordsIn file) (wordAt file))
 
   -- inside a record, of which items are left
   abbrev pub WroteOn : Due → List Wire → List ℕ → List Item → List Wire → List ℕ → Type 0
   WroteOn due wires outputs says more others =
       (place : ℕ)
-      → onward (writeFrom (suc place) (recordsOf more others)) place (laidWhole (draftAt file at due wires outputs (tablesAhead file all more)) says)
+      → onward (writeFrom (suc place) (recordsAhead file more others)) place (laidWhole (draftAt file at due wires outputs (tablesAhead file all more)) says)
       ≡ wrote (tab (wordsIn file) (wordAt file))
 
 -- a record, by what is laid down for it
@@ -99,9 +108,32 @@ select-says :
 unfolding spoken
 select-says moduli tables bit a b modulus = refl
 
-output-says : (moduli tables : List ℕ) (a : ℕ) → speechOf moduli tables (outputRecord a) ≡ items (Item.Output a ∷ []) tables
+output-says : (moduli tables : List ℕ) (a n : ℕ) → n < 256 → speechOf moduli tables (outputRecord a n) ≡ items (Item.Output n a ∷ []) tables
 unfolding spoken
-output-says moduli tables a = refl
+output-says moduli tables a n h = rw (lt-ltb n 256 h)
+
+-- the output whose word stands at an index, before so many others and the file's last word, is the first of those to come
+module _ (file : List ℕ) (at count : ℕ) (place : at + suc count ≡ wordsIn file - 1) where
+  first-here : wordsIn file - 1 - suc count + 0 ≡ at
+  first-here = omega (arith, place)
+
+  behind : (i : ℕ) → wordsIn file - 1 - suc count + suc i ≡ wordsIn file - 1 - count + i
+  behind i = omega (arith, place)
+
+  first-name : {n : ℕ} → named (wordAt file at) ≡ n → namedBefore file (wordsIn file - 1) (suc count) ≡ n ∷ namedBefore file (wordsIn file - 1) count
+  first-name {n} e =
+      blocks-front count (λ (i : ℕ). named (wordAt file (wordsIn file - 1 - suc count + i)) ∷ [])
+      ∙ ap₂ (λ (m : ℕ) (l : List ℕ). m ∷ l) (ap (λ (k : ℕ). named (wordAt file k)) first-here ∙ e)
+      (tab-ext count (λ (i : ℕ). named (wordAt file (wordsIn file - 1 - suc count + suc i))) (λ (i : ℕ). named (wordAt file (wordsIn file - 1 - count + i)))
+      (λ i _. ap (λ (k : ℕ). named (wordAt file k)) (behind i)))
+
+first-record :
+    (file : List ℕ) (at a : ℕ) (others : List ℕ) {n : ℕ}
+    → at + length (a ∷ others) ≡ wordsIn file - 1
+    → named (wordAt file at) ≡ n
+    → recordsAhead file [] (a ∷ others) ≡ outputRecord a n ∷ recordsAhead file [] others
+unfolding zipWith
+first-record file at a others place e = ap (zipWith outputRecord (a ∷ others)) (first-name file at (length others) place e)
 
 -- an item whose word stands at the index
 module _ (file : List ℕ) (all : List Wire) (at : ℕ) (due : Due) (wires : List Wire) (outputs : List ℕ) where
@@ -120,7 +152,7 @@ module _ (file : List ℕ) (all : List Wire) (at : ℕ) (due : Due) (wires : Lis
       → Wrote file all at due wires outputs (wire ∷ more) others
   wrote-one x wire next more others stands here one done f place =
       rw (no-table file all more wire (one .plain file all))
-      (write-on place (wireRecord wire) (recordsOf more others) _ _ _
+      (write-on place (wireRecord wire) (recordsAhead file more others) _ _ _
       (recorded-as _ (wireRecord wire) (x ∷ []) tables (one .says (moduliOf wires) tables)
       ∙ laid-last _ _ x (laid-makes file at due wires outputs tables x stands wire next here) done)
       (went place _ _ _ (f (suc place))))
@@ -139,7 +171,7 @@ module _ (file : List ℕ) (all : List Wire) (at : ℕ) (due : Due) (wires : Lis
       → Wrote file all at due wires outputs (wireOf (Project (record { a = a; table = at + 1 })) q ∷ more) others
   wrote-table a q more others stands here e f place =
       rw (a-table file all more a at p q e)
-      (write-on place (wireRecord wire) (recordsOf more others) _ _ _
+      (write-on place (wireRecord wire) (recordsAhead file more others) _ _ _
       (recorded-as (draftAt file at due wires outputs (its ++ tables)) (wireRecord wire) (Item.Project q a ∷ map Item.Entry its) tables
       (project-says (moduliOf wires) a (at + 1) q its tables (onwards-length (λ i. image (wordAt file i)) (suc at) p))
       ∙ laid-first _ _ (Item.Project q a) (map Item.Entry its) (laid-makes file at due wires outputs tables (Item.Project q a) stands wire (Entries p q) here))
@@ -168,7 +200,7 @@ module _ (file : List ℕ) (all : List Wire) (at : ℕ) (due : Due) (wires : Lis
   unfolding onwards
   wrote-entry i n next more others stands e here f place =
       rw e
-      (laid-on place (recordsOf more others) _ _ _
+      (laid-on place (recordsAhead file more others) _ _ _
       (laid-first _ _ (Item.Entry i) (map Item.Entry (images file (suc at) n))
       (laid-goes file at due wires outputs (tablesAhead file all more) (Item.Entry i) stands next here))
       (f place))
@@ -184,7 +216,7 @@ module _ (file : List ℕ) (all : List Wire) (at : ℕ) (due : Due) (wires : Lis
   unfolding onwards
   wrote-last i next more others stands e here done f place =
       rw e
-      (laid-on place (recordsOf more others) _ _ _
+      (laid-on place (recordsAhead file more others) _ _ _
       (laid-last _ _ (Item.Entry i) (laid-goes file at due wires outputs (tablesAhead file all more) (Item.Entry i) stands next here) done)
       (went place _ _ _ (f (suc place))))
 
@@ -197,7 +229,7 @@ module _ (file : List ℕ) (all : List Wire) (at : ℕ) (due : Due) (wires : Lis
       → Wrote file all at due wires outputs (wireOf (Select (record { bit = bit; a = a; b = b })) modulus ∷ more) others
   wrote-select bit a b modulus more others stands here f place =
       rw (no-table file all more wire refl)
-      (write-on place (wireRecord wire) (recordsOf more others) _ _ _
+      (write-on place (wireRecord wire) (recordsAhead file more others) _ _ _
       (recorded-as (draftAt file at due wires outputs tables) (wireRecord wire) (Item.Select bit ∷ Item.Branches a b ∷ []) tables
       (select-says (moduliOf wires) tables bit a b modulus)
       ∙ laid-first _ _ (Item.Select bit) (Item.Branches a b ∷ []) (laid-goes file at due wires outputs tables (Item.Select bit) stands (Branches bit) here))
@@ -216,21 +248,25 @@ module _ (file : List ℕ) (all : List Wire) (at : ℕ) (due : Due) (wires : Lis
       → Wrote file all (suc at) Gates (wires ++ (wire ∷ [])) outputs more others
       → WroteOn file all at due wires outputs (x ∷ []) more others
   wrote-branches x wire more others stands here f place =
-      laid-on place (recordsOf more others) _ _ _
+      laid-on place (recordsAhead file more others) _ _ _
       (laid-last _ _ x (laid-makes file at due wires outputs (tablesAhead file all more) x stands wire Gates here) refl)
       (went place _ _ _ (f (suc place)))
 
   -- an output
   pub wrote-output :
-      (a : ℕ) (others : List ℕ)
-      → wordAt file at ≡ wordOf (Item.Output a)
-      → Here (Item.Output a) (Gives a)
+      (n a : ℕ) (others : List ℕ)
+      → Spells (wordAt file at) (Item.Output n a)
+      → Here (Item.Output n a) (Gives a)
+      → at + length (a ∷ others) ≡ wordsIn file - 1
       → Wrote file all (suc at) Outputs wires (outputs ++ (a ∷ [])) [] others
       → Wrote file all at due wires outputs [] (a ∷ others)
-  wrote-output a others stands here f place =
-      write-on place (outputRecord a) (recordsOf [] others) _ _ _
-      (recorded-as (draftAt file at due wires outputs tables) (outputRecord a) (Item.Output a ∷ []) tables (output-says (moduliOf wires) tables a)
-      ∙ laid-last _ _ (Item.Output a) (laid-gives file at due wires outputs tables (Item.Output a) stands a here) refl)
+  wrote-output n a others s here there f place =
+      ap (λ (rs : List Record). writeFrom place rs (draftAt file at due wires outputs tables))
+      (first-record file at a others there (ap named (s .word) ∙ names-of n a (s .fits)))
+      ∙ write-on place (outputRecord a n) (recordsAhead file [] others) _ _ _
+      (recorded-as (draftAt file at due wires outputs tables) (outputRecord a n) (Item.Output n a ∷ []) tables
+      (output-says (moduliOf wires) tables a n (names-byte (s .fits)))
+      ∙ laid-last _ _ (Item.Output n a) (laid-gives file at due wires outputs tables (Item.Output n a) (s .word) a here) refl)
       (went place _ _ _ (f (suc place)))
     where
       tables : List ℕ
@@ -242,6 +278,6 @@ module _ (file : List ℕ) (all : List Wire) (at : ℕ) (due : Due) (wires : Lis
       → Here Item.End Ends
       → wordsIn file ≡ suc at
       → Wrote file all at due wires outputs [] []
-  unfolding writeFrom closed allTaken tablesAhead
+  unfolding zipWith writeFrom closed allTaken tablesAhead
   wrote-end stands here e place =
       ap (closed place) (laid-ends file at due wires outputs [] Item.End stands here) ∙ ap (λ (n : ℕ). wrote (tab n (wordAt file))) (sym e)

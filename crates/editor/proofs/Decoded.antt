@@ -85,7 +85,7 @@ module _ (w : ℕ) (small : w < 4294967296) where
   by-kind (suc (suc (suc (suc (suc (suc (suc (suc (suc zero))))))))) e =
       rw e (whether w _ _ λ z. record { word = wires 9 e z; fits = Fits.branches (mod-lt _ (omega arith)) (mod-lt _ (omega arith)) })
   by-kind (suc (suc (suc (suc (suc (suc (suc (suc (suc (suc zero)))))))))) e =
-      rw e (whether w _ _ λ z. record { word = wire 10 e z; fits = Fits.output (mod-lt _ (omega arith)) })
+      rw e (whether w _ _ λ z. record { word = above-wire 10 e z; fits = Fits.output (mod-lt _ (omega arith)) (mod-lt _ (omega arith)) })
   by-kind (suc (suc (suc (suc (suc (suc (suc (suc (suc (suc (suc zero))))))))))) e =
       rw e (whether w _ _ λ z. record { word = bare 11 e z; fits = Fits.end })
   by-kind (suc (suc (suc (suc (suc (suc (suc (suc (suc (suc (suc (suc k)))))))))))) e = rw e tt

@@ -8,7 +8,7 @@ use native.Mathlib.Omega.{arith}
 use lib.Dec.{lit<}
 use lib.ListN.{length, getD}
 use borrow.Author.Tests.{eq-eqb}
-use Rattle.words.specs.Bits.{wordAt, bits, clear, kind, owner, inputModulus, wireA, wireB, oneWire, constant, image}
+use Rattle.words.specs.Bits.{wordAt, bits, clear, kind, owner, inputModulus, wireA, wireB, named, oneWire, constant, image}
 use Rattle.words.specs.Items.{judged}
 use Rattle.words.specs.Reading.{said, byKind, saidBy, does, readWord, Said, Says}
 use Rattle.words.specs.Encode.{wordOf, fileOf}
@@ -58,6 +58,13 @@ module _ (k a b : ℕ) (kk : k < 16) (aa : a < 256) (bb : b < 1024) where
   byte-pair : (item : ℕ → ℕ → Item)
       → said (clear (268435456 * k + 1024 * a + b) 27 18) (item (constant (268435456 * k + 1024 * a + b)) (oneWire (268435456 * k + 1024 * a + b))) ≡ Says (item a b)
   byte-pair item = spoken byte-clear (ap₂ item byte-a (two-b k a b kk (omega arith) bb))
+
+-- .. so that an output's word names whom the output does
+pub names-of : (n a : ℕ) → Fits (Output n a) → named (wordOf (Output n a)) ≡ n
+names-of n a (Fits.output f g) = byte-a 10 n a (lit< tt) f g
+
+pub names-byte : {n a : ℕ} → Fits (Output n a) → n < 256
+names-byte (Fits.output f g) = f
 
 -- one wire behind a kind
 module _ (k a : ℕ) (kk : k < 16) (aa : a < 1024) where
@@ -113,7 +120,7 @@ encoded (Fits.project {modulus = m} {a} f g) = by-kind _ 6 (two-kind 6 m a (lit<
 encoded (Fits.entry {image = a} f) = by-kind _ 7 (entry-kind a f) (spoken (entry-clear a f) (ap Entry (entry-image a f)))
 encoded (Fits.select {bit = a} f) = by-kind _ 8 (one-kind 8 a (lit< tt) f) (one 8 a (lit< tt) f Select)
 encoded (Fits.branches {a} {b} f g) = by-kind _ 9 (two-kind 9 a b (lit< tt) f g) (pair 9 a b (lit< tt) f g Branches)
-encoded (Fits.output {a} f) = by-kind _ 10 (one-kind 10 a (lit< tt) f) (one 10 a (lit< tt) f Output)
+encoded (Fits.output {named = n} {a} f g) = by-kind _ 10 (two-kind 10 n a (lit< tt) (omega arith) g) (byte-pair 10 n a (lit< tt) f g Output)
 encoded Fits.end = refl
 
 -- .. so that the reader does what is judged of the item

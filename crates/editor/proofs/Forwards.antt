@@ -3,7 +3,7 @@
 -- Assumes nothing.
 use mathlib.Core.Path.{_≡_, refl, sym, ap, subst, _∙_}
 use mathlib.Core.Bool.{false, true≢false}
-use mathlib.Core.List.{List, [], _∷_, _++_, append-nil, append-assoc}
+use mathlib.Core.List.{List, [], _∷_, _++_, zipWith, append-nil, append-assoc}
 use Prim.Native.Nat.{ℕ, suc, _*_, _-_}
 use native.Mathlib.Omega.{arith}
 use lib.ListN.{length}
@@ -18,7 +18,7 @@ use Rattle.words.specs.declared.gate.Step.{Step}
 use Rattle.words.specs.declared.gate.Step.the-variants.{Ends}
 use Rattle.words.specs.declared.item.Item.{Item}
 use Rattle.words.specs.declared.item.Item.the-variants.{End}
-use Rattle.circuit.specs.File.{Read, accepted, wordsIn, ended, after, readFrom, readFile}
+use Rattle.circuit.specs.File.{Read, accepted, wordsIn, namedBefore, ended, after, readFrom, readFile}
 use Rattle.circuit.proofs.More.{length-more}
 use Rattle.writer.specs.declared.entry.Record.{Record}
 use Rattle.writer.specs.Says.{Speech, items, speechOf}
@@ -31,6 +31,7 @@ use Rattle.words.proofs.Judged.{Judged, judging}
 use Rattle.editor.proofs.ForwardsDrafts.{Begins, begins-same, begins-trans, begins-front, words-after, tables-after, laid-begins, only-one, record-begins, Laid, laid-record}
 use Rattle.editor.proofs.ForwardsStep.{InStep, isRefused, not-refused, turned, begun}
 use Rattle.editor.proofs.ForwardsRecords.{Spoken, speaking}
+use Rattle.editor.proofs.ForwardsListed.{recordsBefore}
 use Rattle.editor.proofs.ForwardsTaken.{Carried, alone-taken, select-taken}
 use Rattle.editor.proofs.ForwardsProject.{project-taken}
 
@@ -109,7 +110,7 @@ ends :
     → s ≡ Ends
     → length file ≡ 4 * suc at
     → after next file at wires outputs s ≡ read
-    → read ≡ accepted wires outputs
+    → read ≡ accepted wires outputs (namedBefore file at (length outputs))
 unfolding after ended
 ends next file at wires outputs {read = read} e l h =
     sym (rw (e, le-leb (length file) (4 * suc at) (omega arith)) at h)
@@ -119,7 +120,7 @@ finished :
     → InStep all d wires outputs
     → laid d End ≡ drafted e
     → e .words ≡ all
-    → readFile (fileOf all) ≡ accepted wires outputs
+    → readFile (fileOf all) ≡ accepted wires outputs (namedBefore (fileOf all) (length (d .words)) (length outputs))
 finished {all} {d} {e} {wires} {outputs} p h a =
     let w : d .words ++ (wordOf End ∷ []) ≡ all = words-after d End _ h ∙ a in
     ends (readFrom (fileOf all) (wordsIn (fileOf all) - suc (length (d .words))) (suc (length (d .words)))) (fileOf all) (length (d .words)) wires outputs
@@ -130,16 +131,16 @@ finished {all} {d} {e} {wires} {outputs} p h a =
 -- ---- the theorem
 
 read-back :
-    {records : List Record} {tables words : List ℕ} (wires : List Wire) (outputs : List ℕ)
-    → readFile (fileOf words) ≡ accepted wires outputs
-    → recordsOf wires outputs ≡ records
+    {records : List Record} {tables words : List ℕ} (wires : List Wire) (outputs names : List ℕ)
+    → readFile (fileOf words) ≡ accepted wires outputs names
+    → recordsOf wires outputs names ≡ records
     → tablesOf (fileOf words) wires ≡ tables
     → ReadBack records tables words
 unfolding recordsRead tablesRead
-read-back {words = words} wires outputs e f g =
+read-back {words = words} wires outputs names e f g =
     record {
       accepted = ap (λ (r : Read). r .answer) e;
-      recordsAre = ap (λ (r : Read). recordsOf (r .wires) (r .outputs)) e ∙ f;
+      recordsAre = ap (λ (r : Read). recordsOf (r .wires) (r .outputs) (r .named)) e ∙ f;
       tablesAre = ap (λ (r : Read). tablesOf (fileOf words) (r .wires)) e ∙ g;
     }
 
@@ -151,7 +152,7 @@ from :
 unfolding writeFrom
 from [] place d {done} {tables} {words} c h =
     let l : Last (laid d End) words = last-word _ place h in
-    read-back (c .wires) (c .outputs) (finished (c .inStep) (l .is) (l .all)) (c .recordsAre ∙ sym (append-nil done))
+    read-back (c .wires) (c .outputs) _ (finished (c .inStep) (l .is) (l .all)) (c .recordsAre ∙ sym (append-nil done))
     (sym (append-nil (tablesOf (fileOf words) (c .wires)))
     ∙ ap (λ (ts : List ℕ). tablesOf (fileOf words) (c .wires) ++ ts) (sym (tables-after d End _ (l .is) ∙ l .none))
     ∙ c .tablesAre)
@@ -165,6 +166,11 @@ none-read : (file tables : List ℕ) → tablesOf file [] ++ tables ≡ tables
 unfolding blocks
 none-read file tables = refl
 
+-- .. and no output, which could name anybody
+none-listed : (file : List ℕ) (at : ℕ) → recordsBefore file at [] [] ≡ []
+unfolding zipWith
+none-listed file at = refl
+
 pub written-is-read : WrittenIsRead
 unfolding writeRecords
 written-is-read records tables words h =
@@ -173,7 +179,7 @@ written-is-read records tables words h =
       wires = [];
       outputs = [];
       inStep = begun words tables (written-begins records 0 (blank tables) h);
-      recordsAre = refl;
+      recordsAre = none-listed (fileOf words) (length (blank tables .words));
       tablesAre = none-read (fileOf words) tables;
     })
     h

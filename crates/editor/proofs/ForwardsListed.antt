@@ -1,29 +1,73 @@
 -- The list of a circuit with one wire or one output more: a record more, and the new wire's table behind the others.
 -- Assumes nothing.
 use mathlib.Core.Path.{_≡_, refl, sym, ap, ap₂, _∙_}
-use mathlib.Core.List.{List, [], _∷_, _++_, map, map-append, append-nil, append-assoc}
-use Prim.Native.Nat.{ℕ, _+_, _<_}
+use mathlib.Core.List.{List, [], _∷_, _++_, map, zipWith, map-append, append-nil, append-assoc}
+use Prim.Native.Nat.{ℕ, suc, _+_, _-_, _≤_, _<_}
 use native.Mathlib.Nat.{lt-trans}
+use native.Mathlib.Omega.{arith}
 use lib.ListN.{length}
 use Rattle.lists.specs.Blocks.{blocks, tab}
-use Rattle.lists.proofs.Blocks.{blocks-ext}
-use Rattle.words.specs.Bits.{wordAt, image}
+use Rattle.lists.proofs.Blocks.{blocks-ext, length-tab}
+use Rattle.words.specs.Bits.{wordAt, named, image}
 use Rattle.words.specs.declared.gate.Gate.{Gate}
 use Rattle.words.specs.declared.gate.Wire.{Wire}
 use Rattle.circuit.specs.Wires.{wireAt}
+use Rattle.circuit.specs.File.{namedBefore}
 use Rattle.circuit.specs.Accepted.{GateFits}
 use Rattle.circuit.proofs.More.{length-more, wire-kept, wire-new, modulus-kept}
 use Rattle.circuit.proofs.State.{Sound}
 use Rattle.writer.specs.declared.entry.Record.{Record}
 use Rattle.writer.specs.Listed.{wireRecord, outputRecord, recordsOf, tableOf, tablesOf}
 
-pub one-output : (wires : List Wire) (outputs : List ℕ) (b : ℕ) → recordsOf wires (outputs ++ (b ∷ [])) ≡ recordsOf wires outputs ++ (outputRecord b ∷ [])
-one-output wires outputs b =
-    ap (λ (rs : List Record). map wireRecord wires ++ rs) (map-append outputRecord outputs (b ∷ []))
-    ∙ sym (append-assoc (map wireRecord wires) (map outputRecord outputs) (outputRecord b ∷ []))
+-- the list of what is read before an index of a file: the outputs' words stand directly before it
+abbrev pub recordsBefore : List ℕ → ℕ → List Wire → List ℕ → List Record
+recordsBefore file at wires outputs = recordsOf wires outputs (namedBefore file at (length outputs))
 
-pub one-wire : (wires : List Wire) {outputs : List ℕ} (x : Wire) → outputs ≡ [] → recordsOf (wires ++ (x ∷ [])) outputs ≡ recordsOf wires outputs ++ (wireRecord x ∷ [])
-one-wire wires x e =
+-- the word at the index is one more of them
+module _ (file : List ℕ) (at count : ℕ) (enough : count ≤ at) where
+  first-same : suc at - suc count ≡ at - count
+  first-same = omega arith
+
+  last-here : at - count + count ≡ at
+  last-here = omega arith
+
+  names-more : namedBefore file (suc at) (suc count) ≡ namedBefore file at count ++ (named (wordAt file at) ∷ [])
+  unfolding blocks
+  names-more =
+      ap (λ (first : ℕ). tab (suc count) (λ (i : ℕ). named (wordAt file (first + i)))) first-same
+      ∙ ap (λ (place : ℕ). namedBefore file at count ++ (named (wordAt file place) ∷ [])) last-here
+
+zip-more :
+    (f : ℕ → ℕ → Record) (xs ys : List ℕ) (x y : ℕ)
+    → length xs ≡ length ys
+    → zipWith f (xs ++ (x ∷ [])) (ys ++ (y ∷ [])) ≡ zipWith f xs ys ++ (f x y ∷ [])
+unfolding zipWith
+zip-more f [] [] x y e = refl
+zip-more f [] (b ∷ ys) x y e = absurd (omega (arith, e))
+zip-more f (a ∷ xs) [] x y e = absurd (omega (arith, e))
+zip-more f (a ∷ xs) (b ∷ ys) x y e = ap (λ (rs : List Record). f a b ∷ rs) (zip-more f xs ys x y (omega (arith, e)))
+
+pub one-output :
+    (file : List ℕ) (at : ℕ) (wires : List Wire) (outputs : List ℕ) (b : ℕ) {parties : ℕ}
+    → length outputs ≤ at
+    → named (wordAt file at) ≡ parties
+    → recordsBefore file (suc at) wires (outputs ++ (b ∷ [])) ≡ recordsBefore file at wires outputs ++ (outputRecord b parties ∷ [])
+one-output file at wires outputs b {parties} h e =
+    ap (λ (names : List ℕ). recordsOf wires (outputs ++ (b ∷ [])) names)
+    (ap (namedBefore file (suc at)) (length-more outputs b) ∙ names-more file at (length outputs) h
+    ∙ ap (λ (n : ℕ). namedBefore file at (length outputs) ++ (n ∷ [])) e)
+    ∙ ap (λ (rs : List Record). map wireRecord wires ++ rs)
+    (zip-more outputRecord outputs (namedBefore file at (length outputs)) b parties
+    (sym (length-tab (length outputs) (λ (i : ℕ). named (wordAt file (at - length outputs + i))))))
+    ∙ sym (append-assoc (map wireRecord wires) (zipWith outputRecord outputs (namedBefore file at (length outputs))) (outputRecord b parties ∷ []))
+
+-- where there is no output none is named, whatever stands before the index
+pub one-wire :
+    (wires : List Wire) {outputs : List ℕ} (x : Wire) (now later : List ℕ)
+    → outputs ≡ []
+    → recordsOf (wires ++ (x ∷ [])) outputs later ≡ recordsOf wires outputs now ++ (wireRecord x ∷ [])
+unfolding zipWith
+one-wire wires x now later e =
     rw (e, append-nil (map wireRecord (wires ++ (x ∷ []))), append-nil (map wireRecord wires)) (map-append wireRecord wires (x ∷ []))
 
 -- the wires before keep their tables

@@ -184,7 +184,7 @@ module _ {all : List ℕ} {d e : Draft} {done : List Record} {tables : List ℕ}
         outputs = c .outputs;
         inStep = r .inStep;
         recordsAre =
-            one-wire (c .wires) _ (none-yet (c .inStep .early) (did .1))
+            one-wire (c .wires) _ _ _ (none-yet (c .inStep .early) (did .1))
             ∙ ap (λ (rs : List Record). rs ++ (gateRecord (Gate.Project (record { a = a; table = 0 })) modulus ∷ [])) (c .recordsAre);
         tablesAre =
             ap₂ (_++_ {A = ℕ})

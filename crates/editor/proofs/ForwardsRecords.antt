@@ -1,10 +1,10 @@
--- What a record says, kind by kind, with the record that says it; and that no item of it is the end.
+-- What a record says, kind by kind, with the record that says it; and that no item of it is the end, or an output that names more than a byte.
 -- Assumes nothing.
 use mathlib.Core.Path.{_≡_, refl}
 use mathlib.Core.Bool.{Bool, true, false, _&&_}
 use mathlib.Core.List.{List, [], _∷_, map}
 use Prim.Native.Nat.{ℕ, zero, suc}
-use lib.Dec.{eqb}
+use lib.Dec.{eqb, ltb}
 use lib.ListN.{getD, take, drop}
 use borrow.Author.Tests.{eqb-true}
 use Rattle.residue.proofs.Table.{and-left, and-right}
@@ -15,7 +15,7 @@ use Rattle.words.specs.declared.item.Item.the-variants.{Input, Add, Scale, Mult
 use Rattle.writer.specs.declared.entry.Record.{Record}
 use Rattle.writer.specs.Says.{Speech, nothing, items, spoken, speechOfKind, speechOf}
 use Rattle.writer.specs.Listed.{gateRecord, outputRecord}
-use Rattle.editor.proofs.ForwardsStep.{isEnd}
+use Rattle.editor.proofs.ForwardsStep.{sayable}
 
 -- the record of an item that is a record's only one
 pub data Alone : Item → Record → Type 0 where
@@ -23,7 +23,7 @@ pub data Alone : Item → Record → Type 0 where
   add : {a b : ℕ} → Alone (Add a b) (gateRecord (Gate.Add (pairOf a b)) 0)
   scale : {constant a : ℕ} → Alone (Scale constant a) (gateRecord (Gate.Scale (record { constant = constant; a = a })) 0)
   multiply : {a b : ℕ} → Alone (Multiply a b) (gateRecord (Gate.Multiply (pairOf a b)) 0)
-  output : {a : ℕ} → Alone (Output a) (outputRecord a)
+  output : {named a : ℕ} → ltb named 256 ≡ true → Alone (Output named a) (outputRecord a named)
 
 pub data Spoken (moduli tables : List ℕ) : Record → Speech → Type 0 where
   silent : {r : Record} → Spoken moduli tables r nothing
@@ -38,7 +38,7 @@ pub data Spoken (moduli tables : List ℕ) : Record → Speech → Type 0 where
 
 -- a record by its fields
 fields :
-    (r : Record) {k m o c t a b : ℕ}
+    (r : Record) {k m o c t a b n : ℕ}
     → r .kind ≡ k
     → r .modulus ≡ m
     → r .owner ≡ o
@@ -46,8 +46,10 @@ fields :
     → r .bit ≡ t
     → r .a ≡ a
     → r .b ≡ b
-    → r ≡ record { kind = k; modulus = m; owner = o; constant = c; bit = t; a = a; b = b }
-fields r ek em eo ec et ea eb = λ i. record { kind = ek i; modulus = em i; owner = eo i; constant = ec i; bit = et i; a = ea i; b = eb i }
+    → r .named ≡ n
+    → r ≡ record { kind = k; modulus = m; owner = o; constant = c; bit = t; a = a; b = b; named = n }
+fields r ek em eo ec et ea eb en =
+    λ i. record { kind = ek i; modulus = em i; owner = eo i; constant = ec i; bit = et i; a = ea i; b = eb i; named = en i }
 
 -- fields that are 0, of which the first is the first of the test
 one : (n : ℕ) → eqb n 0 ≡ true → n ≡ 0
@@ -79,48 +81,54 @@ module _ (moduli tables : List ℕ) (r : Record) where
       whether _ λ z.
       let y = others (r .constant) _ z in
       let x = others (r .bit) _ y in
+      let v = others (r .a) _ x in
       as-said
-      (fields r e refl refl (first (r .constant) _ z) (first (r .bit) _ y) (first (r .a) _ x) (one (r .b) (others (r .a) _ x)))
+      (fields r e refl refl (first (r .constant) _ z) (first (r .bit) _ y) (first (r .a) _ x) (first (r .b) _ v) (one (r .named) (others (r .b) _ v)))
       (Spoken.alone Alone.input)
   -- add
   of-kind (suc (suc (suc zero))) e =
       whether _ λ z.
       let y = others (r .modulus) _ z in
       let x = others (r .owner) _ y in
+      let v = others (r .constant) _ x in
       as-said
-      (fields r e (first (r .modulus) _ z) (first (r .owner) _ y) (first (r .constant) _ x) (one (r .bit) (others (r .constant) _ x)) refl refl)
+      (fields r e (first (r .modulus) _ z) (first (r .owner) _ y) (first (r .constant) _ x) (first (r .bit) _ v) refl refl (one (r .named) (others (r .bit) _ v)))
       (Spoken.alone Alone.add)
   -- scale
   of-kind (suc (suc (suc (suc zero)))) e =
       whether _ λ z.
       let y = others (r .modulus) _ z in
       let x = others (r .owner) _ y in
+      let v = others (r .bit) _ x in
       as-said
-      (fields r e (first (r .modulus) _ z) (first (r .owner) _ y) refl (first (r .bit) _ x) refl (one (r .b) (others (r .bit) _ x)))
+      (fields r e (first (r .modulus) _ z) (first (r .owner) _ y) refl (first (r .bit) _ x) refl (first (r .b) _ v) (one (r .named) (others (r .b) _ v)))
       (Spoken.alone Alone.scale)
   -- multiply
   of-kind (suc (suc (suc (suc (suc zero))))) e =
       whether _ λ z.
       let y = others (r .modulus) _ z in
       let x = others (r .owner) _ y in
+      let v = others (r .constant) _ x in
       as-said
-      (fields r e (first (r .modulus) _ z) (first (r .owner) _ y) (first (r .constant) _ x) (one (r .bit) (others (r .constant) _ x)) refl refl)
+      (fields r e (first (r .modulus) _ z) (first (r .owner) _ y) (first (r .constant) _ x) (first (r .bit) _ v) refl refl (one (r .named) (others (r .bit) _ v)))
       (Spoken.alone Alone.multiply)
   -- project
   of-kind (suc (suc (suc (suc (suc (suc zero)))))) e =
       whether _ λ z.
       let y = others (r .owner) _ z in
       let x = others (r .constant) _ y in
+      let v = others (r .bit) _ x in
       as-said
-      (fields r e refl (first (r .owner) _ z) (first (r .constant) _ y) (first (r .bit) _ x) refl (one (r .b) (others (r .bit) _ x)))
+      (fields r e refl (first (r .owner) _ z) (first (r .constant) _ y) (first (r .bit) _ x) refl (first (r .b) _ v) (one (r .named) (others (r .b) _ v)))
       Spoken.project
   of-kind (suc (suc (suc (suc (suc (suc (suc zero))))))) e = Spoken.silent
   -- select
   of-kind (suc (suc (suc (suc (suc (suc (suc (suc zero)))))))) e =
       whether _ λ z.
       let y = others (r .modulus) _ z in
+      let x = others (r .owner) _ y in
       as-said
-      (fields r e (first (r .modulus) _ z) (first (r .owner) _ y) (one (r .constant) (others (r .owner) _ y)) refl refl refl)
+      (fields r e (first (r .modulus) _ z) (first (r .owner) _ y) (first (r .constant) _ x) refl refl refl (one (r .named) (others (r .constant) _ x)))
       Spoken.select
   of-kind (suc (suc (suc (suc (suc (suc (suc (suc (suc zero))))))))) e = Spoken.silent
   -- output
@@ -129,31 +137,32 @@ module _ (moduli tables : List ℕ) (r : Record) where
       let y = others (r .modulus) _ z in
       let x = others (r .owner) _ y in
       let v = others (r .constant) _ x in
+      let u = others (r .bit) _ v in
       as-said
-      (fields r e (first (r .modulus) _ z) (first (r .owner) _ y) (first (r .constant) _ x) (first (r .bit) _ v) refl (one (r .b) (others (r .bit) _ v)))
-      (Spoken.alone Alone.output)
+      (fields r e (first (r .modulus) _ z) (first (r .owner) _ y) (first (r .constant) _ x) (first (r .bit) _ v) refl (first (r .b) _ u) refl)
+      (Spoken.alone (Alone.output (others (r .b) _ u)))
   of-kind (suc (suc (suc (suc (suc (suc (suc (suc (suc (suc (suc k))))))))))) e = Spoken.silent
 
   pub speaking : Spoken moduli tables r (speechOf moduli tables r)
   speaking = of-kind (r .kind) refl
 
--- no item is the end
-pub data NoEnd : List Item → Type 0 where
-  none : NoEnd []
-  more : {x : Item} {xs : List Item} → isEnd x ≡ false → NoEnd xs → NoEnd (x ∷ xs)
+-- items that a record may say
+pub data AllSayable : List Item → Type 0 where
+  none : AllSayable []
+  more : {x : Item} {xs : List Item} → sayable x ≡ true → AllSayable xs → AllSayable (x ∷ xs)
 
-no-entry-ends : (images : List ℕ) → NoEnd (map Entry images)
-no-entry-ends [] = NoEnd.none
-no-entry-ends (image ∷ images) = NoEnd.more refl (no-entry-ends images)
+entries-sayable : (images : List ℕ) → AllSayable (map Entry images)
+entries-sayable [] = AllSayable.none
+entries-sayable (image ∷ images) = AllSayable.more refl (entries-sayable images)
 
-pub alone-on : {x : Item} {r : Record} → Alone x r → isEnd x ≡ false
-alone-on Alone.input = refl
-alone-on Alone.add = refl
-alone-on Alone.scale = refl
-alone-on Alone.multiply = refl
-alone-on Alone.output = refl
+pub alone-sayable : {x : Item} {r : Record} → Alone x r → sayable x ≡ true
+alone-sayable Alone.input = refl
+alone-sayable Alone.add = refl
+alone-sayable Alone.scale = refl
+alone-sayable Alone.multiply = refl
+alone-sayable (Alone.output byte) = byte
 
-pub no-end : {moduli tables : List ℕ} {r : Record} {says : List Item} {left : List ℕ} → Spoken moduli tables r (items says left) → NoEnd says
-no-end (Spoken.alone only) = NoEnd.more (alone-on only) NoEnd.none
-no-end {moduli} {tables} (Spoken.project {modulus} {a}) = NoEnd.more refl (no-entry-ends (take (getD moduli a 0) tables))
-no-end Spoken.select = NoEnd.more refl (NoEnd.more refl NoEnd.none)
+pub all-sayable : {moduli tables : List ℕ} {r : Record} {says : List Item} {left : List ℕ} → Spoken moduli tables r (items says left) → AllSayable says
+all-sayable (Spoken.alone only) = AllSayable.more (alone-sayable only) AllSayable.none
+all-sayable {moduli} {tables} (Spoken.project {modulus} {a}) = AllSayable.more refl (entries-sayable (take (getD moduli a 0) tables))
+all-sayable Spoken.select = AllSayable.more refl (AllSayable.more refl AllSayable.none)

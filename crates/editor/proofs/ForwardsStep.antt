@@ -7,9 +7,9 @@ use mathlib.Core.List.{List, [], _∷_, _++_, map-append}
 use Prim.Native.Nat.{ℕ, suc, _-_, _≤_, _<_}
 use native.Mathlib.Nat.{le-of-lt}
 use native.Mathlib.Omega.{arith}
-use lib.Dec.{lit≤}
+use lib.Dec.{ltb, lit≤}
 use lib.ListN.{length, getD}
-use borrow.Author.Tests.{lt-ltb, eq-eqb}
+use borrow.Author.Tests.{lt-ltb, ltb-true, eq-eqb}
 use Rattle.words.specs.Bits.{wordAt}
 use Rattle.words.specs.Items.{judged, inputDue, gateDue}
 use Rattle.words.specs.Reading.{readWord}
@@ -81,7 +81,21 @@ table-byte (State.in-table s room table) = table .byte
 below-byte : {n m : ℕ} → n < m → m ≤ 256 → n < 256
 below-byte h l = omega arith
 
--- an item that is not refused has fields that fit
+-- what a record may say: not the end, and an output that names a byte
+abbrev pub sayable : Item → Bool
+sayable Head = true
+sayable (Input owner modulus) = true
+sayable (Add a b) = true
+sayable (Scale constant a) = true
+sayable (Multiply a b) = true
+sayable (Project modulus a) = true
+sayable (Entry image) = true
+sayable (Select bit) = true
+sayable (Item.Branches a b) = true
+sayable (Output named a) = ltb named 256
+sayable End = false
+
+-- .. and if it is not refused, it has fields that fit
 abbrev pub isRefused : Step → Bool
 isRefused (Refused reason) = true
 isRefused (Makes wire due) = false
@@ -98,18 +112,24 @@ module _ {file : List ℕ} {at : ℕ} {wires : List Wire} {outputs moduli : List
       let f : WireFits file wires a = at-gates st h .fits a (omega (arith, made wires, ap (length {A = ℕ}) e, l)) in
       subst (λ (ms : List ℕ). getD ms a 0 < 256) e (rw (modulus-of wires a) (f .byte))
 
-  fits : {given : ℕ} {due : Due} {x : Item} {s : Step} → State file at due wires outputs → Judged moduli given at due x s → isRefused s ≡ false → Fits x
-  fits st Judged.refused h = absurd (true≢false h)
-  fits st (Judged.input room short party) h = Fits.input (below-byte party (lit≤ tt)) (short .byte)
-  fits st (Judged.add room two) h = Fits.add (narrow st (two .first)) (narrow st (two .second))
-  fits st (Judged.multiply room two) h = Fits.multiply (narrow st (two .first)) (narrow st (two .second))
-  fits st (Judged.scale room lower below) h = Fits.scale (below-byte below (le-of-lt (byte st (room .due) lower))) (narrow st lower)
-  fits st (Judged.project room short lower) h = Fits.project (short .byte) (narrow st lower)
-  fits st (Judged.entry below) h = Fits.entry (below-byte below (le-of-lt (table-byte st)))
-  fits st (Judged.select room lower) h = Fits.select (narrow st lower)
-  fits st (Judged.branches two) h = Fits.branches (narrow st (two .first)) (narrow st (two .second))
-  fits st (Judged.output here lower few) h = Fits.output (narrow st lower)
-  fits st (Judged.end here) h = Fits.end
+  fits :
+      {given : ℕ} {due : Due} {x : Item} {s : Step}
+      → State file at due wires outputs
+      → sayable x ≡ true
+      → Judged moduli given at due x s
+      → isRefused s ≡ false
+      → Fits x
+  fits st on Judged.refused h = absurd (true≢false h)
+  fits st on (Judged.input room short party) h = Fits.input (below-byte party (lit≤ tt)) (short .byte)
+  fits st on (Judged.add room two) h = Fits.add (narrow st (two .first)) (narrow st (two .second))
+  fits st on (Judged.multiply room two) h = Fits.multiply (narrow st (two .first)) (narrow st (two .second))
+  fits st on (Judged.scale room lower below) h = Fits.scale (below-byte below (le-of-lt (byte st (room .due) lower))) (narrow st lower)
+  fits st on (Judged.project room short lower) h = Fits.project (short .byte) (narrow st lower)
+  fits st on (Judged.entry below) h = Fits.entry (below-byte below (le-of-lt (table-byte st)))
+  fits st on (Judged.select room lower) h = Fits.select (narrow st lower)
+  fits st on (Judged.branches two) h = Fits.branches (narrow st (two .first)) (narrow st (two .second))
+  fits st on (Judged.output {named = named} here lower few) h = Fits.output (ltb-true named 256 on) (narrow st lower)
+  fits st on (Judged.end here) h = Fits.end
 
 pub not-refused : (d : Draft) (x : Item) (s : Step) {e : Draft} → afterItem d x s ≡ drafted e → isRefused s ≡ false
 unfolding afterItem
@@ -119,22 +139,8 @@ not-refused d x (Goes due) h = refl
 not-refused d x (Gives wire) h = refl
 not-refused d x Ends h = refl
 
--- the end is no item of a record
-abbrev pub isEnd : Item → Bool
-isEnd Head = false
-isEnd (Input owner modulus) = false
-isEnd (Add a b) = false
-isEnd (Scale constant a) = false
-isEnd (Multiply a b) = false
-isEnd (Project modulus a) = false
-isEnd (Entry image) = false
-isEnd (Select bit) = false
-isEnd (Item.Branches a b) = false
-isEnd (Output a) = false
-isEnd End = true
-
-never-ends : {A : Type 0} {moduli : List ℕ} {given at : ℕ} {due : Due} {x : Item} → Judged moduli given at due x Ends → isEnd x ≡ false → A
-never-ends (Judged.end here) e = absurd (true≢false e)
+never-ends : {A : Type 0} {moduli : List ℕ} {given at : ℕ} {due : Due} {x : Item} → Judged moduli given at due x Ends → sayable x ≡ true → A
+never-ends (Judged.end here) e = absurd (true≢false (sym e))
 
 -- the wires and outputs behind an item
 abbrev pub wiresAfter : Step → List Wire → List Wire
@@ -158,9 +164,11 @@ pub record InStep (all : List ℕ) (d : Draft) (wires : List Wire) (outputs : Li
   pub given : length outputs ≡ d .given
   pub rest : readFrom (fileOf all) (wordsIn (fileOf all) - length (d .words)) (length (d .words)) (d .due) wires outputs ≡ readFile (fileOf all)
   pub early : Early (d .due) outputs
+  -- each output took a word
+  pub enough : length outputs ≤ length (d .words)
 
 pub leaves : {all left : List ℕ} {d : Draft} {wires : List Wire} {outputs : List ℕ} → InStep all d wires outputs → InStep all (leaving d left) wires outputs
-leaves p = record { state = p .state; moduli = p .moduli; given = p .given; rest = p .rest; early = p .early }
+leaves p = record { state = p .state; moduli = p .moduli; given = p .given; rest = p .rest; early = p .early; enough = p .enough }
 
 read-as :
     {moduli moduli′ : List ℕ} {given given′ w : ℕ} (at : ℕ) (due : Due) {x : Item}
@@ -197,7 +205,7 @@ module _ {all : List ℕ} {d : Draft} {wires : List Wire} {outputs : List ℕ} (
   next-here = subst (Next (fileOf all) (length (d .words)) wires outputs) read-here (next (fileOf all) _ inside (d .due) wires outputs (p .state))
 
 -- an item that is laid down moves both by one word
-module _ {all : List ℕ} {d : Draft} {wires : List Wire} {outputs : List ℕ} (p : InStep all d wires outputs) (x : Item) (on : isEnd x ≡ false) where
+module _ {all : List ℕ} {d : Draft} {wires : List Wire} {outputs : List ℕ} (p : InStep all d wires outputs) (x : Item) (on : sayable x ≡ true) where
   moved :
       {s : Step} {e : Draft}
       → Judged (d .moduli) (d .given) (length (d .words)) (d .due) x s
@@ -216,6 +224,7 @@ module _ {all : List ℕ} {d : Draft} {wires : List Wire} {outputs : List ℕ} (
         given = p .given;
         rest = rw (length-more (d .words) (wordOf x)) t;
         early = early-made j (p .early);
+        enough = rw (length-more (d .words) (wordOf x)) (omega (arith, p .enough));
       })
   moved j (Next.goes {due = due} st) t h =
       subst (λ (e : Draft). InStep all e wires outputs) (same-draft h)
@@ -225,6 +234,7 @@ module _ {all : List ℕ} {d : Draft} {wires : List Wire} {outputs : List ℕ} (
         given = p .given;
         rest = rw (length-more (d .words) (wordOf x)) t;
         early = early-gone j (p .early);
+        enough = rw (length-more (d .words) (wordOf x)) (omega (arith, p .enough));
       })
   moved j (Next.gives {b = b} st) t h =
       subst (λ (e : Draft). InStep all e wires (outputs ++ (b ∷ []))) (same-draft h)
@@ -234,12 +244,13 @@ module _ {all : List ℕ} {d : Draft} {wires : List Wire} {outputs : List ℕ} (
         given = length-more outputs b ∙ ap suc (p .given);
         rest = rw (length-more (d .words) (wordOf x)) t;
         early = Early.giving;
+        enough = rw (length-more (d .words) (wordOf x), length-more outputs b) (omega (arith, p .enough));
       })
   moved j (Next.ends s some) t h = never-ends j on
 
   pub laid-fits : {e : Draft} → laid d x ≡ drafted e → Fits x
   laid-fits h =
-      fits (p .moduli) (p .state) (judging (d .moduli) (d .given) (length (d .words)) (d .due) x) (not-refused d x _ h)
+      fits (p .moduli) (p .state) on (judging (d .moduli) (d .given) (length (d .words)) (d .due) x) (not-refused d x _ h)
 
   pub step :
       {e : Draft}
@@ -261,6 +272,7 @@ begun all tables b =
       given = refl;
       rest = ap (λ (h : Bool). headed h (fileOf all)) (sym head);
       early = Early.before;
+      enough = omega arith;
     }
   where
     head : hasHead (fileOf all) ≡ true

@@ -4,10 +4,12 @@
 use mathlib.Core.Path.{_≡_, refl, sym, ap, ap₂, subst, _∙_}
 use mathlib.Core.Bool.{true, false, true≢false}
 use mathlib.Core.List.{List, [], _∷_, _++_}
-use Prim.Native.Nat.{ℕ}
+use Prim.Native.Nat.{ℕ, suc, _≤_}
 use lib.ListN.{length, getD}
+use Rattle.words.specs.Bits.{wordAt, named}
 use Rattle.words.specs.Items.{judged, gateDue, wireOf}
-use Rattle.words.specs.Encode.{fileOf}
+use Rattle.words.specs.Encode.{wordOf, fileOf}
+use Rattle.words.specs.Fits.{Fits}
 use Rattle.words.specs.declared.gate.Gate.{Gate}
 use Rattle.words.specs.declared.gate.Wire.{Wire}
 use Rattle.words.specs.declared.gate.Due.{Due}
@@ -15,75 +17,93 @@ use Rattle.words.specs.declared.gate.Due.the-variants.{Gates, Branches}
 use Rattle.words.specs.declared.gate.Step.{Step}
 use Rattle.words.specs.declared.gate.Step.the-variants.{Makes, Goes}
 use Rattle.words.specs.declared.item.Item.{Item}
+use Rattle.circuit.proofs.More.{length-more}
 use Rattle.circuit.proofs.State.{State, at-gates}
 use Rattle.writer.specs.declared.entry.Record.{Record}
-use Rattle.writer.specs.Listed.{gateRecord, recordsOf, tablesOf}
+use Rattle.writer.specs.Listed.{gateRecord, tablesOf}
 use Rattle.writer.specs.Written.{Draft, drafted, laid, laidAll}
 use Rattle.words.proofs.Judged.{Judged, judging}
-use Rattle.editor.proofs.ForwardsDrafts.{Begins, begins-trans, Then, tables-after, due-after, dueAfter, first-then, only-one, all-begins}
-use Rattle.editor.proofs.ForwardsStep.{Early, InStep, inputs-gates, none-yet, isRefused, not-refused, isEnd, wiresAfter, outputsAfter, step}
-use Rattle.editor.proofs.ForwardsRecords.{Alone, alone-on}
-use Rattle.editor.proofs.ForwardsListed.{one-output, one-wire, no-table}
+use Rattle.editor.proofs.Encoded.{names-of, word-at}
+use Rattle.editor.proofs.ForwardsDrafts.{Begins, begins-word, begins-trans, Then, words-after, tables-after, due-after, dueAfter, laid-begins, first-then, only-one, all-begins}
+use Rattle.editor.proofs.ForwardsStep.{Early, InStep, inputs-gates, none-yet, isRefused, not-refused, sayable, wiresAfter, outputsAfter, laid-fits, step}
+use Rattle.editor.proofs.ForwardsRecords.{Alone, alone-sayable}
+use Rattle.editor.proofs.ForwardsListed.{recordsBefore, one-output, one-wire, no-table}
 
 -- reader and writer in step, with the list that is read so far, and all table entries: those that are read and those that are left
 pub record Carried (all : List ℕ) (d : Draft) (done : List Record) (tables : List ℕ) : Type 0 where
   pub wires : List Wire
   pub outputs : List ℕ
   pub inStep : InStep all d wires outputs
-  pub recordsAre : recordsOf wires outputs ≡ done
+  pub recordsAre : recordsBefore (fileOf all) (length (d .words)) wires outputs ≡ done
   pub tablesAre : tablesOf (fileOf all) wires ++ d .tables ≡ tables
 
 -- ---- a record of one item
 
-module _ (wires : List Wire) {moduli outputs : List ℕ} {given at : ℕ} {due : Due} where
+-- its word stands at an index, and its fields fit
+record Here (file : List ℕ) (at : ℕ) (x : Item) : Type 0 where
+  stands : wordAt file at ≡ wordOf x
+  fits : Fits x
+
+module _ (file : List ℕ) (wires : List Wire) {moduli outputs : List ℕ} {given at : ℕ} {due : Due} where
   alone-records :
       {x : Item} {r : Record} {s : Step}
       → Alone x r
       → Judged moduli given at due x s
       → isRefused s ≡ false
       → Early due outputs
-      → recordsOf (wiresAfter s wires) (outputsAfter s outputs) ≡ recordsOf wires outputs ++ (r ∷ [])
-  alone-records Alone.input Judged.refused h y = absurd (true≢false h)
-  alone-records Alone.input (Judged.input room short party) h y = one-wire wires _ (none-yet y (inputs-gates due (room .due)))
-  alone-records Alone.add Judged.refused h y = absurd (true≢false h)
-  alone-records Alone.add (Judged.add room two) h y = one-wire wires _ (none-yet y (room .due))
-  alone-records Alone.scale Judged.refused h y = absurd (true≢false h)
-  alone-records Alone.scale (Judged.scale room lower below) h y = one-wire wires _ (none-yet y (room .due))
-  alone-records Alone.multiply Judged.refused h y = absurd (true≢false h)
-  alone-records Alone.multiply (Judged.multiply room two) h y = one-wire wires _ (none-yet y (room .due))
-  alone-records Alone.output Judged.refused h y = absurd (true≢false h)
-  alone-records Alone.output (Judged.output here lower few) h y = one-output wires outputs _
+      → length outputs ≤ at
+      → Here file at x
+      → recordsBefore file (suc at) (wiresAfter s wires) (outputsAfter s outputs) ≡ recordsBefore file at wires outputs ++ (r ∷ [])
+  alone-records Alone.input Judged.refused h y l w = absurd (true≢false h)
+  alone-records Alone.input (Judged.input room short party) h y l w = one-wire wires _ _ _ (none-yet y (inputs-gates due (room .due)))
+  alone-records Alone.add Judged.refused h y l w = absurd (true≢false h)
+  alone-records Alone.add (Judged.add room two) h y l w = one-wire wires _ _ _ (none-yet y (room .due))
+  alone-records Alone.scale Judged.refused h y l w = absurd (true≢false h)
+  alone-records Alone.scale (Judged.scale room lower below) h y l w = one-wire wires _ _ _ (none-yet y (room .due))
+  alone-records Alone.multiply Judged.refused h y l w = absurd (true≢false h)
+  alone-records Alone.multiply (Judged.multiply room two) h y l w = one-wire wires _ _ _ (none-yet y (room .due))
+  alone-records (Alone.output byte) Judged.refused h y l w = absurd (true≢false h)
+  alone-records (Alone.output {named = n} {a} byte) (Judged.output here lower few) h y l w =
+      one-output file at wires outputs _ l (ap named (w .stands) ∙ names-of n a (w .fits))
 
   alone-tables :
-      {file : List ℕ} {x : Item} {r : Record} {s : Step}
+      {x : Item} {r : Record} {s : Step}
       → Alone x r
       → Judged moduli given at due x s
       → isRefused s ≡ false
       → State file at due wires outputs
       → tablesOf file (wiresAfter s wires) ≡ tablesOf file wires
   alone-tables Alone.input Judged.refused h st = absurd (true≢false h)
-  alone-tables {file} Alone.input (Judged.input room short party) h st = no-table file wires _ (at-gates st (inputs-gates due (room .due))) refl
+  alone-tables Alone.input (Judged.input room short party) h st = no-table file wires _ (at-gates st (inputs-gates due (room .due))) refl
   alone-tables Alone.add Judged.refused h st = absurd (true≢false h)
-  alone-tables {file} Alone.add (Judged.add room two) h st = no-table file wires _ (at-gates st (room .due)) refl
+  alone-tables Alone.add (Judged.add room two) h st = no-table file wires _ (at-gates st (room .due)) refl
   alone-tables Alone.scale Judged.refused h st = absurd (true≢false h)
-  alone-tables {file} Alone.scale (Judged.scale room lower below) h st = no-table file wires _ (at-gates st (room .due)) refl
+  alone-tables Alone.scale (Judged.scale room lower below) h st = no-table file wires _ (at-gates st (room .due)) refl
   alone-tables Alone.multiply Judged.refused h st = absurd (true≢false h)
-  alone-tables {file} Alone.multiply (Judged.multiply room two) h st = no-table file wires _ (at-gates st (room .due)) refl
-  alone-tables Alone.output Judged.refused h st = absurd (true≢false h)
-  alone-tables Alone.output (Judged.output here lower few) h st = refl
+  alone-tables Alone.multiply (Judged.multiply room two) h st = no-table file wires _ (at-gates st (room .due)) refl
+  alone-tables (Alone.output byte) Judged.refused h st = absurd (true≢false h)
+  alone-tables (Alone.output byte) (Judged.output here lower few) h st = refl
 
 module _ {all : List ℕ} {d e : Draft} {done : List Record} {tables : List ℕ} (c : Carried all d done tables) (b : Begins (e .words) all) where
   pub alone-taken : {x : Item} {r : Record} → Alone x r → laid d x ≡ drafted e → Carried all e (done ++ (r ∷ [])) tables
   alone-taken {x} {r} only h =
       let j = judging (d .moduli) (d .given) (length (d .words)) (d .due) x in
       let s = judged (d .moduli) (d .given) (length (d .words)) (d .due) x in
+      let longer : length (e .words) ≡ suc (length (d .words)) = sym (ap (length {A = ℕ}) (words-after d x s h)) ∙ length-more (d .words) (wordOf x) in
       record {
         wires = wiresAfter s (c .wires);
         outputs = outputsAfter s (c .outputs);
-        inStep = step (c .inStep) x (alone-on only) h b;
-        recordsAre = alone-records (c .wires) only j (not-refused d x s h) (c .inStep .early) ∙ ap (λ (rs : List Record). rs ++ (r ∷ [])) (c .recordsAre);
+        inStep = step (c .inStep) x (alone-sayable only) h b;
+        recordsAre =
+            ap (λ (k : ℕ). recordsBefore (fileOf all) k (wiresAfter s (c .wires)) (outputsAfter s (c .outputs))) longer
+            ∙ alone-records (fileOf all) (c .wires) only j (not-refused d x s h) (c .inStep .early) (c .inStep .enough)
+            (record {
+              stands = word-at all (length (d .words)) ∙ begins-word (d .words) (wordOf x) (begins-trans (laid-begins d x h) b);
+              fits = laid-fits (c .inStep) x (alone-sayable only) h;
+            })
+            ∙ ap (λ (rs : List Record). rs ++ (r ∷ [])) (c .recordsAre);
         tablesAre =
-            ap₂ (_++_ {A = ℕ}) (alone-tables (c .wires) only j (not-refused d x s h) (c .inStep .state)) (sym (tables-after d x s h)) ∙ c .tablesAre;
+            ap₂ (_++_ {A = ℕ}) (alone-tables (fileOf all) (c .wires) only j (not-refused d x s h) (c .inStep .state)) (sym (tables-after d x s h)) ∙ c .tablesAre;
       }
 
 -- ---- a selection: the bit's word, then the branches
@@ -109,7 +129,7 @@ module _ {moduli : List ℕ} {given at : ℕ} where
 pub goes-on :
     {all : List ℕ} {d e : Draft} {wires : List Wire} {outputs : List ℕ} {then : Due} (x : Item)
     → InStep all d wires outputs
-    → isEnd x ≡ false
+    → sayable x ≡ true
     → laid d x ≡ drafted e
     → Begins (e .words) all
     → judged (d .moduli) (d .given) (length (d .words)) (d .due) x ≡ Goes then
@@ -123,7 +143,7 @@ goes-on {all} {d} {e} {wires} {outputs} x p on h b i = (
 pub makes-one :
     {all : List ℕ} {d e : Draft} {wires : List Wire} {outputs : List ℕ} {then : Due} {wire : Wire} (x : Item)
     → InStep all d wires outputs
-    → isEnd x ≡ false
+    → sayable x ≡ true
     → laid d x ≡ drafted e
     → Begins (e .words) all
     → judged (d .moduli) (d .given) (length (d .words)) (d .due) x ≡ Makes wire then
@@ -154,7 +174,7 @@ module _ {all : List ℕ} {d e : Draft} {done : List Record} {tables : List ℕ}
         outputs = c .outputs;
         inStep = two .0;
         recordsAre =
-            one-wire (c .wires) _ (none-yet (c .inStep .early) (did .1)) ∙ ap (λ (rs : List Record). rs ++ (gateRecord (Gate.Select (record { bit = bit; a = m; b = n })) 0 ∷ [])) (c .recordsAre);
+            one-wire (c .wires) _ _ _ (none-yet (c .inStep .early) (did .1)) ∙ ap (λ (rs : List Record). rs ++ (gateRecord (Gate.Select (record { bit = bit; a = m; b = n })) 0 ∷ [])) (c .recordsAre);
         tablesAre =
             ap₂ (_++_ {A = ℕ}) (no-table (fileOf all) (c .wires) _ (at-gates (c .inStep .state) (did .1)) refl)
             (sym (tables-after d (Item.Select bit) _ (t .first) ∙ tables-after f (Item.Branches m n) _ g))

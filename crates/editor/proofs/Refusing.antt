@@ -24,8 +24,8 @@ use Rattle.writer.specs.Written.{Draft, Drafted, stopped, drafted, blank, leavi
 use Rattle.editor.specs.Promise.{draftedTo, Before, Reached, RefusedSo, RefusedIsRefused}
 use Rattle.editor.proofs.ForwardsDrafts.{Begins, begins-trans, begins-front, tables-after, all-begins}
 use Rattle.editor.proofs.ForwardsStep.{turned}
-use Rattle.editor.proofs.ForwardsRecords.{NoEnd}
-use Rattle.editor.proofs.RefusingRun.{Follows, follows-leaving, follows-items, says-no-end, follows-all, drafted-more}
+use Rattle.editor.proofs.ForwardsRecords.{AllSayable}
+use Rattle.editor.proofs.RefusingRun.{Follows, follows-leaving, follows-items, says-sayable, follows-all, drafted-more}
 use Rattle.editor.proofs.RefusingStops.{stopped-item, Stopped, Stops, stopped-record}
 
 -- ---- the reader at an item that is refused
@@ -56,9 +56,9 @@ module _ (d : Draft) (x : Item) (rest : List ℕ) where
       (stopped-item d x _ h) (turned (p .inStep) f goes-on)
 
 -- the items before
-no-end-front : (before later : List Item) → NoEnd (before ++ later) → NoEnd before
-no-end-front [] later on = NoEnd.none
-no-end-front (x ∷ before) later (NoEnd.more n on) = NoEnd.more n (no-end-front before later on)
+sayable-front : (before later : List Item) → AllSayable (before ++ later) → AllSayable before
+sayable-front [] later on = AllSayable.none
+sayable-front (x ∷ before) later (AllSayable.more n on) = AllSayable.more n (sayable-front before later on)
 
 -- ---- what writing refused
 
@@ -144,7 +144,7 @@ module _ (tables : List ℕ) (taken : List Record) (d : Draft) (so-far : drafted
         let p : Follows (s .draft .words ++ (wordOf (s .item) ∷ rest)) d =
         follows-all taken tables so-far (begins-trans (all-begins (s .before) (leaving d left) (s .reached)) b) in
         refused-there (s .draft) (s .item) rest
-        (follows-items (s .before) (leaving d left) (no-end-front (s .before) (s .item ∷ s .later) (says-no-end d r said)) (follows-leaving left p) (s .reached) b)
+        (follows-items (s .before) (leaving d left) (sayable-front (s .before) (s .item ∷ s .later) (says-sayable d r said)) (follows-leaving left p) (s .reached) b)
         f (s .stops))
 
     by-stop :

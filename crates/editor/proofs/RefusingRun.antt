@@ -12,7 +12,7 @@ use Rattle.writer.specs.Written.{Draft, Drafted, drafted, blank, leaving, laid,
 use Rattle.editor.specs.Promise.{draftedTo}
 use Rattle.editor.proofs.ForwardsDrafts.{Begins, begins-same, begins-trans, same-draft, Then, and-then, first-then, all-begins, record-begins, Laid, laid-record}
 use Rattle.editor.proofs.ForwardsStep.{InStep, leaves, step, begun}
-use Rattle.editor.proofs.ForwardsRecords.{Spoken, speaking, NoEnd, no-end}
+use Rattle.editor.proofs.ForwardsRecords.{Spoken, speaking, AllSayable, all-sayable}
 
 pub record Follows (all : List ℕ) (d : Draft) : Type 0 where
   pub wires : List Wire
@@ -23,23 +23,23 @@ pub follows-leaving : {all : List ℕ} {d : Draft} (left : List ℕ) → Follows
 follows-leaving left p = record { wires = p .wires; outputs = p .outputs; inStep = leaves (p .inStep) }
 
 pub follows-items :
-    {all : List ℕ} (xs : List Item) (d : Draft) {e : Draft} → NoEnd xs → Follows all d → laidAll d xs ≡ drafted e → Begins (e .words) all → Follows all e
+    {all : List ℕ} (xs : List Item) (d : Draft) {e : Draft} → AllSayable xs → Follows all d → laidAll d xs ≡ drafted e → Begins (e .words) all → Follows all e
 unfolding laidAll
 follows-items {all} [] d on p h b = subst (Follows all) (same-draft h) p
-follows-items (x ∷ xs) d {e} (NoEnd.more n on) p h b =
+follows-items (x ∷ xs) d {e} (AllSayable.more n on) p h b =
     let t : Then (laid d x) (λ (f : Draft). laidAll f xs) e = first-then d x xs h in
     follows-items xs (t .middle) on
     (record { wires = _; outputs = _; inStep = step (p .inStep) x n (t .first) (begins-trans (all-begins xs (t .middle) (t .second)) b) })
     (t .second) b
 
 -- the items that a record says
-pub says-no-end : (d : Draft) (r : Record) {says : List Item} {left : List ℕ} → speechOf (d .moduli) (d .tables) r ≡ items says left → NoEnd says
-says-no-end d r e = no-end (subst (λ (s : Speech). Spoken (d .moduli) (d .tables) r s) e (speaking (d .moduli) (d .tables) r))
+pub says-sayable : (d : Draft) (r : Record) {says : List Item} {left : List ℕ} → speechOf (d .moduli) (d .tables) r ≡ items says left → AllSayable says
+says-sayable d r e = all-sayable (subst (λ (s : Speech). Spoken (d .moduli) (d .tables) r s) e (speaking (d .moduli) (d .tables) r))
 
 follows-record : {all : List ℕ} (d : Draft) {e : Draft} (r : Record) → Follows all d → recorded d r ≡ drafted e → Begins (e .words) all → Follows all e
 follows-record d {e} r p h b =
     let l : Laid d (speechOf (d .moduli) (d .tables) r) e = laid-record d _ h in
-    follows-items (l .says) (leaving d (l .left)) (says-no-end d r (l .said)) (follows-leaving (l .left) p) (l .all) b
+    follows-items (l .says) (leaving d (l .left)) (says-sayable d r (l .said)) (follows-leaving (l .left) p) (l .all) b
 
 -- the first records
 next-drafted : (d : Draft) (r : Record) (records : List Record) {e : Draft} → draftedTo (r ∷ records) d ≡ drafted e → Then (recorded d r) (draftedTo records) e

@@ -8,7 +8,7 @@ use row_calls::open_rows;
 use session::AskedSeat;
 use session::AskedSession;
 
-// Rows, input masks and output masks of a round, from all contributions, and the named account charged: 1 to 10, 11, 13, 14, 25, 16, 17, 21.
+// Rows, input masks and output masks of a round, from all contributions, and the named account charged: 1 to 10, 11, 13, 28, 14, 25, 16, 17, 21.
 #[no_mangle]
 pub extern "C" fn lupiknam_garble(
     file: &[u8],
@@ -39,7 +39,7 @@ pub extern "C" fn lupiknam_garble(
     told(answer)
 }
 
-// The keys and external value of every wire at a party, from the rows of a round: 1 to 20.
+// The keys and external value of every wire at a party, from the rows of a round: 1 to 13, 28, 14 to 20.
 #[no_mangle]
 pub extern "C" fn lupiknam_open(
     file: &[u8],

@@ -26,6 +26,7 @@ pub use party::lupiknam_input_keys;
 pub use plain_call::lupiknam_plain;
 pub use read::lupiknam_inputs_of;
 pub use read::lupiknam_read;
+pub use two::lupiknam_pair_decode;
 pub use two::lupiknam_pair_garble;
 pub use two::lupiknam_pair_input_keys;
 pub use two::lupiknam_pair_open;

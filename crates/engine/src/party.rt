@@ -7,7 +7,7 @@ use super::answer::told;
 use party_calls::decode;
 use party_calls::input_keys;
 
-// The external values of a party's own inputs, from their values and masks: 1 to 10, 11 for n, 12 to 15.
+// The external values of a party's own inputs, from their values and masks: 1 to 10, 11 for n, 12, 13, 28, 14, 15.
 #[no_mangle]
 pub extern "C" fn lupiknam_externals(
     file: &[u8],
@@ -23,7 +23,7 @@ pub extern "C" fn lupiknam_externals(
     told(answer)
 }
 
-// A party's keys on all inputs, from its contribution and the external values: 1 to 17.
+// A party's keys on all inputs, from its contribution and the external values: 1 to 13, 28, 14 to 17.
 #[no_mangle]
 pub extern "C" fn lupiknam_input_keys(
     file: &[u8],
@@ -40,16 +40,19 @@ pub extern "C" fn lupiknam_input_keys(
     told(answer)
 }
 
-// The outputs' values, from external values and output masks: 1 to 10, 14, 15.
+// The values of the outputs that a party may read, from external values and its sheet of output masks, 255 for the others: 1 to 10, 11 for n, 12, 13, 28, 14,
+// 15.
 #[no_mangle]
 pub extern "C" fn lupiknam_decode(
     file: &[u8],
+    n: u32,
+    party: u32,
     externals: &[u8],
     masks: &[u8],
     outputs: &mut [u8],
 ) -> Reported
-    ensures { λ r. ⌜ DecodeCall (now (file .entry)) (now (externals .entry)) (now (masks .entry)) (now (outputs .entry)) (r .number) (r .place) (now (outputs .exit)) ⌝ }
+    ensures { λ r. ⌜ DecodeCall (now (file .entry)) n party (now (externals .entry)) (now (masks .entry)) (now (outputs .entry)) (r .number) (r .place) (now (outputs .exit)) ⌝ }
 {
-    let answer = decode(file, externals, masks, outputs);
+    let answer = decode(file, n, party, externals, masks, outputs);
     told(answer)
 }

@@ -36,7 +36,7 @@ pub extern "C" fn lupiknam_read(
     }
 }
 
-// How many inputs a party owns: 1 to 10, 11 for n, 12, 13.
+// How many inputs a party owns: 1 to 10, 11 for n, 12, 13, 28.
 #[no_mangle]
 pub extern "C" fn lupiknam_inputs_of(file: &[u8], n: u32, party: u32, count: &mut u32) -> Reported
     ensures { λ r. ⌜ InputsOfCall (now (file .entry)) n party (now (count .entry)) (r .number) (r .place) (now (count .exit)) ⌝ }

@@ -1,12 +1,14 @@
-// The calls of the two-party form: one side garbles, the other opens. Decoding is that of the n-party form.
+// The calls of the two-party form: one side garbles, the other opens. It passes over the parties that outputs name.
 ghost use Rattle.pair.specs.Read.{PairReadCall};
 ghost use Rattle.pair.specs.Garble.{PairGarbleCall};
 ghost use Rattle.pair.specs.InputKeys.{PairInputKeysCall};
 ghost use Rattle.pair.specs.Open.{PairOpenCall};
+ghost use Rattle.pair.specs.Decode.{PairDecodeCall};
 use super::answer::Reported;
 use super::answer::told;
 use checks::Answer;
 use pair_calls::AskedRound;
+use pair_calls::pair_decode;
 use pair_calls::pair_garble;
 use pair_calls::pair_input_keys;
 use pair_calls::pair_open;
@@ -79,5 +81,19 @@ pub extern "C" fn lupiknam_pair_open(
 {
     let asked = AskedRound { k, round };
     let answer = pair_open(file, asked, keys, rows, wire_keys, wire_externals);
+    told(answer)
+}
+
+// The outputs' values, from external values and output masks: 1 to 10, 14, 15.
+#[no_mangle]
+pub extern "C" fn lupiknam_pair_decode(
+    file: &[u8],
+    externals: &[u8],
+    masks: &[u8],
+    outputs: &mut [u8],
+) -> Reported
+    ensures { λ r. ⌜ PairDecodeCall (now (file .entry)) (now (externals .entry)) (now (masks .entry)) (now (outputs .entry)) (r .number) (r .place) (now (outputs .exit)) ⌝ }
+{
+    let answer = pair_decode(file, externals, masks, outputs);
     told(answer)
 }

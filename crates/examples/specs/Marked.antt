@@ -1,6 +1,7 @@
 -- Document 01, "Examples": the cases marked to be proved. Each is computed by the definitions of zero keys and masks, garbling, opening and
 -- decoding, and stands beside the numbers that the document prints. A pad of zeros leaves a row its message. One party and key length 1 serve,
--- since keys are taken component by component.
+-- since keys are taken component by component; decoding alone is told of two parties, and decodes for party 0. No output names a party, so each
+-- may read it.
 -- Assumes nothing.
 use mathlib.Core.List.{List, [], _∷_}
 use Prim.Native.Nat.{ℕ, _+_, _-_}
@@ -15,7 +16,7 @@ use Rattle.counts.specs.Counts.{rowsIn}
 use Rattle.pads.specs.Pad.{Pad}
 use Rattle.scheme.specs.Draw.{Draw}
 use Rattle.scheme.specs.Zero.{mask}
-use Rattle.scheme.specs.Rows.{garbledRows, outputMasks}
+use Rattle.scheme.specs.Rows.{garbledRows, outputSheet}
 use Rattle.scheme.specs.Opening.{multiplierOf, wireKeys, wireExternals}
 use Rattle.calls.specs.InputKeys.{inputKey}
 use Rattle.calls.specs.Decode.{decodeAfter}
@@ -81,7 +82,7 @@ unfoldable pub productExternals : ℕ → List ℕ
 productExternals v = openedExternals productWires productDraw (3 ∷ v ∷ [])
 
 unfoldable pub productDecoded : ℕ → List ℕ
-productDecoded v = decodeAfter productFile (productExternals v) (outputMasks productWires (3 ∷ []) productDraw) (0 ∷ [])
+productDecoded v = decodeAfter productFile 2 0 (productExternals v) (outputSheet productWires (3 ∷ []) (0 ∷ []) productDraw 0) (0 ∷ [])
 
 -- the external value and the key of wire 0
 unfoldable pub wire : List ℕ
@@ -127,7 +128,7 @@ unfoldable pub choiceExternals : ℕ → List ℕ
 choiceExternals bit = openedExternals choiceWires choiceDraw (bit ∷ 2 ∷ 4 ∷ [])
 
 unfoldable pub choiceDecoded : ℕ → List ℕ
-choiceDecoded bit = decodeAfter choiceFile (choiceExternals bit) (outputMasks choiceWires (3 ∷ []) choiceDraw) (0 ∷ [])
+choiceDecoded bit = decodeAfter choiceFile 2 0 (choiceExternals bit) (outputSheet choiceWires (3 ∷ []) (0 ∷ []) choiceDraw 0) (0 ∷ [])
 
 -- the external value of h, whose key is z's without a's, that of z, and z decoded
 unfoldable pub select : ℕ → List ℕ

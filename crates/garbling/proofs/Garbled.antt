@@ -1,4 +1,4 @@
--- The pass over the wires, the memory that it works in, and the masks that are handed out.
+-- The pass over the wires, the memory that it works in, and the masks of the inputs.
 -- Assumes nothing.
 use mathlib.Core.Path.{_≡_, sym, ap, ap₂, subst, _∙_}
 use mathlib.Core.List.{List, _++_}
@@ -7,23 +7,22 @@ use native.Mathlib.Omega.{arith}
 use lib.ListN.{length, getD, take, replicate}
 use lib.Seq.{getD-take, length-take-le}
 use Rattle.lists.specs.Blocks.{blocks, sumTo, tab}
-use Rattle.lists.proofs.Blocks.{tab-ext, is-tab}
+use Rattle.lists.proofs.Blocks.{is-tab}
 use Rattle.lists.proofs.Steps.{Steps, steps-start, steps-whole}
 use Rattle.words.specs.declared.gate.Wire.{Wire}
 use Rattle.circuit.specs.declared.Circuit.{Circuit}
 use Rattle.circuit.specs.Wires.{wireAt, moduliOf, inputsIn}
-use Rattle.circuit.specs.Held.{wiresIn, outputsIn}
+use Rattle.circuit.specs.Held.{wiresIn}
 use Rattle.counts.specs.Recipe.{recipe}
 use Rattle.counts.specs.declared.recipe.Recipe.{Recipe}
 use Rattle.counts.specs.Counts.{recordKeysBy, rowsBy, rowsOf, rowsIn, Counts}
 use Rattle.counts.specs.Moduli.{usedBelow}
-use Rattle.session.proofs.Circuits.{made-is, given-is, inputs-made}
-use Rattle.plain.specs.Ready.{Gives}
+use Rattle.session.proofs.Circuits.{made-is, inputs-made}
 use Rattle.pads.specs.Pad.{shakePad}
 use Rattle.scheme.specs.Contribution.{recordAt}
 use Rattle.scheme.specs.Draw.{Draw}
 use Rattle.scheme.specs.Zero.{mask}
-use Rattle.scheme.specs.Rows.{gateRows, garbledRows, inputMasks, outputMasks}
+use Rattle.scheme.specs.Rows.{gateRows, garbledRows, inputMasks}
 use Rattle.session.specs.Sizes.{Sizes}
 use Rattle.zero.specs.Ready.{Contributed, ZeroKeys, Masks, drawnIn}
 use Rattle.garbling.specs.declared.turn.Turn.{Turn}
@@ -89,7 +88,7 @@ module _ {file : List ℕ} {circuit : Circuit} {n K size : ℕ} {contributions :
         turn-rows g k = k ∙ ap (rowsHere turn contributions ranks moduli keys masks file) g ∙ rows-are r z m er em h here round number count en (ec .is)
 
   module _ {masks : List ℕ} (m : Masks circuit n K contributions masks) where
-    -- ---- the masks that are handed out
+    -- ---- the input masks
 
     pub inputs-fit : {bytes : ℕ} → bytes ≡ inputsIn wires → bytes ≤ length masks
     inputs-fit e = omega (arith, inputs-made (r .held), r .held .inputs, r .held .room .made, masks-kept r m)
@@ -99,21 +98,3 @@ module _ {file : List ℕ} {circuit : Circuit} {n K size : ℕ} {contributions :
     inputs-are {bytes} e =
         is-tab (inputsIn wires) (mask wires drew) (take bytes masks) 0 (length-take-le bytes masks (inputs-fit e) ∙ e)
         (λ i h. getD-take bytes masks i 0 (omega arith) ∙ masks-at r m i (omega (arith, inputs-made (r .held), r .held .inputs)))
-
-    pub gives-masks : {bytes : ℕ} → bytes ≡ length (outputsIn circuit) → Gives circuit masks bytes
-    gives-masks e =
-        record {
-          given = r .held .given;
-          outputs = r .held .outputs;
-          size = e ∙ given-is (r .held);
-          made =
-              λ i l.
-              omega
-              (arith, r .held .room .made, masks-kept r m, made-is (r .held), getD-take (circuit .given) (circuit .outputs) i 0 l, r .accepted .outputsMade i (omega (arith, given-is (r .held))));
-        }
-
-    pub outputs-are : tab (length (outputsIn circuit)) (λ i. getD masks (getD (outputsIn circuit) i 0) 0) ≡ outputMasks wires (outputsIn circuit) drew
-    unfolding outputMasks
-    outputs-are =
-        tab-ext (length (outputsIn circuit)) (λ i. getD masks (getD (outputsIn circuit) i 0) 0) (λ i. mask wires drew (getD (outputsIn circuit) i 0))
-        (λ i l. masks-at r m (getD (outputsIn circuit) i 0) (omega (arith, made-is (r .held), r .accepted .outputsMade i l)))

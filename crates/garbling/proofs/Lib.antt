@@ -4,3 +4,4 @@ pub mod Looked
 pub mod Called
 pub mod Arms
 pub mod Garbled
+pub mod Sheets

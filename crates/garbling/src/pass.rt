@@ -6,12 +6,13 @@ ghost use Rattle.circuit.specs.Wires.{inputsIn};
 ghost use Rattle.circuit.specs.Held.{wiresIn, outputsIn};
 ghost use Rattle.counts.specs.Recipe.{recipe};
 ghost use Rattle.counts.specs.Counts.{rowsBy, rowsIn};
-ghost use Rattle.scheme.specs.Rows.{inputMasks, outputMasks};
+ghost use Rattle.scheme.specs.Rows.{inputMasks};
 ghost use Rattle.zero.specs.Ready.{Contributed, ZeroKeys, Masks, drawnIn};
 ghost use Rattle.garbling.specs.Source.{rowsMade};
+ghost use Rattle.garbling.specs.Sheets.{sheetsMade};
 use super::gate::gate_rows;
 use super::handed::put_input_masks;
-use super::handed::put_output_masks;
+use super::handed::put_sheets;
 use super::turn::Turn;
 use circuit::Circuit;
 use contribution::first_record;
@@ -102,10 +103,10 @@ fn garble_from(
     requires { ⌜ Contributed (now file) circuit (session .n) (session .k) size (now contributions) ⌝ }
     requires { ⌜ ZeroKeys circuit (session .n) (session .k) (now contributions) (now keys) ⌝ }
     requires { ⌜ (length (now rows) ≡ rowsIn (wiresIn circuit) * (session .n * session .k))
-        × ((length (now inputs) ≡ inputsIn (wiresIn circuit)) × (length (now outputs) ≡ length (outputsIn circuit))) ⌝ }
+        × ((length (now inputs) ≡ inputsIn (wiresIn circuit)) × (length (now outputs) ≡ session .n * length (outputsIn circuit))) ⌝ }
     ensures { λ _. ⌜ (now (rows .exit) ≡ rowsMade session circuit (now (file .entry)) (now (contributions .entry)))
         × ((now (inputs .exit) ≡ inputMasks (wiresIn circuit) (drawnIn circuit (session .n) (session .k) (now (contributions .entry))))
-        × (now (outputs .exit) ≡ outputMasks (wiresIn circuit) (outputsIn circuit) (drawnIn circuit (session .n) (session .k) (now (contributions .entry))))) ⌝ }
+        × (now (outputs .exit) ≡ sheetsMade session circuit (now (contributions .entry)))) ⌝ }
 {
     let masks = wire_masks(circuit, file, session.n, session.k, size, contributions);
     put_rows(
@@ -119,7 +120,7 @@ fn garble_from(
         rows,
     );
     put_input_masks(&masks, inputs);
-    put_output_masks(circuit, &masks, outputs);
+    put_sheets(circuit, &masks, session.n, outputs);
 }
 
 // The same, with memory to work in.
@@ -137,10 +138,10 @@ fn garble_in(
     requires { ⌜ Contributed (now file) circuit (session .n) (session .k) size (now contributions) ⌝ }
     requires { ⌜ 1048576 ≤ length (now work) ⌝ }
     requires { ⌜ (length (now rows) ≡ rowsIn (wiresIn circuit) * (session .n * session .k))
-        × ((length (now inputs) ≡ inputsIn (wiresIn circuit)) × (length (now outputs) ≡ length (outputsIn circuit))) ⌝ }
+        × ((length (now inputs) ≡ inputsIn (wiresIn circuit)) × (length (now outputs) ≡ session .n * length (outputsIn circuit))) ⌝ }
     ensures { λ _. ⌜ (now (rows .exit) ≡ rowsMade session circuit (now (file .entry)) (now (contributions .entry)))
         × ((now (inputs .exit) ≡ inputMasks (wiresIn circuit) (drawnIn circuit (session .n) (session .k) (now (contributions .entry))))
-        × (now (outputs .exit) ≡ outputMasks (wiresIn circuit) (outputsIn circuit) (drawnIn circuit (session .n) (session .k) (now (contributions .entry))))) ⌝ }
+        × (now (outputs .exit) ≡ sheetsMade session circuit (now (contributions .entry)))) ⌝ }
 {
     let bytes = circuit.made * (session.n * session.k);
     zero_keys(
@@ -170,7 +171,7 @@ fn zeros() -> [u8; 1048576] {
     [0u8; 1048576]
 }
 
-// Garbling, once every check has passed: rows, a mask for each input, a mask for each output.
+// Garbling, once every check has passed: rows, a mask for each input, and for each party a sheet with the masks of the outputs that it may read.
 pub fn garble(
     circuit: Circuit,
     file: &[u8],
@@ -183,10 +184,10 @@ pub fn garble(
 )
     requires { ⌜ Contributed (now file) circuit (session .n) (session .k) size (now contributions) ⌝ }
     requires { ⌜ (length (now rows) ≡ rowsIn (wiresIn circuit) * (session .n * session .k))
-        × ((length (now inputs) ≡ inputsIn (wiresIn circuit)) × (length (now outputs) ≡ length (outputsIn circuit))) ⌝ }
+        × ((length (now inputs) ≡ inputsIn (wiresIn circuit)) × (length (now outputs) ≡ session .n * length (outputsIn circuit))) ⌝ }
     ensures { λ _. ⌜ (now (rows .exit) ≡ rowsMade session circuit (now (file .entry)) (now (contributions .entry)))
         × ((now (inputs .exit) ≡ inputMasks (wiresIn circuit) (drawnIn circuit (session .n) (session .k) (now (contributions .entry))))
-        × (now (outputs .exit) ≡ outputMasks (wiresIn circuit) (outputsIn circuit) (drawnIn circuit (session .n) (session .k) (now (contributions .entry))))) ⌝ }
+        × (now (outputs .exit) ≡ sheetsMade session circuit (now (contributions .entry)))) ⌝ }
 {
     let mut work = zeros();
     garble_in(

@@ -3,26 +3,27 @@
 -- Assumes nothing.
 use mathlib.Core.Path.{_≡_, refl, sym, ap, ap₂, subst, _∙_}
 use mathlib.Core.Bool.{Bool, true}
-use mathlib.Core.List.{List, [], _∷_, _++_, map, append-nil, append-assoc}
+use mathlib.Core.List.{List, [], _∷_, _++_, zipWith, append-nil, append-assoc}
 use Prim.Native.Nat.{ℕ, zero, suc, _+_, _-_, _*_, _%_, _≤_, _<_}
 use native.Mathlib.Omega.{arith}
-use lib.ListN.{length, getD, take, drop, length-append, length-map, take-append-drop}
+use lib.ListN.{length, getD, take, drop, length-append, take-append-drop}
 use lib.Seq.{length-take-le, getD-append-add, take-append-add}
 use borrow.Author.Tests.{lt-ltb, le-leb}
-use Rattle.lists.proofs.Blocks.{length-tab, getD-tab}
+use Rattle.lists.proofs.Blocks.{length-tab, getD-tab, is-tab}
 use Rattle.checks.specs.declared.Answer.the-variants.{Accepted}
-use Rattle.words.specs.Bits.{wordAt}
+use Rattle.words.specs.Bits.{wordAt, named as namedIn}
 use Rattle.words.specs.Items.{gateDue, outputDue}
 use Rattle.words.specs.Encode.{wordOf, fileOf}
 use Rattle.words.specs.Fits.{Fits}
 use Rattle.words.specs.declared.gate.Wire.{Wire}
 use Rattle.words.specs.declared.gate.Due.{Due}
 use Rattle.words.specs.declared.gate.Due.the-variants.{Inputs, Gates, Outputs, Entries, Branches}
-use Rattle.words.specs.declared.item.Item.the-variants.{Output, End}
+use Rattle.words.specs.declared.item.Item.the-variants.{Output}
 use Rattle.words.proofs.Files.{length-file}
 use Rattle.circuit.specs.Wires.{noWire, moduliOf}
-use Rattle.circuit.specs.File.{Read, accepted, ended, after, readFile}
+use Rattle.circuit.specs.File.{Read, accepted, namedBefore, ended, after, readFile}
 use Rattle.circuit.proofs.Accepted.{accepted as circuit-of}
+use Rattle.circuit.proofs.Outputs.{named-there}
 use Rattle.circuit.proofs.More.{made, length-more}
 use Rattle.bundles.specs.declared.operation.Operation.{Operation}
 use Rattle.bundles.specs.Primes.{prime}
@@ -46,43 +47,87 @@ gates-outputs Outputs e = refl
 gates-outputs (Entries left modulus) e = e
 gates-outputs (Branches bit) e = e
 
+length-closing : (outputs named : List ℕ) → length named ≡ length outputs → length (closing outputs named) ≡ suc (length outputs)
+unfolding zipWith
+length-closing [] named e = refl
+length-closing (o ∷ outputs) [] e = absurd (omega arith)
+length-closing (o ∷ outputs) (n ∷ named) e = ap suc (length-closing outputs named (omega arith))
+
+closing-at : (outputs named : List ℕ) → length named ≡ length outputs → (i : ℕ) → i < length outputs
+    → getD (closing outputs named) i 0 ≡ wordOf (Output (getD named i 0) (getD outputs i 0))
+unfolding zipWith
+closing-at [] named e i l = absurd (omega arith)
+closing-at (o ∷ outputs) [] e i l = absurd (omega arith)
+closing-at (o ∷ outputs) (n ∷ named) e zero l = refl
+closing-at (o ∷ outputs) (n ∷ named) e (suc i) l = closing-at outputs named (omega arith) i (omega arith)
+
+-- the parties in an output's word
+parties-in : (parties wire : ℕ) → parties < 256 → wire < 1024 → parties ≡ namedIn (wordOf (Output parties wire))
+parties-in parties wire f g = omega arith
+
 module _ (file : List ℕ) (wires : List Wire) (most : length wires ≤ 1024) where
-  -- so many outputs are given, and these are left
-  record Left (given outputs : List ℕ) : Type 0 where
+  -- so many outputs are given, and these are left, with the parties that they name
+  record Left (given outputs named : List ℕ) : Type 0 where
     some : 0 < length given + length outputs
     few : length given + length outputs ≤ 256
     lower : (i : ℕ) → i < length outputs → getD outputs i 0 < length wires
+    each : length named ≡ length outputs
+    bytes : (i : ℕ) → i < length outputs → getD named i 0 < 256
 
-  left-on : (given : List ℕ) (o : ℕ) (outputs : List ℕ) → Left given (o ∷ outputs) → Left (given ++ (o ∷ [])) outputs
-  left-on given o outputs l =
+  left-on : (given : List ℕ) (o : ℕ) (outputs : List ℕ) (n : ℕ) (named : List ℕ) → Left given (o ∷ outputs) (n ∷ named) → Left (given ++ (o ∷ [])) outputs named
+  left-on given o outputs n named l =
       record {
         some = omega (arith, length-more given o);
         few = omega (arith, l .few, length-more given o);
         lower = λ i h. l .lower (suc i) (omega arith);
+        each = omega (arith, l .each);
+        bytes = λ i h. l .bytes (suc i) (omega arith);
       }
 
-  closes : (outputs given : List ℕ) (at : ℕ) (due : Due)
+  -- the end word is at an index; whom the outputs name is what the words before it say
+  abbrev readTo : ℕ → List ℕ → Read
+  readTo to outputs = accepted wires outputs (namedBefore file to (length outputs))
+
+  closes : (outputs named given : List ℕ) (at to : ℕ) (due : Due)
       → Reach file at due wires given
       → outputDue due ≡ true
-      → Stands file at (closing outputs)
-      → length file ≡ 4 * (at + length (closing outputs))
-      → Left given outputs
-      → readFile file ≡ accepted wires (given ++ outputs)
-  unfolding after ended
-  closes [] given at due r here s size l =
+      → Stands file at (closing outputs named)
+      → length file ≡ 4 * (at + length (closing outputs named))
+      → to ≡ at + length outputs
+      → Left given outputs named
+      → readFile file ≡ readTo to (given ++ outputs)
+  unfolding after ended zipWith
+  closes [] named given at to due r here s size last l =
       let e = said r (first-word s) Fits.end (passed _ _ here ∙ passed _ _ (lt-ltb 0 (length given) (omega (arith, l .some)))) in
       sym (read-on r (omega (arith, s .inside)))
       ∙ turned file at due wires given (omega (arith, s .inside)) e
-      ∙ ap (λ (b : Bool). ended b at wires given) (le-leb (length file) (4 * suc at) (omega (arith, size)))
-      ∙ ap (accepted wires) (sym (append-nil given))
-  closes (o ∷ outputs) given at due r here s size l =
+      ∙ ap (λ (b : Bool). ended b at wires given (namedBefore file at (length given))) (le-leb (length file) (4 * suc at) (omega (arith, size)))
+      ∙ ap₂ readTo (omega (arith, last)) (sym (append-nil given))
+  closes (o ∷ outputs) [] given at to due r here s size last l = absurd (omega (arith, l .each))
+  closes (o ∷ outputs) (n ∷ named) given at to due r here s size last l =
       let lower : o < length wires = l .lower 0 (omega arith) in
-      let e = said r (first-word s) (Fits.output (omega (arith, lower)))
+      let e = said r (first-word s) (Fits.output (l .bytes 0 (omega arith)) (omega (arith, lower)))
       (passed _ _ here ∙ passed _ _ (lt-ltb o (length (moduliOf wires)) (omega (arith, lower, made wires))) ∙ passed _ _ (lt-ltb (length given) 256 (omega (arith, l .few)))) in
-      let later : Stands file (suc at) (closing outputs) =
-      subst (λ (n : ℕ). Stands file n (closing outputs)) (omega arith) (stands-right (wordOf (Output o) ∷ []) (closing outputs) s) in
-      closes outputs (given ++ (o ∷ [])) (suc at) Outputs (Reach.gives r e) refl later (omega (arith, size)) (left-on given o outputs l)
-      ∙ ap (accepted wires) (append-assoc given (o ∷ []) outputs)
+      let later : Stands file (suc at) (closing outputs named) =
+      subst (λ (n : ℕ). Stands file n (closing outputs named)) (omega arith) (stands-right (wordOf (Output n o) ∷ []) (closing outputs named) s) in
+      closes outputs named (given ++ (o ∷ [])) (suc at) to Outputs (Reach.gives r e) refl later (omega (arith, size)) (omega (arith, last)) (left-on given o outputs n named l)
+      ∙ ap (readTo to) (append-assoc given (o ∷ []) outputs)
+
+  -- so they name the parties whose words were laid down
+  names-are : (outputs named : List ℕ) (at to : ℕ)
+      → Stands file at (closing outputs named)
+      → to ≡ at + length outputs
+      → Left [] outputs named
+      → namedBefore file to (length outputs) ≡ named
+  names-are outputs named at to s last l =
+      sym
+      (is-tab (length outputs) (λ i. namedIn (wordAt file (to - length outputs + i))) named 0 (l .each)
+      (λ i h.
+      parties-in (getD named i 0) (getD outputs i 0) (l .bytes i h) (omega (arith, l .lower i h))
+      ∙ ap namedIn
+      (sym (closing-at outputs named (l .each) i h)
+      ∙ sym (s .word i (omega (arith, length-closing outputs named (l .each))))
+      ∙ ap (wordAt file) (omega (arith, last)))))
 
 -- ---- the moduli of a part's wires
 
@@ -101,12 +146,6 @@ unfolding partWires
 wires-moduli [] at i l = absurd (omega arith)
 wires-moduli (gate ∷ gates) at zero l = wire-modulus at gate
 wires-moduli (gate ∷ gates) at (suc i) l = wires-moduli gates _ i (omega arith)
-
-length-closing : (outputs : List ℕ) → length (closing outputs) ≡ suc (length outputs)
-length-closing outputs =
-    length-map (map Output outputs ++ (End ∷ [])) wordOf
-    ∙ length-more (map Output outputs) End
-    ∙ ap suc (length-map outputs Output)
 
 -- ---- what stands among the gates
 
@@ -147,7 +186,7 @@ module _ (file new rest : List ℕ) (is : new ≡ gates file ++ rest) {at : ℕ}
 
 -- ---- the file with the part
 
-module _ (file : List ℕ) (operation : Operation) (r a : ℕ) (outputs : List ℕ) (good : readFile file .answer ≡ Accepted)
+module _ (file : List ℕ) (operation : Operation) (r a : ℕ) (outputs named : List ℕ) (good : readFile file .answer ≡ Accepted)
     {bytes : ℕ} (c : PartPassed operation r (length (readFile file .wires)) a bytes) where
   abbrev before : List Wire
   before = readFile file .wires
@@ -156,7 +195,7 @@ module _ (file : List ℕ) (operation : Operation) (r a : ℕ) (outputs : List �
   part = partWords operation r a
 
   abbrev new : List ℕ
-  new = appended file part outputs
+  new = appended file part outputs named
 
   end : Ended file (readFile file)
   end = gates-end file good
@@ -171,30 +210,30 @@ module _ (file : List ℕ) (operation : Operation) (r a : ℕ) (outputs : List �
   same =
       record {
         word = λ i l.
-            word-before (gates file) (fileOf part ++ fileOf (closing outputs)) (end .at) whole i l
+            word-before (gates file) (fileOf part ++ fileOf (closing outputs named)) (end .at) whole i l
             ∙ sym (word-before (gates file) (drop (4 * wordsToGates file) file) (end .at) whole i l)
             ∙ ap (λ (f : List ℕ). wordAt f i) (take-append-drop (4 * wordsToGates file) file);
-        some = omega (arith, length-append (gates file) (fileOf part ++ fileOf (closing outputs)), whole);
+        some = omega (arith, length-append (gates file) (fileOf part ++ fileOf (closing outputs named)), whole);
       }
 
   reach : Reach new (end .at) (end .due) before []
   reach = moved (end .reach) same
 
   there : Stands new (end .at) part
-  there = stands (gates file) part (fileOf (closing outputs)) (end .at) whole
+  there = stands (gates file) part (fileOf (closing outputs named)) (end .at) whole
 
   -- the end of the part
-  behind-part : Stands new (end .at + length part) (closing outputs)
+  behind-part : Stands new (end .at + length part) (closing outputs named)
   behind-part =
-      subst (λ (f : List ℕ). Stands f (end .at + length part) (closing outputs))
-      (append-assoc (gates file) (fileOf part) (fileOf (closing outputs) ++ []) ∙ ap (λ (l : List ℕ). gates file ++ (fileOf part ++ l)) (append-nil (fileOf (closing outputs))))
-      (stands (gates file ++ fileOf part) (closing outputs) [] (end .at + length part) (omega (arith, length-append (gates file) (fileOf part), whole, length-file part)))
+      subst (λ (f : List ℕ). Stands f (end .at + length part) (closing outputs named))
+      (append-assoc (gates file) (fileOf part) (fileOf (closing outputs named) ++ []) ∙ ap (λ (l : List ℕ). gates file ++ (fileOf part ++ l)) (append-nil (fileOf (closing outputs named))))
+      (stands (gates file ++ fileOf part) (closing outputs named) [] (end .at + length part) (omega (arith, length-append (gates file) (fileOf part), whole, length-file part)))
 
-  size : length new ≡ 4 * (end .at + length part + length (closing outputs))
+  size : length new ≡ 4 * (end .at + length part + length (closing outputs named))
   size =
-      omega (arith, length-append (gates file) (fileOf part ++ fileOf (closing outputs)), length-append (fileOf part) (fileOf (closing outputs)), whole, length-file part, length-file (closing outputs))
+      omega (arith, length-append (gates file) (fileOf part ++ fileOf (closing outputs named)), length-append (fileOf part) (fileOf (closing outputs named)), whole, length-file part, length-file (closing outputs named))
 
-  module _ (given : Given before r a operation) (fit : OutputsFit outputs (length before + r)) where
+  module _ (given : Given before r a operation) (fit : OutputsFit outputs named (length before + r)) where
     gates-of : AllSuit (moduliOf before) (partOf operation r a)
     gates-of = part-suits (c .range .ten) (holds before before (itself before) refl (c .below) given)
 
@@ -223,22 +262,36 @@ module _ (file : List ℕ) (operation : Operation) (r a : ℕ) (outputs : List �
               ∙ gate-modulus operation a i;
         }
 
-    accepts : readFile new ≡ accepted (before ++ more) outputs
+    few-wires : length (before ++ more) ≤ 1024
+    few-wires = omega (arith, length-more-wires, c .wires)
+
+    left-all : Left new (before ++ more) few-wires [] outputs named
+    left-all =
+        record {
+          some = omega (arith, fit .some);
+          few = omega (arith, fit .most);
+          lower = λ i l. omega (arith, fit .made i l, length-more-wires);
+          each = fit .each;
+          bytes = fit .bytes;
+        }
+
+    accepts : readFile new ≡ accepted (before ++ more) outputs named
     accepts =
-        closes new (before ++ more) (omega (arith, length-more-wires, c .wires)) outputs [] (end .at + length part) (arrived .due) (arrived .reach)
-        (gates-outputs (arrived .due) (arrived .here)) behind-part size
-        (record { some = omega (arith, fit .some); few = omega (arith, fit .most); lower = λ i l. omega (arith, fit .made i l, length-more-wires) })
+        let at : ℕ = end .at + length part in
+        closes new (before ++ more) few-wires outputs named [] at (at + length outputs) (arrived .due) (arrived .reach)
+        (gates-outputs (arrived .due) (arrived .here)) behind-part size refl left-all
+        ∙ ap (accepted (before ++ more) outputs) (names-are new (before ++ more) few-wires outputs named at (at + length outputs) behind-part refl left-all)
 
     -- the gates now end behind the part
     gates-now : wordsToGates new ≡ end .at + length part
-    gates-now = omega (arith, size, length-closing outputs, ap (λ (read : Read). length (read .outputs)) accepts)
+    gates-now = omega (arith, size, length-closing outputs named (fit .each), ap (λ (read : Read). length (read .outputs)) accepts)
 
     has-part : Among new (length before) (fileOf part)
     has-part =
         record {
           has = record {
             front = gates file;
-            rest = fileOf (closing outputs);
+            rest = fileOf (closing outputs named);
             is = refl;
             at = end .at;
             whole = whole;
@@ -252,9 +305,9 @@ module _ (file : List ℕ) (operation : Operation) (r a : ℕ) (outputs : List �
         }
 
     stay : (next : ℕ) (bytes : List ℕ) → Among file next bytes → Among new next bytes
-    stay next bytes m = still file new (fileOf part ++ fileOf (closing outputs)) refl same place m (omega (arith, place, gates-now))
+    stay next bytes m = still file new (fileOf part ++ fileOf (closing outputs named)) refl same place m (omega (arith, place, gates-now))
 
-    behind-it : AcceptedBehind file part outputs r
+    behind-it : AcceptedBehind file part outputs named r
     behind-it =
         record {
           more = more;
@@ -266,11 +319,19 @@ module _ (file : List ℕ) (operation : Operation) (r a : ℕ) (outputs : List �
         }
 
 pub behind : AppendedIsAccepted
-behind file operation r a size outputs good checks given fit =
-    behind-it file operation r a outputs good (part-passed operation r (length (readFile file .wires)) a size refl checks) given fit
+behind file operation r a size outputs named good checks given fit =
+    behind-it file operation r a outputs named good (part-passed operation r (length (readFile file .wires)) a size refl checks) given fit
 
--- the outputs that the circuit had fit: they may stand behind the part too
-pub own-outputs : (file : List ℕ) (r : ℕ) → readFile file .answer ≡ Accepted → OutputsFit (readFile file .outputs) (length (readFile file .wires) + r)
+-- the outputs that the circuit had fit, with the parties that they name: they may stand behind the part too
+pub own-outputs : (file : List ℕ) (r : ℕ) → readFile file .answer ≡ Accepted
+    → OutputsFit (readFile file .outputs) (readFile file .named) (length (readFile file .wires) + r)
 own-outputs file r good =
     let circuit = circuit-of file good in
-    record { some = circuit .outputsSome; most = circuit .outputsLimit; made = λ i l. omega (arith, circuit .outputsMade i l) }
+    let there = named-there file in
+    record {
+      some = circuit .outputsSome;
+      most = circuit .outputsLimit;
+      made = λ i l. omega (arith, circuit .outputsMade i l);
+      each = there .many;
+      bytes = there .bytes;
+    }

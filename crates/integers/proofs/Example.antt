@@ -2,7 +2,8 @@
 -- circuit's outputs join to 14, which is 104 modulo 30 and is computed.
 -- Assumes nothing.
 use mathlib.Core.Path.{_≡_, refl, sym, ap, ap₂, subst, _∙_}
-use mathlib.Core.List.{List, [], _∷_, _++_}
+use mathlib.Core.Bool.{true, false}
+use mathlib.Core.List.{List, [], _∷_, _++_, zipWith}
 use Prim.Native.Nat.{ℕ, zero, suc, _+_, _<_}
 use native.Mathlib.Omega.{arith}
 use lib.ListN.{length, getD, length-append}
@@ -19,6 +20,7 @@ use Rattle.words.specs.Encode.{fileOf}
 use Rattle.words.specs.declared.gate.Wire.{Wire}
 use Rattle.circuit.specs.Wires.{modulusAt, inputsIn}
 use Rattle.circuit.specs.File.{Read, ended, after, readFrom, headed, readFile}
+use Rattle.circuit.specs.Named.{mayRead, readable}
 use Rattle.plain.specs.Plain.{plainBy, plainTo, plainValues, plainOutputs}
 use Rattle.bundles.specs.declared.operation.Operation.{Operation}
 use Rattle.bundles.specs.Primes.{prime, productTo}
@@ -27,7 +29,7 @@ use Rattle.bundles.specs.Part.{wordsOf, scaled, partWords}
 use Rattle.bundles.specs.Call.{rangeChecked, partChecked}
 use Rattle.integers.specs.Reach.{Has}
 use Rattle.integers.specs.Bundle.{Bundle, Carries, Given, Carried}
-use Rattle.integers.specs.Promise.{appended, Shown, Among, AcceptedBehind}
+use Rattle.integers.specs.Promise.{appended, Shown, MayReadAll, Among, AcceptedBehind}
 use Rattle.integers.specs.Example.{file, values, inputs}
 use Rattle.integers.proofs.Computes.{computes}
 use Rattle.integers.proofs.Figures.{entered}
@@ -77,18 +79,22 @@ six : length (readFile inputs .wires) ≡ 6
 unfolding inputs fileOf readFile headed readFrom after ended readWord said check isPrime remaindersBelow
 six = refl
 
-sum-behind : AcceptedBehind inputs (partWords (Operation.Add 3) 3 0) (8 ∷ []) 3
+sum-behind : AcceptedBehind inputs (partWords (Operation.Add 3) 3 0) (8 ∷ []) (0 ∷ []) 3
 unfolding partChecked rangeChecked unless andThen wordsOf blocks prime primeFrom primeWithin isPrime remaindersBelow
 sum-behind =
-    behind inputs (Operation.Add 3) 3 0 12 (8 ∷ []) inputs-accept (rw six refl) inputs-bundles
-    (record { some = omega arith; most = omega arith; made = λ i l. only i (omega arith) })
+    behind inputs (Operation.Add 3) 3 0 12 (8 ∷ []) (0 ∷ []) inputs-accept (rw six refl) inputs-bundles
+    (record { some = omega arith; most = omega arith; made = λ i l. only i (omega arith); each = refl; bytes = λ i l. small i (omega arith) })
   where
     only : (i : ℕ) → i < 1 → getD (8 ∷ []) i 0 < length (readFile inputs .wires) + 3
     only zero l = omega (arith, six)
     only (suc i) l = absurd (omega arith)
 
+    small : (i : ℕ) → i < 1 → getD (0 ∷ []) i 0 < 256
+    small zero l = omega arith
+    small (suc i) l = absurd (omega arith)
+
 abbrev summed : List ℕ
-summed = appended inputs (partWords (Operation.Add 3) 3 0) (8 ∷ [])
+summed = appended inputs (partWords (Operation.Add 3) 3 0) (8 ∷ []) (0 ∷ [])
 
 summed-wires : readFile summed .wires ≡ readFile inputs .wires ++ sum-behind .more
 summed-wires = ap (λ (r : Read). r .wires) (sum-behind .reads)
@@ -99,18 +105,24 @@ summed-long = ap (length {A = Wire}) summed-wires ∙ length-append (readFile in
 summed-bundle : Bundle (readFile summed .wires) 3 6
 summed-bundle = subst (λ (ws : List Wire). Bundle ws 3 6) (sym summed-wires) (subst (Bundle (readFile inputs .wires ++ sum-behind .more) 3) six (sum-behind .bundle))
 
-pub multiple-behind : AcceptedBehind summed (partWords (Operation.Scale 4) 3 6) (9 ∷ 10 ∷ 11 ∷ []) 3
+pub multiple-behind : AcceptedBehind summed (partWords (Operation.Scale 4) 3 6) (9 ∷ 10 ∷ 11 ∷ []) (2 ∷ 2 ∷ 2 ∷ []) 3
 unfolding partChecked rangeChecked unless andThen wordsOf scaled blocks prime primeFrom primeWithin isPrime remaindersBelow productTo
 multiple-behind =
-    behind summed (Operation.Scale 4) 3 6 20 (9 ∷ 10 ∷ 11 ∷ []) (ap (λ (r : Read). r .answer) (sum-behind .reads)) (rw summed-long refl) (Given.scale summed-bundle)
-    (record { some = omega arith; most = omega arith; made = three (λ i. getD (9 ∷ 10 ∷ 11 ∷ []) i 0 < length (readFile summed .wires) + 3) (omega (arith, summed-long)) (omega (arith, summed-long)) (omega (arith, summed-long)) })
+    behind summed (Operation.Scale 4) 3 6 20 (9 ∷ 10 ∷ 11 ∷ []) (2 ∷ 2 ∷ 2 ∷ []) (ap (λ (r : Read). r .answer) (sum-behind .reads)) (rw summed-long refl) (Given.scale summed-bundle)
+    (record {
+      some = omega arith;
+      most = omega arith;
+      made = three (λ i. getD (9 ∷ 10 ∷ 11 ∷ []) i 0 < length (readFile summed .wires) + 3) (omega (arith, summed-long)) (omega (arith, summed-long)) (omega (arith, summed-long));
+      each = refl;
+      bytes = three (λ i. getD (2 ∷ 2 ∷ 2 ∷ []) i 0 < 256) (omega arith) (omega arith) (omega arith);
+    })
 
 abbrev multiplied : List ℕ
-multiplied = appended summed (partWords (Operation.Scale 4) 3 6) (9 ∷ 10 ∷ 11 ∷ [])
+multiplied = appended summed (partWords (Operation.Scale 4) 3 6) (9 ∷ 10 ∷ 11 ∷ []) (2 ∷ 2 ∷ 2 ∷ [])
 
 -- and it is the file above
 pub same-file : multiplied ≡ file
-unfolding file inputs fileOf readFile headed readFrom after ended readWord said check afterEntry isPrime remaindersBelow wordsOf scaled blocks prime primeFrom primeWithin
+unfolding file inputs fileOf readFile headed readFrom after ended readWord said check afterEntry isPrime remaindersBelow wordsOf scaled blocks prime primeFrom primeWithin zipWith
 same-file = refl
 
 -- so both parts stand in it
@@ -143,3 +155,12 @@ joins-to = refl
 pub shown : Shown (readFile file .outputs) 0 3 9
 unfolding file fileOf readFile headed readFrom after ended readWord said check afterEntry isPrime remaindersBelow
 shown = record { some = omega arith; wires = three (λ i. getD (readFile file .outputs) (0 + i) 0 ≡ 9 + i) refl refl refl }
+
+-- party 1 may read all of them, and party 0 none
+pub one-may : MayReadAll (readFile file .named) 1 0 3
+unfolding file fileOf readFile headed readFrom after ended readWord said check afterEntry isPrime remaindersBelow blocks mayRead
+one-may = record { may = three (λ i. readable (readFile file .named) 1 (0 + i) ≡ true) refl refl refl }
+
+pub nought-may-not : (i : ℕ) → i < 3 → readable (readFile file .named) 0 i ≡ false
+unfolding file fileOf readFile headed readFrom after ended readWord said check afterEntry isPrime remaindersBelow blocks mayRead
+nought-may-not = three (λ i. readable (readFile file .named) 0 i ≡ false) refl refl refl

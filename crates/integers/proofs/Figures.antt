@@ -1,21 +1,22 @@
--- The theorem on figures: at every party that is promised figures, the decoded bytes of a bundle, joined, are the integer that it carries, modulo the product. And
+-- The theorem on figures: at every party that may read them, the decoded bytes of a bundle, joined, are the integer that it carries, modulo the product. And
 -- inputs whose values are the residues of an integer carry it.
 -- Assumes nothing.
 use mathlib.Core.Path.{_≡_, refl, sym, ap, _∙_}
-use mathlib.Core.Bool.{true, true≢false}
+use mathlib.Core.Bool.{Bool, true, true≢false, cond}
 use mathlib.Core.List.{List}
 use Prim.Native.Nat.{ℕ, _+_, _%_, _<_}
 use native.Mathlib.Omega.{arith}
 use lib.ListN.{length, getD}
 use borrow.Author.Tests.{lt-ltb}
 use Rattle.meter.specs.Meter.{Charge}
-use Rattle.lists.specs.Blocks.{part}
+use Rattle.lists.specs.Blocks.{part, tab}
 use Rattle.lists.proofs.Blocks.{length-tab, getD-tab, is-tab}
 use Rattle.lists.proofs.Parts.{length-part, getD-part}
 use Rattle.words.specs.declared.gate.Gate.{Gate}
 use Rattle.words.specs.declared.gate.Gate.the-variants.{Input, Add, Scale, Multiply, Project, Select}
 use Rattle.circuit.specs.Wires.{wireAt, modulusAt, isInput, inputsIn}
 use Rattle.circuit.specs.File.{readFile}
+use Rattle.circuit.specs.Named.{readable}
 use Rattle.circuit.proofs.Accepted.{accepted}
 use Rattle.plain.specs.Plain.{plainBy, plainValues, plainOutputs}
 use Rattle.plain.proofs.ByRecipe.{plain-value}
@@ -28,7 +29,7 @@ use Rattle.round.specs.Claim.{Conditions}
 use Rattle.round.specs.Played.{Results, Played}
 use Rattle.round.proofs.Demand.{demand}
 use Rattle.integers.specs.Bundle.{Carries}
-use Rattle.integers.specs.Promise.{EnteredIsCarried, Shown, FiguresAreIntegers, PooledIsRead}
+use Rattle.integers.specs.Promise.{EnteredIsCarried, Shown, MayReadAll, FiguresAreIntegers, PooledIsRead}
 use Rattle.integers.proofs.Computes.{computes}
 
 -- ---- inputs
@@ -61,27 +62,54 @@ entered file values r first x good bundle within same =
 
 -- ---- figures
 
--- bytes that are the plain circuit's outputs: those of a bundle are the residues of what it carries
-pub bytes-are : {file values : List ℕ} {r first at z : ℕ} → Carries file values r first z → Shown (readFile file .outputs) at r first
-    → (bytes : List ℕ) → bytes ≡ plainOutputs file (readFile file .wires) (readFile file .outputs) values → part bytes at r ≡ split r z
-unfolding split plainOutputs
-bytes-are {file} {values} {r} {first} {at} {z} carries shown bytes e =
-    let outputs : List ℕ = readFile file .outputs in
-    let look : ℕ → ℕ = λ i. getD (plainValues file (readFile file .wires) values) (getD outputs i 0) 0 in
-    let size : length bytes ≡ length outputs = ap (length {A = ℕ}) e ∙ length-tab (length outputs) look in
-    is-tab r (λ i. z % prime i) (part bytes at r) 0 (length-part bytes at r (omega (arith, shown .some)))
-    (λ i l.
-    getD-part bytes at r i 0 l
-    ∙ ap (λ (xs : List ℕ). getD xs (at + i) 0) e
-    ∙ getD-tab (length outputs) look (at + i) 0 (omega (arith, shown .some))
-    ∙ ap (λ (w : ℕ). getD (plainValues file (readFile file .wires) values) w 0) (shown .wires i l)
-    ∙ carries .residues i l)
+-- bytes that are the plain circuit's outputs, where the outputs show a bundle: they are the residues of what it carries
+module _ {file values : List ℕ} {r first at z : ℕ} (carries : Carries file values r first z) (shown : Shown (readFile file .outputs) at r first)
+    (bytes : List ℕ) where
+  abbrev outputs : List ℕ
+  outputs = readFile file .outputs
+
+  abbrev plain : List ℕ
+  plain = plainOutputs file (readFile file .wires) outputs values
+
+  abbrev look : ℕ → ℕ
+  look i = getD (plainValues file (readFile file .wires) values) (getD outputs i 0) 0
+
+  residues-are : length bytes ≡ length outputs → ((i : ℕ) → i < r → getD bytes (at + i) 0 ≡ getD plain (at + i) 0) → part bytes at r ≡ split r z
+  unfolding split plainOutputs
+  residues-are size same =
+      is-tab r (λ i. z % prime i) (part bytes at r) 0 (length-part bytes at r (omega (arith, size, shown .some)))
+      (λ i l.
+      getD-part bytes at r i 0 l
+      ∙ same i l
+      ∙ getD-tab (length outputs) look (at + i) 0 (omega (arith, shown .some))
+      ∙ ap (λ (w : ℕ). getD (plainValues file (readFile file .wires) values) w 0) (shown .wires i l)
+      ∙ carries .residues i l)
+
+  -- all of them
+  pub bytes-are : bytes ≡ plain → part bytes at r ≡ split r z
+  unfolding plainOutputs
+  bytes-are e = residues-are (ap (length {A = ℕ}) e ∙ length-tab (length outputs) look) (λ i l. ap (λ (xs : List ℕ). getD xs (at + i) 0) e)
+
+  -- those that a party may read, as it may each that shows the bundle
+  module _ (party : ℕ) (may : MayReadAll (readFile file .named) party at r) where
+    abbrev read : ℕ → ℕ
+    read i = cond (readable (readFile file .named) party i) (getD plain i 0) 255
+
+    pub read-are : bytes ≡ tab (length outputs) read → part bytes at r ≡ split r z
+    read-are e =
+        residues-are (ap (length {A = ℕ}) e ∙ length-tab (length outputs) read)
+        (λ i l.
+        ap (λ (xs : List ℕ). getD xs (at + i) 0) e
+        ∙ getD-tab (length outputs) read (at + i) 0 (omega (arith, shown .some))
+        ∙ ap (λ (b : Bool). cond b (getD plain (at + i) 0) 255) (may .may i l))
 
 module _ (file : List ℕ) (n K round : ℕ) (contributions values : List ℕ) (meter : Charge) (lent : Lent) (results : Results) {r first at z : ℕ}
     (conditions : Conditions file n K contributions values meter lent) (played : Played file n K round contributions values meter lent results)
     (carries : Carries file values r first z) (shown : Shown (readFile file .outputs) at r first) where
-  pub decoded-are : (party : ℕ) → party < n → part (results .decoded party) at r ≡ split r z
-  decoded-are party h = bytes-are carries shown (results .decoded party) (demand file n K round contributions values meter lent results conditions played .delivers .decoded party h)
+  pub decoded-are : (party : ℕ) → party < n → MayReadAll (readFile file .named) party at r → part (results .decoded party) at r ≡ split r z
+  decoded-are party h may =
+      read-are carries shown (results .decoded party) party may
+      (demand file n K round contributions values meter lent results conditions played .delivers .decoded party h)
 
   plain-are : part (results .plain) at r ≡ split r z
   plain-are = bytes-are carries shown (results .plain) (demand file n K round contributions values meter lent results conditions played .delivers .plainDecoded)
@@ -89,7 +117,8 @@ module _ (file : List ℕ) (n K round : ℕ) (contributions values : List ℕ) (
 pub figures : FiguresAreIntegers
 figures file n K round contributions values meter lent results r first at z conditions played ten carries shown =
     record {
-      decoded = λ party h. ap (join r) (decoded-are file n K round contributions values meter lent results conditions played carries shown party h) ∙ join-any r ten z;
+      decoded = λ party h may.
+          ap (join r) (decoded-are file n K round contributions values meter lent results conditions played carries shown party h may) ∙ join-any r ten z;
       plain = ap (join r) (plain-are file n K round contributions values meter lent results conditions played carries shown) ∙ join-any r ten z;
     }
 

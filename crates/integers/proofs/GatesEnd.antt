@@ -59,14 +59,14 @@ record Tail (file : List ℕ) (wires : List Wire) (outputs : List ℕ) (at : ℕ
   wiresAre : read .wires ≡ wires
   count : at + suc (length (read .outputs)) ≡ wordsIn file + length outputs
 
-at-end : (b : Bool) (file : List ℕ) (at : ℕ) (wires : List Wire) (outputs : List ℕ)
+at-end : (b : Bool) (file : List ℕ) (at : ℕ) (wires : List Wire) (outputs named : List ℕ)
     → leb (length file) (4 * suc at) ≡ b
     → at < wordsIn file
-    → ended b at wires outputs .answer ≡ Accepted
-    → Tail file wires outputs at (ended b at wires outputs)
+    → ended b at wires outputs named .answer ≡ Accepted
+    → Tail file wires outputs at (ended b at wires outputs named)
 unfolding ended
-at-end true file at wires outputs e l a = record { wiresAre = refl; count = omega (arith, leb-true (length file) (4 * suc at) e) }
-at-end false file at wires outputs e l a = never a
+at-end true file at wires outputs named e l a = record { wiresAre = refl; count = omega (arith, leb-true (length file) (4 * suc at) e) }
+at-end false file at wires outputs named e l a = never a
 
 module _ (file : List ℕ) (wires : List Wire) (at : ℕ) (inside : at < wordsIn file) (outputs : List ℕ) (then : Due → List Wire → List ℕ → Read)
     (rest : (outputs : List ℕ) → then Outputs wires outputs .answer ≡ Accepted → Tail file wires outputs (suc at) (then Outputs wires outputs)) where
@@ -76,7 +76,7 @@ module _ (file : List ℕ) (wires : List Wire) (at : ℕ) (inside : at < wordsIn
   tail-step (Late.gives {wire}) a =
       let t = rest (outputs ++ (wire ∷ [])) a in
       record { wiresAre = t .wiresAre; count = omega (arith, t .count, length-more outputs wire) }
-  tail-step Late.ends a = at-end _ file at wires outputs refl inside a
+  tail-step Late.ends a = at-end _ file at wires outputs _ refl inside a
 
 tail : (file : List ℕ) (wires : List Wire) (left at : ℕ) (outputs : List ℕ)
     → at + left ≡ wordsIn file

@@ -106,15 +106,15 @@ joined-then-split residues residues₀ given r integer₀ integer place number p
 
 pub joined-is-carried : JoinedIsCarried
 joined-is-carried file n K round contributions values meter lent results r first z at party integer₀ number place integer
-    conditions played two ten carries shown below join-call =
-    joined-to r z two ten (decoded-are file n K round contributions values meter lent results conditions played carries shown party below) join-call
+    conditions played two ten carries shown below may join-call =
+    joined-to r z two ten (decoded-are file n K round contributions values meter lent results conditions played carries shown party below may) join-call
 
 pub joined-is-result : JoinedIsResult
 joined-is-result file n K round contributions values meter lent results operation r first a x y at party buffer₀ buffer words₀ words place integer₀ number place′ integer
-    conditions played call has carried shown below join-call =
+    conditions played call has carried shown below may join-call =
     let checks = zero-passed (call .answer) refl in
     let range = part-passed operation r first a (length buffer₀) refl checks .range in
     let there : Has file first (fileOf (partWords operation r a)) = subst (Has file first) (part-wrote call) has in
     let carries = computes file values operation r first a x y (length buffer₀) (conditions .accepted) checks there carried in
     joined-is-carried file n K round contributions values meter lent results r first (result operation x y) at party integer₀ number place′ integer
-    conditions played (range .two) (range .ten) carries shown below join-call
+    conditions played (range .two) (range .ten) carries shown below may join-call

@@ -62,10 +62,10 @@ itself xs = record { more = []; is = sym (append-nil xs) }
 abbrev Keeps : List Wire → Read → Type 0
 Keeps wires read = read .answer ≡ Accepted → Longer wires (read .wires)
 
-at-end : (b : Bool) (at : ℕ) (wires : List Wire) (outputs : List ℕ) → Keeps wires (ended b at wires outputs)
+at-end : (b : Bool) (at : ℕ) (wires : List Wire) (outputs named : List ℕ) → Keeps wires (ended b at wires outputs named)
 unfolding ended
-at-end true at wires outputs e = itself wires
-at-end false at wires outputs e = never e
+at-end true at wires outputs named e = itself wires
+at-end false at wires outputs named e = never e
 
 module _ (file : List ℕ) (at : ℕ) (wires : List Wire) (outputs : List ℕ) (then : Due → List Wire → List ℕ → Read)
     (rest : (due : Due) (wires : List Wire) (outputs : List ℕ) → Keeps wires (then due wires outputs)) where
@@ -75,7 +75,7 @@ module _ (file : List ℕ) (at : ℕ) (wires : List Wire) (outputs : List ℕ) (
   step-keeps (Makes wire due) e = longer-than wires wire (rest due _ outputs e)
   step-keeps (Goes due) e = rest due wires outputs e
   step-keeps (Gives wire) e = rest _ wires _ e
-  step-keeps Ends e = at-end _ at wires outputs e
+  step-keeps Ends e = at-end _ at wires outputs _ e
 
 keeps : (file : List ℕ) (left at : ℕ) (due : Due) (wires : List Wire) (outputs : List ℕ) → Keeps wires (readFrom file left at due wires outputs)
 unfolding readFrom

@@ -25,10 +25,10 @@ file =
     ∷ 0x7000_0000
     ∷ 0x4000_0407
     ∷ 0x4000_1008
-    -- outputs 9 to 11
-    ∷ 0xA000_0009
-    ∷ 0xA000_000A
-    ∷ 0xA000_000B
+    -- outputs 9 to 11, which party 1 alone may read
+    ∷ 0xA000_0809
+    ∷ 0xA000_080A
+    ∷ 0xA000_080B
     ∷ 0xB000_0000
     ∷ [])
 

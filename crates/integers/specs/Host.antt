@@ -17,7 +17,7 @@ use Rattle.round.specs.Claim.{Conditions}
 use Rattle.round.specs.Played.{Results, Played}
 use Rattle.integers.specs.Reach.{Has}
 use Rattle.integers.specs.Bundle.{Bundle, Carries, Carried, result}
-use Rattle.integers.specs.Promise.{Shown}
+use Rattle.integers.specs.Promise.{Shown, MayReadAll}
 
 -- splitting has accepted an integer, and its residues are the values of a bundle of inputs: the bundle carries the integer
 abbrev pub SplitIsCarried : Type 0
@@ -57,7 +57,7 @@ JoinedThenSplit =
     → SplitTo residues number given
 
 -- Outputs show a bundle that carries an integer, and a round of the file's circuit is played under demand 3's conditions. Then joining, lent the decoded
--- bytes of any party, accepts them, and gives the integer modulo the product.
+-- bytes of any party that may read them, accepts them, and gives the integer modulo the product.
 abbrev pub JoinedIsCarried : Type 0
 JoinedIsCarried =
     (file : List ℕ) (n K round : ℕ) (contributions values : List ℕ) (meter : Charge) (lent : Lent) (results : Results)
@@ -69,11 +69,12 @@ JoinedIsCarried =
     → Carries file values r first z
     → Shown (readFile file .outputs) at r first
     → party < n
+    → MayReadAll (readFile file .named) party at r
     → JoinCall r (part (results .decoded party) at r) integer₀ number place integer
     → JoinedTo (z % product r) number integer
 
 -- So it is with a part. A call has written a part, its bytes stand in the file where its first wire is the next to be made, its bundles carry x and y, and outputs show the bundle
--- that it makes. A round of the file's circuit is played under demand 3's conditions. Then joining, lent the decoded bytes of any party, accepts them, and gives the
+-- that it makes. A round of the file's circuit is played under demand 3's conditions. Then joining, lent the decoded bytes of any party that may read them, accepts them, and gives the
 -- result modulo the product.
 abbrev pub JoinedIsResult : Type 0
 JoinedIsResult =
@@ -87,5 +88,6 @@ JoinedIsResult =
     → Carried file values r a x y operation
     → Shown (readFile file .outputs) at r first
     → party < n
+    → MayReadAll (readFile file .named) party at r
     → JoinCall r (part (results .decoded party) at r) integer₀ number place′ integer
     → JoinedTo (result operation x y % product r) number integer

@@ -2,7 +2,8 @@
 -- the gates of an accepted circuit.
 -- Assumes nothing.
 use mathlib.Core.Path.{_≡_}
-use mathlib.Core.List.{List, [], _∷_, _++_, map}
+use mathlib.Core.Bool.{true}
+use mathlib.Core.List.{List, [], _∷_, _++_, map, zipWith}
 use Prim.Native.Nat.{ℕ, _+_, _-_, _*_, _%_, _≤_, _<_}
 use lib.ListN.{length, getD, take}
 use Rattle.lists.specs.Blocks.{part}
@@ -13,6 +14,7 @@ use Rattle.words.specs.declared.item.Item.the-variants.{Output, End}
 use Rattle.words.specs.Encode.{wordOf, fileOf}
 use Rattle.circuit.specs.Wires.{inputsIn}
 use Rattle.circuit.specs.File.{wordsIn, accepted, readFile}
+use Rattle.circuit.specs.Named.{readable}
 use Rattle.bundles.specs.declared.operation.Operation.{Operation}
 use Rattle.bundles.specs.Primes.{product}
 use Rattle.bundles.specs.Integers.{split, join}
@@ -50,10 +52,14 @@ pub record Shown (outputs : List ℕ) (at r first : ℕ) : Type 0 where
   pub some : at + r ≤ length outputs
   pub wires : (i : ℕ) → i < r → getD outputs (at + i) 0 ≡ first + i
 
--- "A user who pools integers gets the integer result modulo the product, wherever figures are promised": at every party of a round, the decoded bytes of
--- a bundle, joined, are the integer that it carries, modulo the product; and so are those of plain evaluation
-pub record Read (n : ℕ) (results : Results) (r at z : ℕ) : Type 0 where
-  pub decoded : (party : ℕ) → party < n → join r (part (results .decoded party) at r) ≡ z % product r
+-- a party may read each of the outputs from one on that show a bundle
+pub record MayReadAll (named : List ℕ) (party at r : ℕ) : Type 0 where
+  pub may : (i : ℕ) → i < r → readable named party (at + i) ≡ true
+
+-- "A user who pools integers gets the integer result modulo the product, wherever figures are promised": at every party of a round that may read them, the
+-- decoded bytes of a bundle, joined, are the integer that it carries, modulo the product; and so are those of plain evaluation
+pub record Read (named : List ℕ) (n : ℕ) (results : Results) (r at z : ℕ) : Type 0 where
+  pub decoded : (party : ℕ) → party < n → MayReadAll named party at r → join r (part (results .decoded party) at r) ≡ z % product r
   pub plain : join r (part (results .plain) at r) ≡ z % product r
 
 abbrev pub FiguresAreIntegers : Type 0
@@ -64,7 +70,7 @@ FiguresAreIntegers =
     → r ≤ 10
     → Carries file values r first z
     → Shown (readFile file .outputs) at r first
-    → Read n results r at z
+    → Read (readFile file .named) n results r at z
 
 -- so it is with a part: the integers that its bundles carry go in, and every party that is promised figures reads the result
 abbrev pub PooledIsRead : Type 0
@@ -77,7 +83,7 @@ PooledIsRead =
     → Has file first (fileOf (partWords operation r a))
     → Carried file values r a x y operation
     → Shown (readFile file .outputs) at r first
-    → Read n results r at (result operation x y)
+    → Read (readFile file .named) n results r at (result operation x y)
 
 -- an accepted file up to its last gate: all words but its outputs and its end word
 abbrev pub wordsToGates : List ℕ → ℕ
@@ -86,41 +92,43 @@ wordsToGates file = wordsIn file - (1 + length (readFile file .outputs))
 abbrev pub gates : List ℕ → List ℕ
 gates file = take (4 * wordsToGates file) file
 
--- the words of outputs, and an end word
-abbrev pub closing : List ℕ → List ℕ
-closing outputs = map wordOf (map Output outputs ++ (End ∷ []))
+-- the words of outputs that name these parties, and an end word
+abbrev pub closing : List ℕ → List ℕ → List ℕ
+closing outputs named = map wordOf (zipWith (λ wire parties. Output parties wire) outputs named ++ (End ∷ []))
 
 -- a file's gates, then words, then outputs and an end word
-abbrev pub appended : List ℕ → List ℕ → List ℕ → List ℕ
-appended file words outputs = gates file ++ (fileOf words ++ fileOf (closing outputs))
+abbrev pub appended : List ℕ → List ℕ → List ℕ → List ℕ → List ℕ
+appended file words outputs named = gates file ++ (fileOf words ++ fileOf (closing outputs named))
 
--- one to 256 outputs, of so many wires
-pub record OutputsFit (outputs : List ℕ) (wires : ℕ) : Type 0 where
+-- one to 256 outputs, of so many wires, each with the parties that it names, which are a byte
+pub record OutputsFit (outputs named : List ℕ) (wires : ℕ) : Type 0 where
   pub some : 0 < length outputs
   pub most : length outputs ≤ 256
   pub made : (i : ℕ) → i < length outputs → getD outputs i 0 < wires
+  pub each : length named ≡ length outputs
+  pub bytes : (i : ℕ) → i < length outputs → getD named i 0 < 256
 
 -- bytes that stand among a file's gates, before its outputs
 pub record Among (file : List ℕ) (next : ℕ) (bytes : List ℕ) : Type 0 where
   pub has : Has file next bytes
   pub inside : length (has .front) + length bytes ≤ 4 * wordsToGates file
 
--- the file is accepted with these outputs; its wires are those of the file before, and r more, which are a bundle; it has the words where it should,
+-- the file is accepted with these outputs, which name these parties; its wires are those of the file before, and r more, which are a bundle; it has the words where it should,
 -- and what stood among the gates before, as the parts that were appended earlier, is there still
-pub record AcceptedBehind (file words outputs : List ℕ) (r : ℕ) : Type 0 where
+pub record AcceptedBehind (file words outputs named : List ℕ) (r : ℕ) : Type 0 where
   pub more : List Wire
   pub made : length more ≡ r
-  pub reads : readFile (appended file words outputs) ≡ accepted (readFile file .wires ++ more) outputs
+  pub reads : readFile (appended file words outputs named) ≡ accepted (readFile file .wires ++ more) outputs named
   pub bundle : Bundle (readFile file .wires ++ more) r (length (readFile file .wires))
-  pub has : Among (appended file words outputs) (length (readFile file .wires)) (fileOf words)
-  pub stays : (next : ℕ) (bytes : List ℕ) → Among file next bytes → Among (appended file words outputs) next bytes
+  pub has : Among (appended file words outputs named) (length (readFile file .wires)) (fileOf words)
+  pub stays : (next : ℕ) (bytes : List ℕ) → Among file next bytes → Among (appended file words outputs named) next bytes
 
 -- a part that the call writes for the next wire of an accepted circuit with the bundles that it takes is accepted behind the circuit's gates
 abbrev pub AppendedIsAccepted : Type 0
 AppendedIsAccepted =
-    (file : List ℕ) (operation : Operation) (r a size : ℕ) (outputs : List ℕ)
+    (file : List ℕ) (operation : Operation) (r a size : ℕ) (outputs named : List ℕ)
     → readFile file .answer ≡ Accepted
     → partChecked operation r (length (readFile file .wires)) a size ≡ Accepted
     → Given (readFile file .wires) r a operation
-    → OutputsFit outputs (length (readFile file .wires) + r)
-    → AcceptedBehind file (partWords operation r a) outputs r
+    → OutputsFit outputs named (length (readFile file .wires) + r)
+    → AcceptedBehind file (partWords operation r a) outputs named r

@@ -111,10 +111,10 @@ more wires x r e =
 
 module _ (file : List ℕ) (at : ℕ) (wires : List Wire) (given : List ℕ) (then : Due → List Wire → List ℕ → Read) (none : NoSelects wires)
     (rest : (due : Due) (wires : List Wire) (given : List ℕ) → plain due ≡ true → NoSelects wires → NoSelects (then due wires given .wires)) where
-  finish : (b : Bool) → NoSelects (ended b at wires given .wires)
+  finish : (b : Bool) (named : List ℕ) → NoSelects (ended b at wires given named .wires)
   unfolding ended
-  finish true = none
-  finish false = nothing
+  finish true named = none
+  finish false named = nothing
 
   step : {s : Step} → Free s → NoSelects (after then file at wires given s .wires)
   unfolding after
@@ -122,7 +122,7 @@ module _ (file : List ℕ) (at : ℕ) (wires : List Wire) (given : List ℕ) (th
   step (makes e d) = rest _ _ _ d (more wires _ none e)
   step (goes d) = rest _ _ _ d none
   step gives = rest _ _ _ refl none
-  step ends = finish _
+  step ends = finish _ _
 
 module _ (file : List ℕ) (free : (i : ℕ) → i < wordsIn file → isSelectWord file i ≡ false) where
   from : (left at : ℕ) (due : Due) (wires : List Wire) (given : List ℕ) → at + left ≤ wordsIn file → plain due ≡ true → NoSelects wires

@@ -13,3 +13,4 @@ pub mod Read
 pub mod Garble
 pub mod InputKeys
 pub mod Open
+pub mod Decode

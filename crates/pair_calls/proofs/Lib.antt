@@ -3,3 +3,4 @@ pub mod Shared
 pub mod Keying
 pub mod Garbles
 pub mod Opens
+pub mod Decodes

@@ -4,10 +4,10 @@ use mathlib.Core.List.{List}
 use Prim.Native.Nat.{ℕ}
 use Rattle.meter.specs.Meter.{Charge}
 use Rattle.plain.specs.Call.{PlainCall}
-use Rattle.calls.specs.Decode.{DecodeCall}
 use Rattle.pair.specs.Garble.{PairGarbleCall}
 use Rattle.pair.specs.InputKeys.{PairInputKeysCall}
 use Rattle.pair.specs.Open.{PairOpenCall}
+use Rattle.pair.specs.Decode.{PairDecodeCall}
 use Rattle.pair_round.specs.Claim.{Conditions}
 use Rattle.pair_round.specs.Played.{Played}
 use Rattle.pair_round.proofs.Demand.{demand}
@@ -20,7 +20,7 @@ module _ {file : List ℕ} {K round : ℕ} {draw values : List ℕ} {meter : Cha
     (garbled : PairGarbleCall file K round draw rows₀ masks₀ meter n₁ p₁ rows masks totals)
     (keyed : PairInputKeysCall file K draw values keys₀ n₂ p₂ keys)
     (opened : PairOpenCall file K round keys rows wkeys₀ wexternals₀ n₃ p₃ wkeys wexternals)
-    (decoded : DecodeCall file wexternals masks results₀ n₄ p₄ results)
+    (decoded : PairDecodeCall file wexternals masks results₀ n₄ p₄ results)
     (plainly : PlainCall file values evaluated₀ n₅ p₅ evaluated) where
   played : Played file K round draw values meter (lentOf rows₀ masks₀ keys₀ wkeys₀ wexternals₀ results₀ evaluated₀)
       (resultsOf rows masks totals keys wkeys wexternals results evaluated)

@@ -1,7 +1,7 @@
 // A whole round of two: garbling, the input keys, opening, decoding, and plain evaluation beside them.
 ghost use Rattle.pair_round.specs.Claim.{Conditions};
 ghost use Rattle.pair_rehearsal.specs.Rehearsed.{lentOf, resultsOf, Rehearsed};
-use engine::lupiknam_decode;
+use engine::lupiknam_pair_decode;
 use engine::lupiknam_pair_garble;
 use engine::lupiknam_pair_input_keys;
 use engine::lupiknam_pair_open;
@@ -60,6 +60,6 @@ pub fn rehearse(
         &mut *wkeys,
         &mut *wexternals,
     );
-    let decoded = lupiknam_decode(file, &*wexternals, &*masks, &mut *results);
+    let decoded = lupiknam_pair_decode(file, &*wexternals, &*masks, &mut *results);
     let plainly = lupiknam_plain(file, values, &mut *evaluated);
 }

@@ -20,9 +20,9 @@ use Rattle.pads.specs.Pad.{Pad}
 use Rattle.plain.specs.Plain.{plainValues, plainOutputs}
 use Rattle.plain.specs.Call.{plainChecked, plainAfter}
 use Rattle.scheme.proofs.Bounds.{positive, value-below}
-use Rattle.calls.specs.Decode.{decodeAfter}
-use Rattle.round.proofs.DecodingPasses.{decode-passed}
+use Rattle.round.proofs.DecodingPasses.{DecodeFits, lent-passed}
 use Rattle.pair.specs.Bytes.{selectsChecked}
+use Rattle.pair.specs.Decode.{anyOutput, pairDecodeChecked, pairDecodeAfter}
 use Rattle.pair.proofs.Sizes.{drawn-sizes}
 use Rattle.pair.proofs.Reduced.{mask-below}
 use Rattle.pair_round.specs.Round.{Lent, outputMasks, wireExternals, decoding, figures, plainly, plainFigures}
@@ -72,18 +72,19 @@ module _ {pad : Pad} {file : List ℕ} {K : ℕ} {draw values : List ℕ} {meter
       (mask-below (start .pads) (start .accepted) (drawn-sizes (start .drawn)) (start .inputs) (getD outputs i 0) (start .accepted .outputsMade i h)
       (start .drawn .some))
 
-  pub decodes : decoding pad file K draw values meter lent ≡ Accepted
-  unfolding decoding
-  decodes =
-      decode-passed
-      (record {
-        read = read;
+  fits : DecodeFits wires outputs anyOutput bytes masks (lent .results)
+  fits =
+      record {
         externalsLength = externals-size start;
         masksLength = masks-size start;
         resultsLength = start .conditions .lengths .results;
         external = byte-fits;
-        mask = mask-fits;
-      })
+        mask = λ i h _. mask-fits i h;
+      }
+
+  pub decodes : decoding pad file K draw values meter lent ≡ Accepted
+  unfolding decoding pairDecodeChecked
+  decodes = andThen-passed read (lent-passed fits)
 
   -- value plus mask, less the mask
   output : (i : ℕ) → i < length outputs
@@ -98,5 +99,5 @@ module _ {pad : Pad} {file : List ℕ} {K : ℕ} {draw values : List ℕ} {meter
       (maskOf file K draw values pad w)
 
   pub decoded : figures pad file K draw values meter lent ≡ plainOutputs file wires outputs values
-  unfolding figures decodeAfter decoding plainOutputs
+  unfolding figures pairDecodeAfter decoding plainOutputs
   decoded = afterwards-passed decodes _ _ ∙ tab-ext (length outputs) _ _ output

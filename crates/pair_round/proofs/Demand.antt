@@ -9,9 +9,9 @@ use Rattle.checks.proofs.Passed.{afterwards-passed}
 use Rattle.circuit.specs.File.{readFile}
 use Rattle.meter.specs.Meter.{Charge, charged}
 use Rattle.pads.specs.Pad.{shakePad}
-use Rattle.calls.specs.Decode.{decodeAfter}
 use Rattle.pair.specs.Count.{pairRowsIn}
 use Rattle.pair.specs.Garble.{pairGarbleMeter}
+use Rattle.pair.specs.Decode.{pairDecodeAfter}
 use Rattle.pair_round.specs.Round as round
 use Rattle.pair_round.specs.Round.{Lent}
 use Rattle.pair_round.specs.Claim.{Conditions, Promise}
@@ -47,7 +47,7 @@ module _ (file : List ℕ) (K number : ℕ) (draw values : List ℕ) (meter : Ch
   figures-is : r .decoded ≡ round.figures (shakePad number) file K draw values meter lent
   unfolding round.figures
   figures-is =
-      played .decode .holds .resultsIs ∙ ap₂ (λ (externals masks : List ℕ). decodeAfter file externals masks (lent .results)) wire-externals-is masks-is
+      played .decode .holds .resultsIs ∙ ap₂ (λ (externals masks : List ℕ). pairDecodeAfter file externals masks (lent .results)) wire-externals-is masks-is
 
   plain-is : r .plain ≡ round.plainFigures (shakePad number) file K draw values meter lent
   unfolding round.plainFigures

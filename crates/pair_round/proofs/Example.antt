@@ -33,13 +33,13 @@ use Rattle.pair.specs.Draw.{drawSize, drawModuli, offsetIn}
 use Rattle.pair.specs.Bytes.{selectsChecked, drawChecked, notOne, unitsChecked}
 use Rattle.pair_round.specs.Round.{figures}
 use Rattle.pair_round.specs.Claim.{LengthsRight, Conditions, Promise}
-use Rattle.pair_round.specs.Example.{file, wires, outputs, draw, values, meter, lent}
+use Rattle.pair_round.specs.Example.{file, wires, outputs, named, draw, values, meter, lent}
 use Rattle.pair_round.proofs.Claim.{shake-claim}
 use Rattle.pair_round.proofs.Demand.{demand}
 use Rattle.pair_round.proofs.Possible.{resultsOf, possible}
 
-reads : readFile file ≡ accepted wires outputs
-unfolding file fileOf bytesOf wires outputs readFile headed readFrom after ended readWord said check afterEntry isPrime remaindersBelow
+reads : readFile file ≡ accepted wires outputs named
+unfolding file fileOf bytesOf wires outputs named readFile headed readFrom after ended readWord said check afterEntry isPrime remaindersBelow blocks
 reads = refl
 
 selects : selectsChecked file ≡ Accepted

@@ -32,7 +32,7 @@ unfoldable earlierOf : Call → Answer
 earlierOf (Call.manyParties call) =
     andThen (fileChecked (call .file))
     (garbleAsked (call .n) (call .K) (readFile (call .file) .wires) (readFile (call .file) .outputs) (call .contributions)
-    (length (call .rows₀)) (length (call .masks₀)) (length (call .outs₀)) (call .account))
+    (readFile (call .file) .named) (length (call .rows₀)) (length (call .masks₀)) (length (call .outs₀)) (call .account))
 earlierOf (Call.twoParties call) =
     andThen (pairFileChecked (call .file))
     (pairGarbleAsked (call .K) (readFile (call .file) .wires) (readFile (call .file) .outputs) (call .draw)

@@ -32,9 +32,9 @@ file =
     ∷ 0x7000_0002
     -- wire 7: 5 times itself
     ∷ 0x5000_1405
-    -- outputs 6, 7 and 2
+    -- outputs 6, 7 and 2; that the second names party 5, who takes no part, is passed over
     ∷ 0xA000_0006
-    ∷ 0xA000_0007
+    ∷ 0xA000_8007
     ∷ 0xA000_0002
     ∷ 0xB000_0000
     ∷ [])
@@ -54,6 +54,9 @@ wires =
 
 unfoldable pub outputs : List ℕ
 outputs = 6 ∷ 7 ∷ 2 ∷ []
+
+unfoldable pub named : List ℕ
+named = 0 ∷ 32 ∷ 0 ∷ []
 
 -- offsets of 2, 3 and 5, with component 0 equal to 1; the zero keys of wires 0, 1 and 2
 unfoldable pub draw : List ℕ

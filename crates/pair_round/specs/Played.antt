@@ -8,7 +8,7 @@ use Rattle.circuit.specs.File.{readFile}
 use Rattle.meter.specs.Meter.{Charge, charged}
 use Rattle.pads.specs.Pad.{shakePad}
 use Rattle.plain.specs.Call.{PlainCall}
-use Rattle.calls.specs.Decode.{DecodeCall}
+use Rattle.pair.specs.Decode.{PairDecodeCall}
 use Rattle.round.specs.Played.{Answered}
 use Rattle.pair.specs.Count.{pairRowsIn}
 use Rattle.pair.specs.Garble.{PairGarbleCall}
@@ -36,7 +36,7 @@ module _ (file : List ℕ) (K round : ℕ) (draw values : List ℕ) (meter : Cha
     pub inputKeys : Answered (λ number place. PairInputKeysCall file K draw values (lent .keys) number place (r .keys))
     pub opening : Answered (λ number place. PairOpenCall file K round (r .keys) (r .rows) (lent .wireKeys) (lent .wireExternals)
         number place (r .wireKeys) (r .wireExternals))
-    pub decode : Answered (λ number place. DecodeCall file (r .wireExternals) (r .outputMasks) (lent .results) number place (r .decoded))
+    pub decode : Answered (λ number place. PairDecodeCall file (r .wireExternals) (r .outputMasks) (lent .results) number place (r .decoded))
     pub plainly : Answered (λ number place. PlainCall file values (lent .plain) number place (r .plain))
 
   -- what the theorem says of their answers and of what they left

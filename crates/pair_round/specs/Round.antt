@@ -6,7 +6,7 @@ use Prim.Native.Nat.{ℕ}
 use Rattle.checks.specs.declared.Answer.{Answer}
 use Rattle.meter.specs.Meter.{Charge}
 use Rattle.pads.specs.Pad.{Pad}
-use Rattle.calls.specs.Decode.{decodeChecked, decodeAfter}
+use Rattle.pair.specs.Decode.{pairDecodeChecked, pairDecodeAfter}
 use Rattle.plain.specs.Call.{plainChecked, plainAfter}
 use Rattle.pair.specs.Garble.{pairGarbleChecked, pairGarbleRows, pairGarbleMasks}
 use Rattle.pair.specs.InputKeys.{pairKeysChecked, pairKeysAfter}
@@ -52,10 +52,10 @@ module _ (pad : Pad) (file : List ℕ) (K : ℕ) (draw values : List ℕ) (meter
 
   -- document 01's decoding, from the external bytes that opening wrote and garbling's output masks
   unfoldable pub decoding : Answer
-  decoding = decodeChecked file wireExternals outputMasks (lent .results)
+  decoding = pairDecodeChecked file wireExternals outputMasks (lent .results)
 
   unfoldable pub figures : List ℕ
-  figures = decodeAfter file wireExternals outputMasks (lent .results)
+  figures = pairDecodeAfter file wireExternals outputMasks (lent .results)
 
   -- plain evaluation
   unfoldable pub plainly : Answer

@@ -35,6 +35,12 @@ module _ {a x : Answer} (m : x ≡ a) where
   pub stage-followed : {b y z : Answer} → y ≡ b → z ≡ andThen x y → z ≡ andThen a b
   stage-followed n e = e ∙ ap₂ andThen m n
 
+-- what follows both follows the second
+pub stage-within : (a b c : Answer) → andThen (andThen a b) c ≡ andThen a (andThen b c)
+unfolding andThen
+stage-within Accepted b c = refl
+stage-within (Refused reason place) b c = refl
+
 -- ---- where the lengths pass, each is the one wanted
 
 pub lent-is : (lent wanted : List ℕ) → lengthsChecked lent wanted ≡ Accepted → (i : ℕ) → getD lent i 0 ≡ getD wanted i 0
@@ -56,6 +62,12 @@ fails-guarded false b k e = let z : _≡_ {A = ℕ} 0 1 = cc in absurd (omega ar
 
 -- ---- the reader's answer comes first
 
+pub reading-accepted : {reading : Reading} (file : List ℕ) → Holds reading (readFile file) → reading .answer ≡ Accepted
+    → AcceptedCircuit file (wiresIn (reading .circuit)) (outputsIn (reading .circuit))
+reading-accepted {reading} file h e =
+    subst (λ (w : List Wire). AcceptedCircuit file w (outputsIn (reading .circuit))) (sym (h .wires))
+    (subst (λ (o : List ℕ). AcceptedCircuit file (readFile file .wires) o) (sym (h .outputs)) (accepted file (sym (h .answer) ∙ e)))
+
 module _ {reading : Reading} (file : List ℕ) (h : Holds reading (readFile file)) (check : Answer) {answer : Answer}
     (joined : answer ≡ andThen (reading .answer) check) where
   pub read-met : {rest : Answer} → check ≡ rest → answer ≡ andThen (fileChecked file) rest
@@ -66,10 +78,7 @@ module _ {reading : Reading} (file : List ℕ) (h : Holds reading (readFile file
     check-accepted = andThen-right (reading .answer) check (sym joined ∙ e)
 
     pub circuit-accepted : AcceptedCircuit file (wiresIn (reading .circuit)) (outputsIn (reading .circuit))
-    circuit-accepted =
-        subst (λ (w : List Wire). AcceptedCircuit file w (outputsIn (reading .circuit))) (sym (h .wires))
-        (subst (λ (o : List ℕ). AcceptedCircuit file (readFile file .wires) o) (sym (h .outputs))
-        (accepted file (sym (h .answer) ∙ andThen-left (reading .answer) check (sym joined ∙ e))))
+    circuit-accepted = reading-accepted file h (andThen-left (reading .answer) check (sym joined ∙ e))
 
 -- ---- the buffer
 

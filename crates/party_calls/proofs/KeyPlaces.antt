@@ -28,7 +28,7 @@ use Rattle.circuit.specs.declared.Reading.{Reading}
 use Rattle.circuit.specs.Wires.{wireAt, modulusAt, isInput, inputsIn}
 use Rattle.circuit.specs.File.{readFile}
 use Rattle.circuit.specs.Accepted.{AcceptedCircuit}
-use Rattle.circuit.specs.Held.{wiresIn, outputsIn, Held, Holds}
+use Rattle.circuit.specs.Held.{wiresIn, outputsIn, namedIn, Held, Holds}
 use Rattle.counts.specs.Recipe.{recipeOf, recipe}
 use Rattle.counts.specs.Counts.{recordKeysBy, recordKeysOf, Counts}
 use Rattle.counts.specs.Moduli.{usedBelow, moduliUsed}
@@ -38,7 +38,7 @@ use Rattle.scheme.specs.Draw.{drawn}
 use Rattle.scheme.proofs.Used.{used-modulus}
 use Rattle.scheme.proofs.Places.{offset-fits, key-fits}
 use Rattle.scheme.proofs.Contributed.{nth-whole}
-use Rattle.session.specs.Session.{sessionChecked, partyChecked, ownersChecked, lengthsChecked, valuesChecked}
+use Rattle.session.specs.Session.{sessionChecked, partyChecked, partakersChecked, lengthsChecked, valuesChecked}
 use Rattle.session.proofs.Sessions.{session-fits}
 use Rattle.session.proofs.Circuits.{held-of, made-is, inputs-made}
 use Rattle.scheme.specs.Bytes.{contributionsChecked, offsetsChecked}
@@ -180,12 +180,12 @@ module _ {circuit : Circuit} (held : Held circuit) {K : ℕ} (most : K ≤ 128) 
   pub keys-stop : {reason : Refusal} {place : ℕ} → answer ≡ Refused reason place → Refused reason place ≡ inputKeysLent K (wiresIn circuit) contribution externals bytes
   keys-stop e = stage-refused lengths-met rest e
 
--- ---- 12 and 13
+-- ---- 12, 13 and 28
 
-pub party-met : (n K party bytes : ℕ) (wires : List Wire) (contribution externals : List ℕ) {lent owned asked second first : Answer}
-    → lent ≡ inputKeysLent K wires contribution externals bytes → owned ≡ ownersChecked n wires → second ≡ andThen owned lent
-    → asked ≡ partyChecked n party → first ≡ andThen asked second → first ≡ inputKeysParty K wires contribution externals n party bytes
-party-met n K party bytes wires contribution externals l o e p f = stage-followed p (stage-followed o l e) f
+pub party-met : (n K party bytes : ℕ) (wires : List Wire) (contribution externals named : List ℕ) {lent present asked second first : Answer}
+    → lent ≡ inputKeysLent K wires contribution externals bytes → present ≡ partakersChecked n wires named → second ≡ andThen present lent
+    → asked ≡ partyChecked n party → first ≡ andThen asked second → first ≡ inputKeysParty K wires contribution externals named n party bytes
+party-met n K party bytes wires contribution externals named l o e p f = stage-followed p (stage-followed o l e) f
 
 -- ---- 11
 
@@ -193,18 +193,18 @@ module _ (n K : ℕ) {long : ℕ} {session : Answer} (m : session ≡ sessionChe
   pub session-most : session ≡ Accepted → long ≤ 128
   session-most e = omega (arith, session-fits n K (sym m ∙ e) .most)
 
-  module _ (wires : List Wire) (contribution externals : List ℕ) (party bytes : ℕ) where
-    pub session-next : session ≡ Accepted → {r : Answer} → r ≡ inputKeysParty long wires contribution externals n party bytes → r ≡ inputKeysAsked K wires contribution externals n party bytes
+  module _ (wires : List Wire) (contribution externals named : List ℕ) (party bytes : ℕ) where
+    pub session-next : session ≡ Accepted → {r : Answer} → r ≡ inputKeysParty long wires contribution externals named n party bytes → r ≡ inputKeysAsked K wires contribution externals named n party bytes
     session-next e a =
-        stage-next m e (a ∙ ap (λ (j : ℕ). inputKeysParty j wires contribution externals n party bytes) k)
+        stage-next m e (a ∙ ap (λ (j : ℕ). inputKeysParty j wires contribution externals named n party bytes) k)
 
-    pub session-stop : {reason : Refusal} {place : ℕ} → session ≡ Refused reason place → Refused reason place ≡ inputKeysAsked K wires contribution externals n party bytes
-    session-stop e = stage-refused m (inputKeysParty K wires contribution externals n party bytes) e
+    pub session-stop : {reason : Refusal} {place : ℕ} → session ≡ Refused reason place → Refused reason place ≡ inputKeysAsked K wires contribution externals named n party bytes
+    session-stop e = stage-refused m (inputKeysParty K wires contribution externals named n party bytes) e
 
 -- ---- the whole call
 
 module _ {reading : Reading} (file : List ℕ) (n K party : ℕ) (contribution externals before : List ℕ) (h : Holds reading (readFile file)) {check answer : Answer}
-    (checked : check ≡ inputKeysAsked K (wiresIn (reading .circuit)) contribution externals n party (length before))
+    (checked : check ≡ inputKeysAsked K (wiresIn (reading .circuit)) contribution externals (namedIn (reading .circuit)) n party (length before))
     (joined : answer ≡ andThen (reading .answer) check) where
   abbrev circuit : Circuit
   circuit = reading .circuit
@@ -216,7 +216,7 @@ module _ {reading : Reading} (file : List ℕ) (n K party : ℕ) (contribution e
   unfolding inputKeysChecked
   met =
       read-met file h check joined
-      (checked ∙ ap (λ (w : List Wire). inputKeysAsked K w contribution externals n party (length before)) (h .wires))
+      (checked ∙ ap₂ (λ (w : List Wire) (s : List ℕ). inputKeysAsked K w contribution externals s n party (length before)) (h .wires) (h .named))
 
   pub call-refused : {reason : Refusal} {place : ℕ} → answer ≡ Refused reason place
       → InputKeysCall file n K party contribution externals before (numberOf reason) place before
@@ -228,15 +228,18 @@ module _ {reading : Reading} (file : List ℕ) (n K party : ℕ) (contribution e
     lengths = lengthsChecked (length contribution ∷ length externals ∷ length before ∷ []) (contributionSize K wires ∷ inputsIn wires ∷ inputsIn wires * K ∷ [])
 
     abbrev asked : Answer
-    asked = inputKeysParty K wires contribution externals n party (length before)
+    asked = inputKeysParty K wires contribution externals (namedIn (reading .circuit)) n party (length before)
 
-    all : inputKeysAsked K wires contribution externals n party (length before) ≡ Accepted
+    abbrev present : Answer
+    present = partakersChecked n wires (namedIn (reading .circuit))
+
+    all : inputKeysAsked K wires contribution externals (namedIn (reading .circuit)) n party (length before) ≡ Accepted
     all = sym checked ∙ check-accepted file h check joined e
 
     given : inputKeysLent K wires contribution externals (length before) ≡ Accepted
     given =
-        andThen-right (ownersChecked n wires) (inputKeysLent K wires contribution externals (length before))
-        (andThen-right (partyChecked n party) (andThen (ownersChecked n wires) (inputKeysLent K wires contribution externals (length before)))
+        andThen-right present (inputKeysLent K wires contribution externals (length before))
+        (andThen-right (partyChecked n party) (andThen present (inputKeysLent K wires contribution externals (length before)))
         (andThen-right (sessionChecked n K) asked all))
 
     lengthsPassed : lengths ≡ Accepted

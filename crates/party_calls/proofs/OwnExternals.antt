@@ -1,13 +1,13 @@
 -- The external values of a party's own inputs: the checks after reading, the loop that writes them, and how the call ends.
 -- Assumes nothing.
-use mathlib.Core.Path.{_≡_, sym, ap, _∙_}
+use mathlib.Core.Path.{_≡_, sym, ap, ap₂, _∙_}
 use mathlib.Core.Bool.{Bool, true, false, _||_}
 use mathlib.Core.List.{List, [], _∷_}
 use Prim.Native.Nat.{ℕ, _+_, _≤_, _<_}
 use native.Mathlib.Nat.{mul-one, le-refl}
 use native.Mathlib.Omega.{arith}
 use borrow.Author.Tests.{leb-false}
-use lib.ListN.{length, getD, set}
+use lib.ListN.{length, getD, set, replicate}
 use lib.Seq.{length-take-le}
 use Rattle.lists.specs.Blocks.{tab}
 use Rattle.lists.proofs.Blocks.{length-tab, getD-tab, tab-ext}
@@ -26,16 +26,16 @@ use Rattle.circuit.specs.declared.Circuit.{Circuit}
 use Rattle.circuit.specs.declared.Reading.{Reading}
 use Rattle.circuit.specs.Wires.{wireAt, modulusAt}
 use Rattle.circuit.specs.File.{readFile}
-use Rattle.circuit.specs.Held.{wiresIn, Room, Holds}
+use Rattle.circuit.specs.Held.{wiresIn, namedIn, Room, Holds}
 use Rattle.counts.specs.Counts.{mark, ownedBy, inputsOf, Counts}
 use Rattle.counts.proofs.Wires.{room}
-use Rattle.session.specs.Session.{partiesChecked, partyChecked, ownersChecked, lengthsChecked, tooLarge}
+use Rattle.session.specs.Session.{partiesChecked, partyChecked, partakersChecked, lengthsChecked, tooLarge}
 use Rattle.calls.specs.Externals.{ownInputs, externalsBytes, externalsLent, externalsAsked, externalsMade, externalsChecked, externalsAfter, ExternalsCall}
 use Rattle.calls.proofs.OwnInputs.{own-length}
 use Rattle.party_calls.specs.Tables.{Front}
 use Rattle.party_calls.specs.Either.{eitherChecked}
 use Rattle.party_calls.specs.Masking.{OwnLent, OwnFit}
-use Rattle.party_calls.proofs.TwoBuffers.{both-is}
+use Rattle.party_calls.proofs.TwoBuffers.{all-read, both-is}
 use Rattle.party_calls.proofs.Ending.{lent-is, stage-next, stage-refused, stage-followed, fails-left, fails-right, read-met, check-accepted, ends-written, ends-refused}
 
 -- a party owns no more inputs than there are wires
@@ -60,10 +60,12 @@ module _ {circuit : Circuit} {party : ℕ} {values masks : List ℕ} (lent : Own
   abbrev modulus : ℕ → ℕ
   modulus i = modulusAt (wiresIn circuit) (getD (ownInputs party (wiresIn circuit)) i 0)
 
-  pub own-met : {table same : List ℕ} {answer : Answer} → Front 1024 (length own) modulus table → Front 1024 (length own) modulus same
-      → answer ≡ eitherChecked values table masks same → answer ≡ externalsBytes party ws values masks
-  own-met {table} {same} t s m =
-      m ∙ both-is values table masks same (length own) modulus (lent .valuesSize) (lent .masksSize) (t .entry) (s .entry)
+  pub own-met : {table same readers : List ℕ} {answer : Answer} → Front 1024 (length own) modulus table → Front 1024 (length own) modulus same
+      → readers ≡ replicate 1024 0 → answer ≡ eitherChecked values table masks same readers party → answer ≡ externalsBytes party ws values masks
+  own-met {table} {same} {readers} t s r m =
+      m
+      ∙ both-is values table masks same readers party (length own) modulus (lent .valuesSize) (lent .masksSize) (t .entry) (s .entry)
+      (λ i _. all-read 1024 party i r)
 
 -- ---- 14, and then 15
 
@@ -92,13 +94,13 @@ module _ {circuit : Circuit} (space : Room circuit) (party : ℕ) (values masks 
   pub own-refused : {reason : Refusal} {place : ℕ} → answer ≡ Refused reason place → Refused reason place ≡ externalsLent party (wiresIn circuit) values masks bytes
   own-refused e = stage-refused lengths-met rest e
 
--- ---- 11 to 15
+-- ---- 11 to 15 and 28
 
-pub asked-met : (n party bytes : ℕ) (wires : List Wire) (values masks : List ℕ) {given owned asked parties third second first : Answer}
-    → given ≡ externalsLent party wires values masks bytes → owned ≡ ownersChecked n wires → third ≡ andThen owned given
+pub asked-met : (n party bytes : ℕ) (wires : List Wire) (values masks named : List ℕ) {given present asked parties third second first : Answer}
+    → given ≡ externalsLent party wires values masks bytes → present ≡ partakersChecked n wires named → third ≡ andThen present given
     → asked ≡ partyChecked n party → second ≡ andThen asked third → parties ≡ partiesChecked n → first ≡ andThen parties second
-    → first ≡ externalsAsked party wires values masks n bytes
-asked-met n party bytes wires values masks g o e a f p k = stage-followed p (stage-followed a (stage-followed o g e) f) k
+    → first ≡ externalsAsked party wires values masks named n bytes
+asked-met n party bytes wires values masks named g o e a f p k = stage-followed p (stage-followed a (stage-followed o g e) f) k
 
 -- ---- the external values: what the loop writes by its table is v + m
 
@@ -138,7 +140,7 @@ module _ {circuit : Circuit} {party : ℕ} {values masks : List ℕ} {bytes : �
 -- ---- the whole call
 
 module _ {reading : Reading} (file : List ℕ) (n party : ℕ) (values masks before : List ℕ) (h : Holds reading (readFile file)) {check answer : Answer}
-    (checked : check ≡ externalsAsked party (wiresIn (reading .circuit)) values masks n (length before))
+    (checked : check ≡ externalsAsked party (wiresIn (reading .circuit)) values masks (namedIn (reading .circuit)) n (length before))
     (joined : answer ≡ andThen (reading .answer) check) where
   abbrev wires : List Wire
   wires = wiresIn (reading .circuit)
@@ -153,7 +155,7 @@ module _ {reading : Reading} (file : List ℕ) (n party : ℕ) (values masks bef
   unfolding externalsChecked
   met =
       read-met file h check joined
-      (checked ∙ ap (λ (w : List Wire). externalsAsked party w values masks n (length before)) (h .wires))
+      (checked ∙ ap₂ (λ (w : List Wire) (s : List ℕ). externalsAsked party w values masks s n (length before)) (h .wires) (h .named))
 
   pub externals-refused : {reason : Refusal} {place : ℕ} → answer ≡ Refused reason place
       → ExternalsCall file n party values masks before (numberOf reason) place before
@@ -167,11 +169,14 @@ module _ {reading : Reading} (file : List ℕ) (n party : ℕ) (values masks bef
     abbrev bytes : Answer
     bytes = externalsBytes party wires values masks
 
+    abbrev present : Answer
+    present = partakersChecked n wires (namedIn (reading .circuit))
+
     given : externalsLent party wires values masks (length before) ≡ Accepted
     given =
-        andThen-right (ownersChecked n wires) (externalsLent party wires values masks (length before))
-        (andThen-right (partyChecked n party) (andThen (ownersChecked n wires) (externalsLent party wires values masks (length before)))
-        (andThen-right (partiesChecked n) (andThen (partyChecked n party) (andThen (ownersChecked n wires) (externalsLent party wires values masks (length before))))
+        andThen-right present (externalsLent party wires values masks (length before))
+        (andThen-right (partyChecked n party) (andThen present (externalsLent party wires values masks (length before)))
+        (andThen-right (partiesChecked n) (andThen (partyChecked n party) (andThen present (externalsLent party wires values masks (length before))))
         (sym checked ∙ check-accepted file h check joined e)))
 
     lengthsPassed : lengths ≡ Accepted

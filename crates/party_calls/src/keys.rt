@@ -6,7 +6,7 @@ ghost use Rattle.lists.specs.Blocks.{part};
 ghost use Rattle.residue.specs.Vector.{keyV};
 ghost use Rattle.checks.specs.Answer.{numberIn, placeIn};
 ghost use Rattle.circuit.specs.File.{readFile};
-ghost use Rattle.circuit.specs.Held.{wiresIn, Held, Holds};
+ghost use Rattle.circuit.specs.Held.{wiresIn, namedIn, Held, Holds};
 ghost use Rattle.calls.specs.InputKeys.{inputKeysBytes, inputKeysLent, inputKeysParty, inputKeysAsked, inputKeysMade, InputKeysCall};
 ghost use Rattle.party_calls.specs.Keying.{KeysLent, KeysFit};
 use super::tables::counted;
@@ -23,7 +23,7 @@ use counts::moduli_used;
 use lists::piece;
 use residue::key_of;
 use session::length_checked;
-use session::owners_checked;
+use session::partakers_checked;
 use session::party_checked;
 use session::session_checked;
 use session::values_checked;
@@ -63,7 +63,7 @@ fn key_lengths_checked(
     }
 }
 
-// The party and the owners, and then what is lent.
+// The party and those whom the circuit needs, and then what is lent.
 fn party_asked(
     circuit: Circuit,
     n: u32,
@@ -74,11 +74,11 @@ fn party_asked(
     bytes: usize,
 ) -> Answer
     requires { ⌜ Held circuit × (k ≤ 128) ⌝ }
-    ensures { λ r. ⌜ r ≡ inputKeysParty k (wiresIn circuit) (now (contribution .entry)) (now (externals .entry)) n party bytes ⌝ }
+    ensures { λ r. ⌜ r ≡ inputKeysParty k (wiresIn circuit) (now (contribution .entry)) (now (externals .entry)) (namedIn circuit) n party bytes ⌝ }
 {
     let lent = key_lengths_checked(circuit, k, contribution, externals, bytes);
-    let owners = followed(owners_checked(circuit, n), lent);
-    followed(party_checked(n, party), owners)
+    let present = followed(partakers_checked(circuit, n), lent);
+    followed(party_checked(n, party), present)
 }
 
 // The session, and where the key length is in range the rest.
@@ -92,7 +92,7 @@ fn keys_asked(
     bytes: usize,
 ) -> Answer
     requires { ⌜ Held circuit ⌝ }
-    ensures { λ r. ⌜ r ≡ inputKeysAsked k (wiresIn circuit) (now (contribution .entry)) (now (externals .entry)) n party bytes ⌝ }
+    ensures { λ r. ⌜ r ≡ inputKeysAsked k (wiresIn circuit) (now (contribution .entry)) (now (externals .entry)) (namedIn circuit) n party bytes ⌝ }
 {
     let session = session_checked(n, k);
     let long = counted(k);

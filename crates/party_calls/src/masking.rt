@@ -3,10 +3,11 @@ ghost use mathlib.Core.Path.{_≡_};
 ghost use lib.ListN.{length};
 ghost use Rattle.checks.specs.Answer.{numberIn, placeIn};
 ghost use Rattle.circuit.specs.File.{readFile};
-ghost use Rattle.circuit.specs.Held.{wiresIn, Room, Holds};
+ghost use Rattle.circuit.specs.Held.{wiresIn, namedIn, Room, Held, Holds};
 ghost use Rattle.calls.specs.Externals.{externalsBytes, externalsLent, externalsAsked, externalsMade, ExternalsCall};
 ghost use Rattle.party_calls.specs.Masking.{OwnLent, OwnFit};
 use super::either::either_checked;
+use super::tables::blank;
 use super::tables::counted;
 use super::tables::own_moduli;
 use checks::Answer;
@@ -17,18 +18,19 @@ use circuit::read;
 use counts::inputs_of;
 use residue::add;
 use session::length_checked;
-use session::owners_checked;
+use session::partakers_checked;
 use session::parties_checked;
 use session::party_checked;
 
-// Each value and each mask below the modulus of its own input. Both are held to the same table, lent as two.
+// Each value and each mask below the modulus of its own input. Both are held to the same table, lent as two; every mask counts.
 fn own_checked(circuit: Circuit, party: u32, values: &[u8], masks: &[u8]) -> Answer
     requires { ⌜ OwnLent circuit party (now values) (now masks) ⌝ }
     ensures { λ r. ⌜ r ≡ externalsBytes party (wiresIn circuit) (now (values .entry)) (now (masks .entry)) ⌝ }
 {
     let own = own_moduli(circuit, party);
     let same = own_moduli(circuit, party);
-    either_checked(values, &own, masks, &same)
+    let everyone = blank();
+    either_checked(values, &own, masks, &same, &everyone, party)
 }
 
 // The lengths of what is lent, and where they are right the bytes.
@@ -56,12 +58,12 @@ fn asked_checked(
     masks: &[u8],
     bytes: usize,
 ) -> Answer
-    requires { ⌜ Room circuit ⌝ }
-    ensures { λ r. ⌜ r ≡ externalsAsked party (wiresIn circuit) (now (values .entry)) (now (masks .entry)) n bytes ⌝ }
+    requires { ⌜ Held circuit ⌝ }
+    ensures { λ r. ⌜ r ≡ externalsAsked party (wiresIn circuit) (now (values .entry)) (now (masks .entry)) (namedIn circuit) n bytes ⌝ }
 {
     let given = given_checked(circuit, party, values, masks, bytes);
-    let owners = followed(owners_checked(circuit, n), given);
-    let asked = followed(party_checked(n, party), owners);
+    let present = followed(partakers_checked(circuit, n), given);
+    let asked = followed(party_checked(n, party), present);
     followed(parties_checked(n), asked)
 }
 

@@ -9,7 +9,8 @@ use circuit::Circuit;
 use counts::moduli;
 use counts::owned;
 
-fn blank() -> [u8; 1024]
+// A table of zeros. As one of whom bytes are for it names nobody, so that everyone may read.
+pub fn blank() -> [u8; 1024]
     ensures { λ r. ⌜ r ≡ replicate 1024 0 ⌝ }
 {
     [0u8; 1024]

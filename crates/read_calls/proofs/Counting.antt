@@ -10,10 +10,10 @@ use Rattle.checks.specs.Checked.{andThen}
 use Rattle.words.specs.declared.gate.Wire.{Wire}
 use Rattle.circuit.specs.declared.Reading.{Reading}
 use Rattle.circuit.specs.File.{Read, readFile}
-use Rattle.circuit.specs.Held.{wiresIn, Holds}
+use Rattle.circuit.specs.Held.{wiresIn, namedIn, Holds}
 use Rattle.circuit.proofs.More.{inputs-le}
 use Rattle.counts.specs.Counts.{Counts}
-use Rattle.session.specs.Session.{partiesChecked, partyChecked, ownersChecked}
+use Rattle.session.specs.Session.{partiesChecked, partyChecked, partakersChecked}
 use Rattle.read_calls.specs.InputsOf.{inputsOfChecked}
 
 module _ {reading : Reading} {read : Read} (h : Holds reading read) where
@@ -26,10 +26,10 @@ module _ {reading : Reading} {read : Read} (h : Holds reading read) where
   few-inputs =
       omega (arith, h .held .inputs, h .held .room .made, h .held .room .wires, inputs-le (wiresIn (reading .circuit)), length-take-le (reading .circuit .made) (reading .circuit .wires) (omega (arith, h .held .room .made, h .held .room .wires)))
 
--- document 01's order: 1 to 10, 11, 12, 13
-pub checks-met : {reading : Reading} (file : List ℕ) (n party : ℕ) → Holds reading (readFile file) → {parties asked owners third second answer : Answer}
-    → parties ≡ partiesChecked n → asked ≡ partyChecked n party → owners ≡ ownersChecked n (wiresIn (reading .circuit))
-    → third ≡ andThen asked owners → second ≡ andThen parties third → answer ≡ andThen (reading .answer) second → answer ≡ inputsOfChecked file n party
+-- document 01's order, and order 9's: 1 to 10, 11, 12, 13, 28
+pub checks-met : {reading : Reading} (file : List ℕ) (n party : ℕ) → Holds reading (readFile file) → {parties asked present third second answer : Answer}
+    → parties ≡ partiesChecked n → asked ≡ partyChecked n party → present ≡ partakersChecked n (wiresIn (reading .circuit)) (namedIn (reading .circuit))
+    → third ≡ andThen asked present → second ≡ andThen parties third → answer ≡ andThen (reading .answer) second → answer ≡ inputsOfChecked file n party
 unfolding inputsOfChecked
 checks-met file n party h a b c e f g =
-    g ∙ ap₂ andThen (h .answer) (f ∙ ap₂ andThen a (e ∙ ap₂ andThen b (c ∙ ap (ownersChecked n) (h .wires))))
+    g ∙ ap₂ andThen (h .answer) (f ∙ ap₂ andThen a (e ∙ ap₂ andThen b (c ∙ ap₂ (partakersChecked n) (h .wires) (h .named))))

@@ -7,7 +7,7 @@ use Rattle.checks.specs.declared.Answer.{Answer}
 use Rattle.checks.specs.Checked.{andThen, afterwards}
 use Rattle.circuit.specs.File.{readFile}
 use Rattle.counts.specs.Counts.{inputsOf}
-use Rattle.session.specs.Session.{fileChecked, partiesChecked, partyChecked, ownersChecked}
+use Rattle.session.specs.Session.{fileChecked, partiesChecked, partyChecked, partakersChecked}
 use Rattle.read_calls.specs.declared.inputs.Counted.{Counted}
 
 module _ (file : List ℕ) (n party : ℕ) where
@@ -16,7 +16,7 @@ module _ (file : List ℕ) (n party : ℕ) where
       andThen (fileChecked file)
       (andThen (partiesChecked n)
       (andThen (partyChecked n party)
-      (ownersChecked n (readFile file .wires))))
+      (partakersChecked n (readFile file .wires) (readFile file .named))))
 
   -- a lent number afterwards
   unfoldable pub inputsOfAfter : ℕ → ℕ

@@ -6,7 +6,7 @@ use checks::Answer;
 use checks::followed;
 use circuit::Reading;
 use circuit::read;
-use session::owners_checked;
+use session::partakers_checked;
 use session::parties_checked;
 use session::party_checked;
 
@@ -21,8 +21,8 @@ fn inputs_in(reading: Reading, file: &[u8], n: u32, party: u32) -> Counted
 {
     let read = reading.answer;
     let circuit = reading.circuit;
-    let owners = owners_checked(circuit, n);
-    let asked = followed(party_checked(n, party), owners);
+    let present = partakers_checked(circuit, n);
+    let asked = followed(party_checked(n, party), present);
     let answer = followed(read, followed(parties_checked(n), asked));
     Counted {
         answer,

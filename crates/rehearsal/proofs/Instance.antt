@@ -52,7 +52,7 @@ module _ (file : List ℕ) (n K : ℕ) (contributions values : List ℕ) (meter 
   abbrev pub Serves : Type 0
   Serves =
       Conditions file n K contributions values meter
-      (lentOf file n K (zeros (rowsIn wires * (n * K))) (zeros (inputsIn wires)) (zeros (length outputs)) mine wkeys wexternals results (zeros (length outputs)))
+      (lentOf file n K (zeros (rowsIn wires * (n * K))) (zeros (inputsIn wires)) (zeros (n * length outputs)) mine wkeys wexternals results (zeros (length outputs)))
       × Whole file n K (zeros (inputsIn wires)) mine (zeros (inputsIn wires * (n * K))) wkeys wexternals results
 
   pub zeros-serve : {lent : Lent} → Conditions file n K contributions values meter lent → Serves
@@ -61,6 +61,7 @@ module _ (file : List ℕ) (n K : ℕ) (contributions values : List ℕ) (meter 
       accepted = c .accepted;
       parties = c .parties;
       owners = c .owners;
+      named = c .named;
       keyLength = c .keyLength;
       contributionsLength = c .contributionsLength;
       contributionsBytes = c .contributionsBytes;

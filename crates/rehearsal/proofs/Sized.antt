@@ -60,8 +60,12 @@ module _ {file : List ℕ} {n K own made given size each wide : ℕ} (s : Sized 
     (w .wkeysLong ∙ ap (λ (x : ℕ). n * x) (sym (s .wideIs)), (w .wexternalsLong ∙ ap (λ (x : ℕ). n * x) (sym (s .madeIs)), few)),
   )
 
-  pub decode-fit : {after : ℕ} → after ≡ length wexternals → (after ≡ n * made) × (length results ≡ n * given)
-  decode-fit k = (k ∙ w .wexternalsLong ∙ ap (λ (x : ℕ). n * x) (sym (s .madeIs)), w .resultsLong ∙ ap (λ (x : ℕ). n * x) (sym (s .givenIs)))
+  pub decode-fit : {after sheets : ℕ} → after ≡ length wexternals → sheets ≡ n * length (readFile file .outputs)
+      → (after ≡ n * made) × ((sheets ≡ n * given) × (length results ≡ n * given))
+  decode-fit k m = (
+    k ∙ w .wexternalsLong ∙ ap (λ (x : ℕ). n * x) (sym (s .madeIs)),
+    (m ∙ ap (λ (x : ℕ). n * x) (sym (s .givenIs)), w .resultsLong ∙ ap (λ (x : ℕ). n * x) (sym (s .givenIs))),
+  )
 
 module _ {file : List ℕ} {n K own made given size each wide : ℕ} (s : Sized file n K own made given size each wide) where
   pub keyed-as : {contributions externals mine₀ mine : List ℕ} → KeysOfAll file n K contributions size externals each mine₀ mine

@@ -191,13 +191,14 @@ module _ {file : List ℕ} {n K round : ℕ} {contributions : List ℕ} {size : 
 
 module _ (file : List ℕ) (n : ℕ) (externals : List ℕ) (long : ℕ) (masks : List ℕ) (each : ℕ) (results₀ : List ℕ) where
   abbrev pub decodeChecks : ℕ → Answer
-  decodeChecks party = decodeChecked file (nthPiece externals long party) masks (nthPiece results₀ each party)
+  decodeChecks party = decodeChecked file n party (nthPiece externals long party) (nthPiece masks each party) (nthPiece results₀ each party)
 
   abbrev pub decodedBytes : ℕ → List ℕ
-  decodedBytes party = decodeAfter file (nthPiece externals long party) masks (nthPiece results₀ each party)
+  decodedBytes party = decodeAfter file n party (nthPiece externals long party) (nthPiece masks each party) (nthPiece results₀ each party)
 
   pub record DecodeTo (party from at : ℕ) (results : List ℕ) : Type 0 where
     pub place : from ≡ party * long
+    pub sheet : at ≡ party * each
     pub level : Level results₀ 0 party n each decodedBytes at results
     pub sized : (j : ℕ) → j < party → length (decodedBytes j) ≡ each
     pub met : (j : ℕ) → j < party → Told decodeChecks j
@@ -207,6 +208,7 @@ module _ {file : List ℕ} {n : ℕ} {externals : List ℕ} {long : ℕ} {masks 
   decode-start l =
       record {
         place = omega arith;
+        sheet = omega arith;
         level = level-start (omega arith);
         sized = λ j h. absurd (omega arith);
         met = turn-start (Told (decodeChecks file n externals long masks each results₀));
@@ -216,24 +218,32 @@ module _ {file : List ℕ} {n : ℕ} {externals : List ℕ} {long : ℕ} {masks 
     pub decode-reads : length externals ≡ n * long → from + long ≤ length externals
     decode-reads l = read-next externals n long party from l (r .place) h
 
-    pub decode-next : {own ys : List ℕ} {number place : ℕ} → own ≡ part externals from long
+    pub sheet-reads : length masks ≡ n * each → at + each ≤ length masks
+    sheet-reads l = read-next masks n each party at l (r .sheet) h
+
+    pub decode-next : {own sheet ys : List ℕ} {number place : ℕ} → own ≡ part externals from long
+        → sheet ≡ part masks at each
         → length ys ≡ length (take (at + each - at) (drop at results))
-        → DecodeCall file own masks (take (at + each - at) (drop at results)) number place ys
+        → DecodeCall file n party own sheet (take (at + each - at) (drop at results)) number place ys
         → DecodeTo file n externals long masks each results₀ (party + 1) (from + long) (at + each) (lent at (at + each) results ys)
-    decode-next {own} {ys} o l d =
+    decode-next {own} {sheet} {ys} o m l d =
         let o′ : own ≡ nthPiece externals long party = own-part externals long party o (r .place) in
+        let m′ : sheet ≡ nthPiece masks each party = own-part masks each party m (r .sheet) in
         let p : take (at + each - at) (drop at results) ≡ nthPiece results₀ each party = part-next (r .level) refl in
         let z : ys ≡ decodedBytes file n externals long masks each results₀ party =
-        d .resultsIs ∙ ap₂ (λ (a b : List ℕ). decodeAfter file a masks b) o′ p in
+        d .resultsIs ∙ ap₂ (λ (a b : List ℕ). decodeAfter file n party a sheet b) o′ p
+        ∙ ap (λ (s : List ℕ). decodeAfter file n party (nthPiece externals long party) s (nthPiece results₀ each party)) m′ in
         record {
           place = omega (arith, r .place, times-next party long);
+          sheet = omega (arith, r .sheet, times-next party each);
           level = steps-call (r .level) h refl l z;
           sized =
               turn-next (λ j. length (decodedBytes file n externals long masks each results₀ j) ≡ each) party (r .sized)
               (sym (ap length z) ∙ l ∙ steps-long (r .level) h refl);
           met =
               turn-next (Told (decodeChecks file n externals long masks each results₀)) party (r .met)
-              (told-as (decodeChecks file n externals long masks each results₀) party (ap₂ (λ (a b : List ℕ). decodeChecked file a masks b) o′ p)
+              (told-as (decodeChecks file n externals long masks each results₀) party (ap₂ (λ (a b : List ℕ). decodeChecked file n party a sheet b) o′ p
+              ∙ ap (λ (s : List ℕ). decodeChecked file n party (nthPiece externals long party) s (nthPiece results₀ each party)) m′)
               (d .answer));
         }
 

@@ -19,7 +19,7 @@ pub record OpenedByAll (file : List ℕ) (n K round : ℕ) (contributions : List
   pub calls : (party : ℕ) → party < n → Answered (λ number place. OpenCall file n K party round (nthPiece contributions size party) externals keys rows
       (nthPiece wkeys₀ wide party) (nthPiece wexternals₀ long party) number place (nthPiece wkeys wide party) (nthPiece wexternals long party))
 
--- decoding, from a party's own external values
+-- decoding, from a party's own external values and its own sheet of the output masks
 pub record DecodedByAll (file : List ℕ) (n : ℕ) (externals : List ℕ) (long : ℕ) (masks : List ℕ) (each : ℕ) (results₀ results : List ℕ) : Type 0 where
-  pub calls : (party : ℕ) → party < n → Answered (λ number place. DecodeCall file (nthPiece externals long party) masks
+  pub calls : (party : ℕ) → party < n → Answered (λ number place. DecodeCall file n party (nthPiece externals long party) (nthPiece masks each party)
       (nthPiece results₀ each party) number place (nthPiece results each party))

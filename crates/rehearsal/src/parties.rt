@@ -104,7 +104,7 @@ pub fn open_all(
     }
 }
 
-// At each party decoding, from `long` external values of its own; `each` bytes of `results` are a party's.
+// At each party decoding, from `long` external values of its own and its sheet of the output masks; `each` bytes of `masks` and of `results` are a party's.
 pub fn decode_all(
     file: &[u8],
     n: u32,
@@ -114,7 +114,7 @@ pub fn decode_all(
     each: usize,
     results: &mut [u8],
 )
-    requires { ⌜ (length (now externals) ≡ n * long) × (length (now results) ≡ n * each) ⌝ }
+    requires { ⌜ (length (now externals) ≡ n * long) × ((length (now masks) ≡ n * each) × (length (now results) ≡ n * each)) ⌝ }
     ensures { λ _. ⌜ DecodedByAll (now (file .entry)) n (now (externals .entry)) long (now (masks .entry)) each (now (results .entry)) (now (results .exit)) ⌝ }
 {
     let mut from = 0;
@@ -122,8 +122,9 @@ pub fn decode_all(
     let mut party = 0;
     while party < n {
         let external = piece(externals, from, long);
+        let sheet = piece(masks, at, each);
         let to = at + each;
-        let answer = lupiknam_decode(file, external, masks, &mut results[at..to]);
+        let answer = lupiknam_decode(file, n, party, external, sheet, &mut results[at..to]);
         from += long;
         at = to;
         party += 1;

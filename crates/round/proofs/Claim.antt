@@ -1,4 +1,4 @@
--- Demand 3: under its conditions every call of a round accepts, and every party decodes the plain circuit's outputs.
+-- Demand 3: under its conditions every call of a round accepts, and every party decodes the plain circuit's outputs that it may read.
 -- Assumes nothing.
 use mathlib.Core.Path.{_≡_, ap, _∙_}
 use mathlib.Core.List.{List}

@@ -1,12 +1,13 @@
--- The claim at work: the round of specs/Example.antt meets every condition, so under SHAKE256 both parties decode 1 and 3. No pad is computed
--- here; that the conditions can be met is.
+-- The claim at work: the round of specs/Example.antt meets every condition, so under SHAKE256 party 1 decodes 1 and 3, and party 0, whom the second output
+-- does not name, 1 and 255. No pad is computed here; that the conditions can be met is.
 -- Assumes nothing.
-use mathlib.Core.Path.{_≡_, refl, sym, ap, ap₂, subst, _∙_}
+use mathlib.Core.Path.{_≡_, refl, sym, ap, subst, _∙_}
+use mathlib.Core.Bool.{true, cond}
 use mathlib.Core.List.{List, [], _∷_}
 use Prim.Native.Nat.{ℕ, zero, suc, _*_, _<_}
 use native.Mathlib.Omega.{arith}
 use lib.ListN.{length, getD, length-replicate}
-use Rattle.lists.specs.Blocks.{blocks, part, sumTo}
+use Rattle.lists.specs.Blocks.{blocks, tab, part, sumTo}
 use Rattle.lists.specs.Grown.{extended, grown}
 use Rattle.lists.specs.First.{firstFrom, first}
 use Rattle.shake.specs.Numbers.{bytesOf}
@@ -18,10 +19,12 @@ use Rattle.words.specs.declared.gate.Wire.{Wire}
 use Rattle.words.specs.Items.{check, afterEntry}
 use Rattle.words.specs.Reading.{said, readWord}
 use Rattle.circuit.specs.Wires.{modulusAt, inputsIn}
+use Rattle.circuit.specs.Named.{names, mayRead, readable}
 use Rattle.circuit.specs.File.{Read, accepted, ended, after, readFrom, headed, readFile}
 use Rattle.counts.specs.Recipe.{recipe}
 use Rattle.counts.specs.Counts.{rowsIn}
 use Rattle.counts.specs.Moduli.{someBelow}
+use Rattle.session.proofs.Named.{named-below}
 use Rattle.scheme.specs.Contribution.{offsetAt, contributionSize, contributionModuli}
 use Rattle.pads.specs.Pad.{shakePad}
 use Rattle.plain.specs.Plain.{plainBy, plainTo, plainValues, plainOutputs}
@@ -30,11 +33,11 @@ use Rattle.meter.specs.Meter.{accounts, HasSpace}
 use Rattle.round.specs.Round.{ownerAt, figures}
 use Rattle.round.specs.Claim.{LengthsRight, Conditions, Promise}
 use Rattle.words.specs.Encode.{fileOf}
-use Rattle.round.specs.Example.{file, wires, outputs, contributions, values, meter, lent}
+use Rattle.round.specs.Example.{file, wires, outputs, named, contributions, values, meter, lent}
 use Rattle.round.proofs.RealPad.{shake-claim}
 
-reads : readFile file ≡ accepted wires outputs
-unfolding file fileOf bytesOf wires outputs readFile headed readFrom after ended readWord said check afterEntry isPrime remaindersBelow
+reads : readFile file ≡ accepted wires outputs named
+unfolding file fileOf bytesOf wires outputs named blocks readFile headed readFrom after ended readWord said check afterEntry isPrime remaindersBelow
 reads = refl
 
 three : (P : ℕ → Type 0) → P 0 → P 1 → P 2 → (w : ℕ) → w < 3 → P w
@@ -46,6 +49,12 @@ three P a b c (suc (suc (suc w))) h = absurd (omega arith)
 owners : (w : ℕ) → w < inputsIn wires → ownerAt wires w < 2
 unfolding wires inputsIn
 owners = three (λ w. ownerAt wires w < 2) (omega arith) (omega arith) (omega arith)
+
+partakers : (i party : ℕ) → i < length outputs → names (getD named i 0) party ≡ true → party < 2
+unfolding outputs named
+partakers zero party h e = named-below 2 0 party (omega arith) e
+partakers (suc zero) party h e = named-below 2 2 party (omega arith) e
+partakers (suc (suc i)) party h e = absurd (omega arith)
 
 below : (w : ℕ) → w < inputsIn wires → getD values w 0 < modulusAt wires w
 unfolding wires inputsIn values
@@ -92,6 +101,9 @@ wires-read = ap (λ (r : Read). r .wires) reads
 outputs-read : readFile file .outputs ≡ outputs
 outputs-read = ap (λ (r : Read). r .outputs) reads
 
+named-read : readFile file .named ≡ named
+named-read = ap (λ (r : Read). r .named) reads
+
 -- what holds of the wires holds of those that are read
 as-read : (P : List Wire → Type 0) → P wires → P (readFile file .wires)
 as-read P = subst P (sym wires-read)
@@ -106,6 +118,10 @@ conditions =
       accepted = rw reads;
       parties = omega arith;
       owners = as-read (λ ws. (w : ℕ) → w < inputsIn ws → ownerAt ws w < 2) owners;
+      named =
+          λ i party h e.
+          partakers i party (subst (λ (outs : List ℕ). i < length outs) outputs-read h)
+          (subst (λ (parties : List ℕ). names (getD parties i 0) party ≡ true) named-read e);
       keyLength = omega arith;
       contributionsLength = as-read (λ ws. length contributions ≡ 2 * contributionSize 1 ws) size;
       contributionsBytes = as-read (λ ws. contributionsChecked 2 1 ws contributions ≡ Accepted) bytes;
@@ -126,6 +142,20 @@ plain : plainOutputs file wires outputs values ≡ 1 ∷ 3 ∷ []
 unfolding plainOutputs plainValues plainTo plainBy grown extended add mul blocks file fileOf bytesOf wires outputs values
 plain = refl
 
-pub both-decode : (round party : ℕ) → party < 2 → figures (shakePad round) file 2 1 contributions values meter lent party ≡ 1 ∷ 3 ∷ []
-both-decode round party h =
-    promise round .delivers .decoded party h ∙ ap₂ (λ (ws : List Wire) (outs : List ℕ). plainOutputs file ws outs values) wires-read outputs-read ∙ plain
+-- what a party may read of 1 and 3
+abbrev shown : ℕ → List ℕ
+shown party = tab (length outputs) (λ i. cond (readable named party i) (getD (1 ∷ 3 ∷ []) i 0) 255)
+
+decodes : (round party : ℕ) → party < 2 → figures (shakePad round) file 2 1 contributions values meter lent party ≡ shown party
+decodes round party h =
+    promise round .delivers .decoded party h
+    ∙ ap (λ (r : Read). tab (length (r .outputs)) (λ i. cond (readable (r .named) party i) (getD (plainOutputs file (r .wires) (r .outputs) values) i 0) 255)) reads
+    ∙ ap (λ (plainly : List ℕ). tab (length outputs) (λ i. cond (readable named party i) (getD plainly i 0) 255)) plain
+
+pub first-decodes : (round : ℕ) → figures (shakePad round) file 2 1 contributions values meter lent 0 ≡ 1 ∷ 255 ∷ []
+unfolding blocks outputs named mayRead
+first-decodes round = decodes round 0 (omega arith)
+
+pub second-decodes : (round : ℕ) → figures (shakePad round) file 2 1 contributions values meter lent 1 ≡ 1 ∷ 3 ∷ []
+unfolding blocks outputs named mayRead
+second-decodes round = decodes round 1 (omega arith)

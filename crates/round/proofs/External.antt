@@ -23,7 +23,7 @@ use Rattle.round.specs.Round.{Lent, ownerAt, placeAt, inputMasks, ownOf,
 use Rattle.scheme.proofs.Bounds.{positive, mask-below}
 use Rattle.round.proofs.Inputs.{input-made}
 use Rattle.round.proofs.Start.{Start}
-use Rattle.round.proofs.Shared.{parties-fit, owners-fit}
+use Rattle.round.proofs.Shared.{parties-fit, partakers-pass}
 use Rattle.round.proofs.Garbled.{input-mask-at}
 
 map-at : (f : ℕ → ℕ) (xs : List ℕ) (i : ℕ) → i < length xs → getD (map f xs) i 0 ≡ f (getD xs i 0)
@@ -70,7 +70,7 @@ module _ {pad : Pad} {file : List ℕ} {n K : ℕ} {contributions values : List 
         read = start .conditions .accepted;
         parties = parties-fit start;
         takesPart = h;
-        owners = owners-fit start;
+        partakers = partakers-pass start;
         valuesLength = own-size values party;
         masksLength = own-size masks party;
         externalsLength = start .conditions .lengths .externals party h ∙ sym (start .gathers .size party);

@@ -10,16 +10,16 @@ use Rattle.checks.specs.declared.Answer.the-variants.{Accepted}
 use Rattle.checks.proofs.Passed.{andThen-passed, noneBad-passed}
 use Rattle.circuit.specs.Wires.{modulusAt}
 use Rattle.circuit.specs.File.{readFile}
-use Rattle.session.specs.Session.{tooLarge}
+use Rattle.session.specs.Session.{partakersChecked, tooLarge}
 use Rattle.calls.specs.Externals.{ownInputs, externalsChecked}
-use Rattle.session.proofs.Sessions.{PartiesFit, OwnersFit, parties-passed, party-passed, owners-passed, lengths-passed}
+use Rattle.session.proofs.Sessions.{PartiesFit, parties-passed, party-passed, lengths-passed}
 use Rattle.scheme.proofs.ByteChecks.{below-tooLarge, either-fine}
 
 pub record ExternalsFit (file : List ℕ) (n party : ℕ) (values masks externals : List ℕ) : Type 0 where
   pub read : readFile file .answer ≡ Accepted
   pub parties : PartiesFit n
   pub takesPart : party < n
-  pub owners : OwnersFit n (readFile file .wires)
+  pub partakers : partakersChecked n (readFile file .wires) (readFile file .named) ≡ Accepted
   pub valuesLength : length values ≡ length (ownInputs party (readFile file .wires))
   pub masksLength : length masks ≡ length (ownInputs party (readFile file .wires))
   pub externalsLength : length externals ≡ length (ownInputs party (readFile file .wires))
@@ -36,7 +36,7 @@ externals-passed {file} {n} {party} {values} {masks} {externals} r =
     andThen-passed (r .read)
     (andThen-passed (parties-passed (r .parties))
     (andThen-passed (party-passed (r .takesPart))
-    (andThen-passed (owners-passed (r .owners))
+    (andThen-passed (r .partakers)
     (andThen-passed (lengths-passed (rw (r .valuesLength, r .masksLength, r .externalsLength)))
     (noneBad-passed (length own) (λ i. tooLarge values modulus i || tooLarge masks modulus i) ValueTooLarge
     (λ i h. either-fine (below-tooLarge values modulus i (r .value i h)) (below-tooLarge masks modulus i (r .mask i h))))))))

@@ -1,6 +1,7 @@
--- Garbling accepts, and so writes the rows, the input masks and the output masks of what the parties drew.
+-- Garbling accepts, and so writes the rows, the input masks and each party's sheet of output masks, of what the parties drew.
 -- Assumes nothing.
 use mathlib.Core.Path.{_≡_, _∙_, ap}
+use mathlib.Core.Bool.{true}
 use mathlib.Core.List.{List}
 use Prim.Native.Nat.{ℕ, _<_}
 use lib.ListN.{length, getD}
@@ -10,16 +11,17 @@ use Rattle.meter.specs.Meter.{Charge}
 use Rattle.words.specs.declared.gate.Wire.{Wire}
 use Rattle.circuit.specs.Wires.{inputsIn}
 use Rattle.circuit.specs.File.{readFile}
+use Rattle.circuit.specs.Named.{readable}
 use Rattle.scheme.specs.Draw.{Draw, drawn}
 use Rattle.scheme.specs.Zero.{mask}
 use Rattle.pads.specs.Pad.{Pad}
 use Rattle.scheme.specs.Rows as Rows
 use Rattle.calls.specs.Garble.{garbleRows, garbleInputMasks, garbleOutputMasks}
 use Rattle.round.proofs.GarblingPasses.{garble-passed}
-use Rattle.round.specs.Round.{Lent, garbling, rows, inputMasks, outputMasks}
+use Rattle.round.specs.Round.{Lent, sheetOf, garbling, rows, inputMasks, outputMasks}
 use Rattle.round.proofs.Start.{Start}
-use Rattle.round.proofs.Shared.{session-fits, owners-fit}
-use Rattle.round.proofs.Masks.{input-mask, output-mask, output-masks}
+use Rattle.round.proofs.Shared.{session-fits, partakers-pass}
+use Rattle.round.proofs.Masks.{input-mask, sheet-size, sheet-mask, nth-sheet}
 
 module _ {pad : Pad} {file : List ℕ} {n K : ℕ} {contributions values : List ℕ} {meter : Charge} {lent : Lent}
     (start : Start pad file n K contributions values meter lent) where
@@ -28,6 +30,9 @@ module _ {pad : Pad} {file : List ℕ} {n K : ℕ} {contributions values : List 
 
   abbrev outputs : List ℕ
   outputs = readFile file .outputs
+
+  abbrev named : List ℕ
+  named = readFile file .named
 
   abbrev draw : Draw
   draw = drawn n K wires contributions
@@ -39,7 +44,7 @@ module _ {pad : Pad} {file : List ℕ} {n K : ℕ} {contributions values : List 
       (record {
         read = start .conditions .accepted;
         session = session-fits start;
-        owners = owners-fit start;
+        partakers = partakers-pass start;
         contributed = start .drew .all;
         rowsLength = start .conditions .lengths .rows;
         masksLength = start .conditions .lengths .inputMasks;
@@ -57,16 +62,24 @@ module _ {pad : Pad} {file : List ℕ} {n K : ℕ} {contributions values : List 
   unfolding inputMasks garbleInputMasks garbling
   input-masks-are = afterwards-passed garbles _ _
 
-  pub output-masks-are : outputMasks pad file n K contributions values meter lent ≡ Rows.outputMasks wires outputs draw
+  pub output-masks-are : outputMasks pad file n K contributions values meter lent ≡ Rows.outputSheets wires outputs named draw n
   unfolding outputMasks garbleOutputMasks garbling
   output-masks-are = afterwards-passed garbles _ _
 
   pub input-mask-at : (w : ℕ) → w < inputsIn wires → getD (inputMasks pad file n K contributions values meter lent) w 0 ≡ mask wires draw w
   input-mask-at w h = ap (λ (l : List ℕ). getD l w 0) input-masks-are ∙ input-mask wires draw w h
 
-  pub output-masks-size : length (outputMasks pad file n K contributions values meter lent) ≡ length outputs
-  output-masks-size = ap length output-masks-are ∙ output-masks wires draw outputs
+  -- ---- a party's sheet
 
-  pub output-mask-at : (i : ℕ) → i < length outputs
-      → getD (outputMasks pad file n K contributions values meter lent) i 0 ≡ mask wires draw (getD outputs i 0)
-  output-mask-at i h = ap (λ (l : List ℕ). getD l i 0) output-masks-are ∙ output-mask wires draw outputs i h
+  module _ (party : ℕ) (h : party < n) where
+    abbrev sheet : List ℕ
+    sheet = sheetOf outputs (outputMasks pad file n K contributions values meter lent) party
+
+    sheet-is : sheet ≡ Rows.outputSheet wires outputs named draw party
+    sheet-is = ap (λ (l : List ℕ). sheetOf outputs l party) output-masks-are ∙ nth-sheet wires outputs named draw n party h
+
+    pub sheet-long : length sheet ≡ length outputs
+    sheet-long = ap length sheet-is ∙ sheet-size wires outputs named draw party
+
+    pub sheet-at : (i : ℕ) → i < length outputs → readable named party i ≡ true → getD sheet i 0 ≡ mask wires draw (getD outputs i 0)
+    sheet-at i l e = ap (λ (xs : List ℕ). getD xs i 0) sheet-is ∙ sheet-mask wires outputs named draw party i l e

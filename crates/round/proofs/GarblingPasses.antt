@@ -14,18 +14,19 @@ use Rattle.counts.specs.Counts.{rowsIn}
 use Rattle.scheme.proofs.Contributed.{Contributed}
 use Rattle.scheme.specs.Bytes.{offsetsChecked}
 use Rattle.calls.specs.Garble.{garbleChecked}
-use Rattle.session.proofs.Sessions.{SessionFits, OwnersFit, session-passed, owners-passed, lengths-passed}
+use Rattle.session.specs.Session.{partakersChecked}
+use Rattle.session.proofs.Sessions.{SessionFits, session-passed, lengths-passed}
 use Rattle.round.proofs.Contributions.{contributions-passed}
 
 -- what garbling is given
 pub record GarbleFits (file : List ℕ) (n K : ℕ) (contributions rows masks outs : List ℕ) (meter : Charge) : Type 0 where
   pub read : readFile file .answer ≡ Accepted
   pub session : SessionFits n K
-  pub owners : OwnersFit n (readFile file .wires)
+  pub partakers : partakersChecked n (readFile file .wires) (readFile file .named) ≡ Accepted
   pub contributed : Contributed n K (readFile file .wires) contributions
   pub rowsLength : length rows ≡ rowsIn (readFile file .wires) * (n * K)
   pub masksLength : length masks ≡ inputsIn (readFile file .wires)
-  pub outsLength : length outs ≡ length (readFile file .outputs)
+  pub outsLength : length outs ≡ n * length (readFile file .outputs)
   pub offsets : offsetsChecked n K (readFile file .wires) contributions ≡ Accepted
   pub account : meter .account < accounts
   pub space : HasSpace meter (rowsIn (readFile file .wires))
@@ -37,7 +38,7 @@ module _ (file : List ℕ) (n K : ℕ) (contributions rows masks outs : List ℕ
       andThen-passed
       (andThen-passed (r .read)
       (andThen-passed (session-passed (r .session))
-      (andThen-passed (owners-passed (r .owners))
+      (andThen-passed (r .partakers)
       (andThen-passed (lengths-passed (rw (r .contributed .size, r .rowsLength, r .masksLength, r .outsLength)))
       (andThen-passed (account-passed (meter .account) (r .account))
       (andThen-passed (contributions-passed n K (readFile file .wires) contributions (r .contributed))

@@ -13,7 +13,8 @@ use Rattle.scheme.specs.Contribution.{contributionSize}
 use Rattle.scheme.proofs.Contributed.{Contributed}
 use Rattle.scheme.specs.Bytes.{offsetsChecked}
 use Rattle.calls.specs.InputKeys.{inputKeysChecked}
-use Rattle.session.proofs.Sessions.{SessionFits, OwnersFit, session-passed, party-passed, owners-passed, lengths-passed}
+use Rattle.session.specs.Session.{partakersChecked}
+use Rattle.session.proofs.Sessions.{SessionFits, session-passed, party-passed, lengths-passed}
 use Rattle.scheme.proofs.ByteChecks.{values-passed}
 use Rattle.round.proofs.Contributions.{contributions-passed}
 
@@ -21,7 +22,7 @@ pub record InputKeysFit (file : List ℕ) (n K party : ℕ) (contribution extern
   pub read : readFile file .answer ≡ Accepted
   pub session : SessionFits n K
   pub takesPart : party < n
-  pub owners : OwnersFit n (readFile file .wires)
+  pub partakers : partakersChecked n (readFile file .wires) (readFile file .named) ≡ Accepted
   pub contributionLength : length contribution ≡ contributionSize K (readFile file .wires)
   pub externalsLength : length externals ≡ inputsIn (readFile file .wires)
   pub keysLength : length keys ≡ inputsIn (readFile file .wires) * K
@@ -36,7 +37,7 @@ inputKeys-passed {file} {n} {K} {party} {contribution} {externals} {keys} r =
     andThen-passed (r .read)
     (andThen-passed (session-passed (r .session))
     (andThen-passed (party-passed (r .takesPart))
-    (andThen-passed (owners-passed (r .owners))
+    (andThen-passed (r .partakers)
     (andThen-passed (lengths-passed (rw (r .contributionLength, r .externalsLength, r .keysLength)))
     (andThen-passed (values-passed externals (modulusAt wires) (r .external))
     (andThen-passed (contributions-passed 1 K wires contribution (r .contributed))

@@ -1,4 +1,5 @@
--- The claim: every call of a round accepts, and every party decodes the plain circuit's outputs.
+-- The claim: every call of a round accepts, and every party decodes the plain circuit's outputs that it may read. And equal masks of these give it equal
+-- sheets.
 pub mod Claim
 pub mod Begun
 pub mod Contributions
@@ -25,3 +26,4 @@ pub mod Shared
 pub mod Start
 pub mod Wires
 pub mod Demand
+pub mod Sheets

@@ -30,7 +30,7 @@ garblingOf call =
     record {
       earlier =
           andThen (fileChecked (call .file))
-          (garbleAsked (call .n) (call .K) (readFile (call .file) .wires) (readFile (call .file) .outputs) (call .contributions) (length (call .rows₀)) (length (call .masks₀)) (length (call .outs₀)) (call .account));
+          (garbleAsked (call .n) (call .K) (readFile (call .file) .wires) (readFile (call .file) .outputs) (call .contributions) (readFile (call .file) .named) (length (call .rows₀)) (length (call .masks₀)) (length (call .outs₀)) (call .account));
       account = call .account;
       rows = rowsIn (readFile (call .file) .wires);
     }

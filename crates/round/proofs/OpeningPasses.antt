@@ -21,7 +21,8 @@ use Rattle.search.proofs.Same.{same-refl}
 use Rattle.scheme.specs.Bytes.{offsetsChecked, keysChecked, rowsChecked}
 use Rattle.calls.specs.InputKeys.{inputKey}
 use Rattle.calls.specs.Open.{inputKeyWrong, beforeOpening}
-use Rattle.session.proofs.Sessions.{SessionFits, OwnersFit, session-passed, party-passed, owners-passed, lengths-passed}
+use Rattle.session.specs.Session.{partakersChecked}
+use Rattle.session.proofs.Sessions.{SessionFits, session-passed, party-passed, lengths-passed}
 use Rattle.scheme.proofs.ByteChecks.{values-passed}
 use Rattle.round.proofs.Contributions.{contributions-passed}
 
@@ -29,7 +30,7 @@ pub record OpeningFits (file : List ℕ) (n K party : ℕ) (contribution externa
   pub read : readFile file .answer ≡ Accepted
   pub session : SessionFits n K
   pub takesPart : party < n
-  pub owners : OwnersFit n (readFile file .wires)
+  pub partakers : partakersChecked n (readFile file .wires) (readFile file .named) ≡ Accepted
   pub contributionLength : length contribution ≡ contributionSize K (readFile file .wires)
   pub externalsLength : length externals ≡ inputsIn (readFile file .wires)
   pub keysLength : length keys ≡ inputsIn (readFile file .wires) * (n * K)
@@ -54,7 +55,7 @@ opening-passed {file} {n} {K} {party} {contribution} {externals} {keys} {rows} {
     (andThen-passed (r .read)
     (andThen-passed (session-passed (r .session))
     (andThen-passed (party-passed (r .takesPart))
-    (andThen-passed (owners-passed (r .owners))
+    (andThen-passed (r .partakers)
     (andThen-passed
     (lengths-passed (rw (r .contributionLength, r .externalsLength, r .keysLength, r .rowsLength, r .wkeysLength, r .wexternalsLength)))
     (andThen-passed (values-passed externals (modulusAt wires) (r .external))

@@ -38,7 +38,7 @@ use Rattle.scheme.proofs.Search.{key-part}
 use Rattle.scheme.proofs.Bounds.{positive, zeroKey-size}
 use Rattle.scheme.proofs.Opened.{gate-size, opening-undoes-garbling}
 use Rattle.round.proofs.Start.{Start}
-use Rattle.round.proofs.Shared.{session-fits, owners-fit}
+use Rattle.round.proofs.Shared.{session-fits, partakers-pass}
 use Rattle.round.proofs.Own.{own-contribution, own-alone, own-offsets, own-part}
 use Rattle.round.proofs.Garbled.{rows-are}
 use Rattle.round.proofs.External.{externals-size, external-at, external-fits}
@@ -135,7 +135,7 @@ module _ {pad : Pad} {file : List ℕ} {n K : ℕ} {contributions values : List 
           read = start .conditions .accepted;
           session = session-fits start;
           takesPart = h;
-          owners = owners-fit start;
+          partakers = partakers-pass start;
           contributionLength = own-contribution start party h;
           externalsLength = externals-size start;
           keysLength = keys-size start;

@@ -2,16 +2,18 @@
 -- call of the round in document 01 accepts, .. and each seat's decoded outputs, and plain evaluation's, are byte for byte the plain circuit's."
 -- Assumes nothing.
 use mathlib.Core.Path.{_≡_}
+use mathlib.Core.Bool.{true, cond}
 use mathlib.Core.List.{List}
 use Prim.Native.Nat.{ℕ, _*_, _≤_, _<_}
 use lib.ListN.{length, getD}
-use Rattle.lists.specs.Blocks.{nthPiece}
+use Rattle.lists.specs.Blocks.{nthPiece, tab}
 use Rattle.residue.specs.Residue.{add}
 use Rattle.residue.specs.Vector.{keyV}
 use Rattle.checks.specs.declared.Answer.the-variants.{Accepted}
 use Rattle.words.specs.declared.gate.Wire.{Wire}
 use Rattle.circuit.specs.Wires.{modulusAt, inputsIn}
 use Rattle.circuit.specs.File.{readFile}
+use Rattle.circuit.specs.Named.{names, readable}
 use Rattle.counts.specs.Counts.{rowsIn, inputsOf}
 use Rattle.scheme.specs.Contribution.{contributionSize}
 use Rattle.scheme.specs.Draw.{Draw, drawn}
@@ -27,7 +29,7 @@ use Rattle.round.specs.Round.{Lent, ownerAt, contributionOf}
 pub record LengthsRight (n K : ℕ) (wires : List Wire) (outputs : List ℕ) (lent : Lent) : Type 0 where
   pub rows : length (lent .rows) ≡ rowsIn wires * (n * K)
   pub inputMasks : length (lent .inputMasks) ≡ inputsIn wires
-  pub outputMasks : length (lent .outputMasks) ≡ length outputs
+  pub outputMasks : length (lent .outputMasks) ≡ n * length outputs
   pub externals : (party : ℕ) → party < n → length (lent .externals party) ≡ inputsOf party wires
   pub inputKeys : (party : ℕ) → party < n → length (lent .inputKeys party) ≡ inputsIn wires * K
   pub wireKeys : (party : ℕ) → party < n → length (lent .wireKeys party) ≡ length wires * (n * K)
@@ -42,6 +44,9 @@ module _ (file : List ℕ) (n K : ℕ) (contributions values : List ℕ) where
   abbrev outputs : List ℕ
   outputs = readFile file .outputs
 
+  abbrev named : List ℕ
+  named = readFile file .named
+
   -- the conditions of demand 3
   pub record Conditions (meter : Charge) (lent : Lent) : Type 0 where
     -- "every circuit that the reader accepts"
@@ -50,6 +55,8 @@ module _ (file : List ℕ) (n K : ℕ) (contributions values : List ℕ) where
     pub parties : (2 ≤ n) × (n ≤ 8)
     -- "every input's owner [is] among [them]"
     pub owners : (w : ℕ) → w < inputsIn wires → ownerAt wires w < n
+    -- order 9: "every seat an output names takes part"
+    pub named : (i party : ℕ) → i < length outputs → names (getD named i 0) party ≡ true → party < n
     -- "key length and contributions pass the checks"
     pub keyLength : (1 ≤ K) × (K ≤ 128)
     pub contributionsLength : length contributions ≡ n * contributionSize K wires
@@ -82,6 +89,10 @@ module _ (file : List ℕ) (n K : ℕ) (contributions values : List ℕ) where
   abbrev pub offsetOf : ℕ → ℕ → List ℕ
   offsetOf each w = drawOf each .offset (modulusAt wires w)
 
+  -- the figures that a party may read, and 255 in the place of the others
+  abbrev pub readBy : ℕ → List ℕ → List ℕ
+  readBy party figures = tab (length outputs) (λ i. cond (readable named party i) (getD figures i 0) 255)
+
   -- what demand 3 promises of the keys and external values that each party opened, of the figures that it decoded and of those of plain evaluation
   pub record Delivered (wireKeys wireExternals figures : ℕ → List ℕ) (plain : List ℕ) : Type 0 where
     -- "At every seat and on every wire, the key opened for each seat is that seat's zero key plus (value plus mask) times its offset, modulo the
@@ -92,8 +103,9 @@ module _ (file : List ℕ) (n K : ℕ) (contributions values : List ℕ) where
     -- "the external byte is value plus mask modulo that prime"
     pub externals : (party w : ℕ) → party < n → w < length wires
         → getD (wireExternals party) w 0 ≡ add (modulusAt wires w) (valueOf w) (maskOf w)
-    -- "each seat's decoded outputs, and plain evaluation's, are byte for byte the plain circuit's"
-    pub decoded : (party : ℕ) → party < n → figures party ≡ plainOutputs file wires outputs values
+    -- "each seat's decoded outputs, and plain evaluation's, are byte for byte the plain circuit's"; order 9: a decoded figure is promised "only to seats that
+    -- may read it", and "decoding writes 255" for the others
+    pub decoded : (party : ℕ) → party < n → figures party ≡ readBy party (plainOutputs file wires outputs values)
     pub plainDecoded : plain ≡ plainOutputs file wires outputs values
 
 -- what demand 3 promises of the round

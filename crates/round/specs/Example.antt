@@ -33,9 +33,9 @@ file =
     -- wire 7: 4 or 5, as 2 chooses
     ∷ 0x8000_0002
     ∷ 0x9000_1005
-    -- outputs 6 and 7
+    -- outputs 6, which every party may read, and 7, which party 1 alone may
     ∷ 0xA000_0006
-    ∷ 0xA000_0007
+    ∷ 0xA000_0807
     ∷ 0xB000_0000
     ∷ [])
 
@@ -54,6 +54,10 @@ wires =
 
 unfoldable pub outputs : List ℕ
 outputs = 6 ∷ 7 ∷ []
+
+-- bit s is party s
+unfoldable pub named : List ℕ
+named = 0 ∷ 2 ∷ []
 
 -- of each party: offsets of 2, 3 and 5; the records of wires 0, 1, 2, 5, 6 and 7
 unfoldable pub contributions : List ℕ
@@ -74,7 +78,7 @@ lent =
     record {
       rows = replicate (rowsIn wires * (2 * 1)) 0;
       inputMasks = replicate (inputsIn wires) 0;
-      outputMasks = replicate (length outputs) 0;
+      outputMasks = replicate (2 * length outputs) 0;
       externals = λ party. replicate (inputsOf party wires) 0;
       inputKeys = λ party. replicate (inputsIn wires * 1) 0;
       wireKeys = λ party. replicate (length wires * (2 * 1)) 0;

@@ -15,7 +15,7 @@ use Rattle.calls.specs.Externals.{ExternalsCall}
 use Rattle.calls.specs.InputKeys.{InputKeysCall}
 use Rattle.calls.specs.Open.{OpenCall}
 use Rattle.calls.specs.Decode.{DecodeCall}
-use Rattle.round.specs.Round.{Lent, contributionOf, ownOf, inWireOrder, byInput}
+use Rattle.round.specs.Round.{Lent, contributionOf, sheetOf, ownOf, inWireOrder, byInput}
 use Rattle.round.specs.Claim.{Delivered}
 
 -- a call that was made: its promise holds with the number and place that it answered
@@ -41,6 +41,9 @@ module _ (file : List ℕ) (n K round : ℕ) (contributions values : List ℕ) (
   abbrev wires : List Wire
   wires = readFile file .wires
 
+  abbrev outputs : List ℕ
+  outputs = readFile file .outputs
+
   -- what the host hands on, of what the calls before left
   abbrev contribution : ℕ → List ℕ
   contribution = contributionOf K wires contributions
@@ -61,7 +64,7 @@ module _ (file : List ℕ) (n K round : ℕ) (contributions values : List ℕ) (
         (lent .inputKeys party) number place (r .keys party))
     pub opening : (party : ℕ) → party < n → Answered (λ number place. OpenCall file n K party round (contribution party) allExternals allKeys (r .rows)
         (lent .wireKeys party) (lent .wireExternals party) number place (r .wireKeys party) (r .wireExternals party))
-    pub decode : (party : ℕ) → party < n → Answered (λ number place. DecodeCall file (r .wireExternals party) (r .outputMasks)
+    pub decode : (party : ℕ) → party < n → Answered (λ number place. DecodeCall file n party (r .wireExternals party) (sheetOf outputs (r .outputMasks) party)
         (lent .results party) number place (r .decoded party))
     pub plainly : Answered (λ number place. PlainCall file values (lent .plain) number place (r .plain))
 

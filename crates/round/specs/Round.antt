@@ -3,7 +3,7 @@
 -- Assumes nothing.
 use mathlib.Core.List.{List, map}
 use Prim.Native.Nat.{ℕ}
-use lib.ListN.{getD}
+use lib.ListN.{length, getD}
 use Rattle.lists.specs.Blocks.{blocks, tab, nthPiece, sumTo}
 use Rattle.checks.specs.declared.Answer.{Answer}
 use Rattle.meter.specs.Meter.{Charge}
@@ -49,10 +49,13 @@ ownerAt wires w = ownerOf (wireAt wires w .gate)
 abbrev pub placeAt : List Wire → ℕ → ℕ
 placeAt wires w = sumTo w (λ v. mark (ownedBy (ownerAt wires w) (wireAt wires v .gate)))
 
--- what a host hands on: a party's contribution, a party's own of all inputs' bytes, all parties' external values in wire order, and all parties' input
--- keys by input, then party
+-- what a host hands on: a party's contribution, a party's sheet of output masks, a party's own of all inputs' bytes, all parties' external values in wire
+-- order, and all parties' input keys by input, then party
 abbrev pub contributionOf : ℕ → List Wire → List ℕ → ℕ → List ℕ
 contributionOf K wires contributions party = nthPiece contributions (contributionSize K wires) party
+
+abbrev pub sheetOf : List ℕ → List ℕ → ℕ → List ℕ
+sheetOf outputs sheets party = nthPiece sheets (length outputs) party
 
 abbrev pub ownOf : List Wire → List ℕ → ℕ → List ℕ
 ownOf wires all party = map (λ w. getD all w 0) (ownInputs party wires)
@@ -66,6 +69,9 @@ byInput n K inputs own = blocks inputs (λ w. blocks n (λ party. nthPiece (own 
 module _ (pad : Pad) (file : List ℕ) (n K : ℕ) (contributions values : List ℕ) (meter : Charge) (lent : Lent) where
   abbrev wires : List Wire
   wires = readFile file .wires
+
+  abbrev outputs : List ℕ
+  outputs = readFile file .outputs
 
   abbrev contribution : ℕ → List ℕ
   contribution = contributionOf K wires contributions
@@ -118,12 +124,12 @@ module _ (pad : Pad) (file : List ℕ) (n K : ℕ) (contributions values : List 
   wireExternals party =
       openExternals pad file n K party (contribution party) externals keys rows (lent .wireKeys party) (lent .wireExternals party)
 
-  -- at each party, decoding, from the external bytes its opening wrote and garbling's output masks
+  -- at each party, decoding, from the external bytes its opening wrote and its sheet of garbling's output masks
   unfoldable pub decoding : ℕ → Answer
-  decoding party = decodeChecked file (wireExternals party) outputMasks (lent .results party)
+  decoding party = decodeChecked file n party (wireExternals party) (sheetOf outputs outputMasks party) (lent .results party)
 
   unfoldable pub figures : ℕ → List ℕ
-  figures party = decodeAfter file (wireExternals party) outputMasks (lent .results party)
+  figures party = decodeAfter file n party (wireExternals party) (sheetOf outputs outputMasks party) (lent .results party)
 
   -- plain evaluation
   unfoldable pub plainly : Answer

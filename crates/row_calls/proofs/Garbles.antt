@@ -17,13 +17,13 @@ use Rattle.circuit.specs.declared.Circuit.{Circuit}
 use Rattle.circuit.specs.declared.Reading.{Reading}
 use Rattle.circuit.specs.Wires.{inputsIn}
 use Rattle.circuit.specs.File.{readFile}
-use Rattle.circuit.specs.Held.{wiresIn, outputsIn, Held, Holds}
+use Rattle.circuit.specs.Held.{wiresIn, outputsIn, namedIn, Held, Holds}
 use Rattle.counts.specs.Counts.{rowsIn, Counts}
 use Rattle.pads.specs.Pad.{shakePad}
 use Rattle.scheme.specs.Contribution.{contributionSize}
 use Rattle.scheme.specs.Draw.{Draw, drawn}
-use Rattle.scheme.specs.Rows.{garbledRows, inputMasks, outputMasks}
-use Rattle.session.specs.Session.{sessionChecked, ownersChecked, lengthsChecked}
+use Rattle.scheme.specs.Rows.{garbledRows, inputMasks, outputSheets}
+use Rattle.session.specs.Session.{sessionChecked, partakersChecked, lengthsChecked}
 use Rattle.session.proofs.Sessions.{SessionFits, session-fits}
 use Rattle.session.proofs.Circuits.{held-of, given-is}
 use Rattle.meter.specs.Meter.{accounts, Charge, accountChecked, HasSpace, meterChecked, charged}
@@ -53,12 +53,12 @@ module _ {circuit : Circuit} (held : Held circuit) (n K : ℕ) (contributions : 
 
   pub lengths-met : {parties long size raw count : ℕ} → parties ≡ n → long ≡ K → Counts 429056 (contributionSize long (wiresIn circuit)) size
       → Counts 524288 (rowsIn (wiresIn circuit)) raw → count ≡ raw → {answer : Answer}
-      → answer ≡ lengthsChecked lent (parties * size ∷ count * (parties * long) ∷ circuit .inputs ∷ circuit .given ∷ []) → answer ≡ lengths
+      → answer ≡ lengthsChecked lent (parties * size ∷ count * (parties * long) ∷ circuit .inputs ∷ parties * circuit .given ∷ []) → answer ≡ lengths
   lengths-met p l s c d {answer} m =
       m
       ∙ ap (lengthsChecked lent)
       (four-same (ap₂ (λ (a b : ℕ). a * b) p (s .is ∙ ap (λ (k : ℕ). contributionSize k ws) l))
-      (ap₂ (λ (a b : ℕ). a * b) (d ∙ c .is) (ap₂ (λ (a b : ℕ). a * b) p l)) (held .inputs) (sym (given-is held)))
+      (ap₂ (λ (a b : ℕ). a * b) (d ∙ c .is) (ap₂ (λ (a b : ℕ). a * b) p l)) (held .inputs) (ap₂ (λ (a b : ℕ). a * b) p (sym (given-is held))))
 
   module _ {answer : Answer} (m : answer ≡ lengths) {parties long : ℕ} (p : parties ≡ n) (l : long ≡ K) where
     pub draws-lent : n ≤ 8 → K ≤ 128 → answer ≡ Accepted → Draws circuit parties long contributions
@@ -82,18 +82,18 @@ module _ (n K : ℕ) {session : Answer} (m : session ≡ sessionChecked n K) whe
   pub session-in-range : session ≡ Accepted → (n ≤ 8) × (K ≤ 128)
   session-in-range e = let f = session-fits n K (sym m ∙ e) in (f .parties .most, f .most)
 
-  module _ (wires : List Wire) (outputs contributions : List ℕ) (rows masks outs account : ℕ) where
-    pub garble-next : session ≡ Accepted → {r : Answer} → r ≡ garbleOwned n K wires outputs contributions rows masks outs account
-        → r ≡ garbleAsked n K wires outputs contributions rows masks outs account
+  module _ (wires : List Wire) (outputs contributions named : List ℕ) (rows masks outs account : ℕ) where
+    pub garble-next : session ≡ Accepted → {r : Answer} → r ≡ garbleOwned n K wires outputs contributions named rows masks outs account
+        → r ≡ garbleAsked n K wires outputs contributions named rows masks outs account
     garble-next e k = stage-next m e k
 
-    pub garble-stop : {reason : Refusal} {place : ℕ} → session ≡ Refused reason place → Refused reason place ≡ garbleAsked n K wires outputs contributions rows masks outs account
-    garble-stop e = stage-refused m (garbleOwned n K wires outputs contributions rows masks outs account) e
+    pub garble-stop : {reason : Refusal} {place : ℕ} → session ≡ Refused reason place → Refused reason place ≡ garbleAsked n K wires outputs contributions named rows masks outs account
+    garble-stop e = stage-refused m (garbleOwned n K wires outputs contributions named rows masks outs account) e
 
 -- ---- the whole call
 
 module _ {reading : Reading} (file : List ℕ) (n K : ℕ) (contributions rows masks outs : List ℕ) (meter : Charge) (h : Holds reading (readFile file)) {check earlier space answer : Answer} {count : ℕ}
-    (checked : check ≡ garbleAsked n K (wiresIn (reading .circuit)) (outputsIn (reading .circuit)) contributions (length rows) (length masks) (length outs) (meter .account))
+    (checked : check ≡ garbleAsked n K (wiresIn (reading .circuit)) (outputsIn (reading .circuit)) contributions (namedIn (reading .circuit)) (length rows) (length masks) (length outs) (meter .account))
     (joined : earlier ≡ andThen (reading .answer) check) (counted : Counts 524288 (rowsIn (wiresIn (reading .circuit))) count) (spaced : space ≡ meterChecked meter count)
     (last : answer ≡ andThen earlier space) where
   abbrev circuit : Circuit
@@ -104,6 +104,9 @@ module _ {reading : Reading} (file : List ℕ) (n K : ℕ) (contributions rows m
 
   abbrev outputs : List ℕ
   outputs = outputsIn (reading .circuit)
+
+  abbrev named : List ℕ
+  named = namedIn (reading .circuit)
 
   abbrev fate : Answer
   fate = garbleChecked file n K contributions rows masks outs meter
@@ -116,7 +119,9 @@ module _ {reading : Reading} (file : List ℕ) (n K : ℕ) (contributions rows m
   met =
       stage-followed
       (read-met file h check joined
-      (checked ∙ ap₂ (λ (w : List Wire) (o : List ℕ). garbleAsked n K w o contributions (length rows) (length masks) (length outs) (meter .account)) (h .wires) (h .outputs)))
+      (checked
+      ∙ ap₂ (λ (w : List Wire) (o : List ℕ). garbleAsked n K w o contributions named (length rows) (length masks) (length outs) (meter .account)) (h .wires) (h .outputs)
+      ∙ ap (λ (x : List ℕ). garbleAsked n K (readFile file .wires) (readFile file .outputs) contributions x (length rows) (length masks) (length outs) (meter .account)) (h .named)))
       (spaced ∙ ap (meterChecked meter) rows-are) last
 
   abbrev Ends : ℕ → Answer → List ℕ → List ℕ → List ℕ → List ℕ → Type 0
@@ -141,28 +146,28 @@ module _ {reading : Reading} (file : List ℕ) (n K : ℕ) (contributions rows m
     abbrev buffers : Answer
     buffers = garbleLent n K wires outputs contributions (length rows) (length masks) (length outs) (meter .account)
 
-    all : andThen (sessionChecked n K) (andThen (ownersChecked n wires) buffers) ≡ Accepted
+    all : andThen (sessionChecked n K) (andThen (partakersChecked n wires named) buffers) ≡ Accepted
     all = sym checked ∙ check-accepted file h check joined read
 
     fits : SessionFits n K
-    fits = session-fits n K (andThen-left (sessionChecked n K) (andThen (ownersChecked n wires) buffers) all)
+    fits = session-fits n K (andThen-left (sessionChecked n K) (andThen (partakersChecked n wires named) buffers) all)
 
     buffersPassed : buffers ≡ Accepted
-    buffersPassed = andThen-right (ownersChecked n wires) buffers (andThen-right (sessionChecked n K) (andThen (ownersChecked n wires) buffers) all)
+    buffersPassed = andThen-right (partakersChecked n wires named) buffers (andThen-right (sessionChecked n K) (andThen (partakersChecked n wires named) buffers) all)
 
     abbrev sizes : Answer
     sizes = garbleLengths n K wires outputs contributions (length rows) (length masks) (length outs)
 
-    abbrev named : Answer
-    named = garbleNamed n K wires contributions (meter .account)
+    abbrev paid : Answer
+    paid = garbleNamed n K wires contributions (meter .account)
 
     lengthsPassed : sizes ≡ Accepted
-    lengthsPassed = andThen-left sizes named buffersPassed
+    lengthsPassed = andThen-left sizes paid buffersPassed
 
     pub garble-account : meter .account < accounts
     garble-account =
         passed-account (meter .account)
-        (andThen-left (accountChecked (meter .account)) (garbleBytes n K wires contributions) (andThen-right sizes named buffersPassed))
+        (andThen-left (accountChecked (meter .account)) (garbleBytes n K wires contributions) (andThen-right sizes paid buffersPassed))
 
     pub garble-most : K ≤ 128
     garble-most = fits .most
@@ -187,9 +192,9 @@ module _ {reading : Reading} (file : List ℕ) (n K : ℕ) (contributions rows m
             all = lent-is _ _ lengthsPassed 0 ∙ ap₂ (λ (a b : ℕ). a * b) (sym p) (sym sized);
           }
 
-      pub garble-room : (length rows ≡ rowsIn (wiresIn (reading .circuit)) * (parties * long)) × ((length masks ≡ inputsIn (wiresIn (reading .circuit))) × (length outs ≡ length (outputsIn (reading .circuit))))
+      pub garble-room : (length rows ≡ rowsIn (wiresIn (reading .circuit)) * (parties * long)) × ((length masks ≡ inputsIn (wiresIn (reading .circuit))) × (length outs ≡ parties * length (outputsIn (reading .circuit))))
       garble-room =
-          (lent-is _ _ lengthsPassed 1 ∙ ap (λ (b : ℕ). rowsIn wires * b) (ap₂ (λ (a b : ℕ). a * b) (sym p) (sym l)), (lent-is _ _ lengthsPassed 2, lent-is _ _ lengthsPassed 3))
+          (lent-is _ _ lengthsPassed 1 ∙ ap (λ (b : ℕ). rowsIn wires * b) (ap₂ (λ (a b : ℕ). a * b) (sym p) (sym l)), (lent-is _ _ lengthsPassed 2, lent-is _ _ lengthsPassed 3 ∙ ap (λ (a : ℕ). a * length outputs) (sym p)))
 
       drawn-is : drawnIn circuit parties long contributions ≡ drawn n K (readFile file .wires) contributions
       drawn-is =
@@ -198,7 +203,7 @@ module _ {reading : Reading} (file : List ℕ) (n K : ℕ) (contributions rows m
       pub garble-written : {round : ℕ} {rows′ masks′ outs′ : List ℕ} {totals′ : List ℕ}
           → (rows′ ≡ garbledRows (shakePad round) parties long file (wiresIn (reading .circuit)) (drawnIn (reading .circuit) parties long contributions))
           × ((masks′ ≡ inputMasks (wiresIn (reading .circuit)) (drawnIn (reading .circuit) parties long contributions))
-          × (outs′ ≡ outputMasks (wiresIn (reading .circuit)) (outputsIn (reading .circuit)) (drawnIn (reading .circuit) parties long contributions)))
+          × (outs′ ≡ outputSheets (wiresIn (reading .circuit)) (outputsIn (reading .circuit)) (namedIn (reading .circuit)) (drawnIn (reading .circuit) parties long contributions) parties))
           → totals′ ≡ charged meter count → Ends round Accepted rows′ masks′ outs′ totals′
       unfolding garbleRows garbleInputMasks garbleOutputMasks garbleMeter
       garble-written {round} {rows′} {masks′} {outs′} {totals′} w r =
@@ -213,8 +218,9 @@ module _ {reading : Reading} (file : List ℕ) (n K : ℕ) (contributions rows m
             inputMasksIs = w .1 .0 ∙ ap₂ (λ (v : List Wire) (d : Draw). inputMasks v d) (h .wires) drawn-is ∙ sym (afterwards-passed a _ masks);
             outputMasksIs =
                 w .1 .1
-                ∙ ap (λ (o : List ℕ). outputMasks wires o (drawnIn circuit parties long contributions)) (h .outputs)
-                ∙ ap₂ (λ (v : List Wire) (d : Draw). outputMasks v (readFile file .outputs) d) (h .wires) drawn-is
+                ∙ ap (outputSheets wires outputs named (drawnIn circuit parties long contributions)) p
+                ∙ ap₂ (λ (o x : List ℕ). outputSheets wires o x (drawnIn circuit parties long contributions) n) (h .outputs) (h .named)
+                ∙ ap₂ (λ (v : List Wire) (d : Draw). outputSheets v (readFile file .outputs) (readFile file .named) d n) (h .wires) drawn-is
                 ∙ sym (afterwards-passed a _ outs);
             meterIs = r ∙ ap (charged meter) rows-are ∙ sym (afterwards-passed a _ (meter .totals));
           }

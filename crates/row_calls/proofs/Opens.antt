@@ -28,7 +28,7 @@ use Rattle.circuit.specs.declared.Circuit.{Circuit}
 use Rattle.circuit.specs.declared.Reading.{Reading}
 use Rattle.circuit.specs.Wires.{wireAt, modulusAt, inputsIn}
 use Rattle.circuit.specs.File.{readFile}
-use Rattle.circuit.specs.Held.{wiresIn, Held, Holds}
+use Rattle.circuit.specs.Held.{wiresIn, namedIn, Held, Holds}
 use Rattle.counts.specs.Counts.{rowsIn, recordKeysOf, Counts}
 use Rattle.pads.specs.Pad.{shakePad}
 use Rattle.search.specs.Search.{same}
@@ -37,7 +37,7 @@ use Rattle.scheme.specs.Draw.{drawn}
 use Rattle.scheme.specs.Opening.{wireKeys, wireExternals}
 use Rattle.scheme.proofs.Used.{used-modulus}
 use Rattle.scheme.proofs.Drawn.{offset-length, key-length}
-use Rattle.session.specs.Session.{fileChecked, sessionChecked, partyChecked, ownersChecked, lengthsChecked, valuesChecked}
+use Rattle.session.specs.Session.{fileChecked, sessionChecked, partyChecked, partakersChecked, lengthsChecked, valuesChecked}
 use Rattle.session.proofs.Sessions.{SessionFits, session-fits, party-below}
 use Rattle.session.proofs.Circuits.{held-of, made-is, inputs-made}
 use Rattle.scheme.specs.Bytes.{contributionsChecked, offsetsChecked, keysChecked, rowsChecked}
@@ -107,22 +107,22 @@ module _ {circuit : Circuit} (held : Held circuit) (n K : ℕ) (few : n ≤ 8) (
   pub lent-stop : {reason : Refusal} {place : ℕ} → answer ≡ Refused reason place → Refused reason place ≡ openLent n K (wiresIn circuit) contribution externals keys rows wkeys wexternals
   lent-stop e = stage-refused lengths-met (rest n K) e
 
--- ---- 12 and 13
+-- ---- 12, 13 and 28
 
-module _ (n K : ℕ) (wires : List Wire) (contribution externals keys rows : List ℕ) (party wkeys wexternals : ℕ) where
-  pub party-followed : {lent owned asked second first : Answer} → lent ≡ openLent n K wires contribution externals keys rows wkeys wexternals → owned ≡ ownersChecked n wires
-      → second ≡ andThen owned lent → asked ≡ partyChecked n party → first ≡ andThen asked second → first ≡ openParty n K wires contribution externals keys rows party wkeys wexternals
+module _ (n K : ℕ) (wires : List Wire) (contribution externals keys rows named : List ℕ) (party wkeys wexternals : ℕ) where
+  pub party-followed : {lent owned asked second first : Answer} → lent ≡ openLent n K wires contribution externals keys rows wkeys wexternals → owned ≡ partakersChecked n wires named
+      → second ≡ andThen owned lent → asked ≡ partyChecked n party → first ≡ andThen asked second → first ≡ openParty n K wires contribution externals keys rows named party wkeys wexternals
   party-followed l o e p f = stage-followed p (stage-followed o l e) f
 
   -- ---- 11
 
   module _ {session : Answer} (m : session ≡ sessionChecked n K) where
-    pub open-next : session ≡ Accepted → {r : Answer} → r ≡ openParty n K wires contribution externals keys rows party wkeys wexternals
-        → r ≡ openAsked n K wires contribution externals keys rows party wkeys wexternals
+    pub open-next : session ≡ Accepted → {r : Answer} → r ≡ openParty n K wires contribution externals keys rows named party wkeys wexternals
+        → r ≡ openAsked n K wires contribution externals keys rows named party wkeys wexternals
     open-next e k = stage-next m e k
 
-    pub open-stop : {reason : Refusal} {place : ℕ} → session ≡ Refused reason place → Refused reason place ≡ openAsked n K wires contribution externals keys rows party wkeys wexternals
-    open-stop e = stage-refused m (openParty n K wires contribution externals keys rows party wkeys wexternals) e
+    pub open-stop : {reason : Refusal} {place : ℕ} → session ≡ Refused reason place → Refused reason place ≡ openAsked n K wires contribution externals keys rows named party wkeys wexternals
+    open-stop e = stage-refused m (openParty n K wires contribution externals keys rows named party wkeys wexternals) e
 
 -- ---- 19
 
@@ -283,7 +283,7 @@ after-both : (a b : Answer) (new old : List ℕ) → a ≡ Accepted → afterwar
 after-both a b new old e = ap (λ (c : Answer). afterwards c new old) (andThen-next b e)
 
 module _ {reading : Reading} (file : List ℕ) (n K party : ℕ) (contribution externals keys rows wkeys wexternals : List ℕ) (h : Holds reading (readFile file)) {check answer : Answer}
-    (checked : check ≡ openAsked n K (wiresIn (reading .circuit)) contribution externals keys rows party (length wkeys) (length wexternals))
+    (checked : check ≡ openAsked n K (wiresIn (reading .circuit)) contribution externals keys rows (namedIn (reading .circuit)) party (length wkeys) (length wexternals))
     (joined : answer ≡ andThen (reading .answer) check) where
   abbrev read : List Wire
   read = readFile file .wires
@@ -295,7 +295,7 @@ module _ {reading : Reading} (file : List ℕ) (n K party : ℕ) (contribution e
   here = wiresIn (reading .circuit)
 
   abbrev earlier : Answer
-  earlier = andThen (fileChecked file) (openAsked n K read contribution externals keys rows party (length wkeys) (length wexternals))
+  earlier = andThen (fileChecked file) (openAsked n K read contribution externals keys rows (readFile file .named) party (length wkeys) (length wexternals))
 
   abbrev ownKeys : Answer
   ownKeys = ownKeysChecked n K party read contribution externals keys
@@ -306,7 +306,8 @@ module _ {reading : Reading} (file : List ℕ) (n K party : ℕ) (contribution e
   earlier-met : answer ≡ earlier
   earlier-met =
       read-met file h check joined
-      (checked ∙ ap (λ (w : List Wire). openAsked n K w contribution externals keys rows party (length wkeys) (length wexternals)) (h .wires))
+      (checked
+      ∙ ap₂ (λ (w : List Wire) (x : List ℕ). openAsked n K w contribution externals keys rows x party (length wkeys) (length wexternals)) (h .wires) (h .named))
 
   abbrev Opens : ℕ → Answer → List ℕ → List ℕ → Type 0
   Opens round a = OpenCall file n K party round contribution externals keys rows wkeys wexternals (numberIn a) (placeIn a)
@@ -339,7 +340,7 @@ module _ {reading : Reading} (file : List ℕ) (n K party : ℕ) (contribution e
     lengths = openLengths n K here contribution externals keys rows (length wkeys) (length wexternals)
 
     abbrev asked : Answer
-    asked = openParty n K here contribution externals keys rows party (length wkeys) (length wexternals)
+    asked = openParty n K here contribution externals keys rows (namedIn (reading .circuit)) party (length wkeys) (length wexternals)
 
     all : andThen (sessionChecked n K) asked ≡ Accepted
     all = sym checked ∙ check-accepted file h check joined e
@@ -348,12 +349,12 @@ module _ {reading : Reading} (file : List ℕ) (n K party : ℕ) (contribution e
     fits = session-fits n K (andThen-left (sessionChecked n K) asked all)
 
     seated : party < n
-    seated = party-below n party (andThen-left (partyChecked n party) (andThen (ownersChecked n here) (andThen lengths bytes)) (andThen-right (sessionChecked n K) asked all))
+    seated = party-below n party (andThen-left (partyChecked n party) (andThen (partakersChecked n here (namedIn (reading .circuit))) (andThen lengths bytes)) (andThen-right (sessionChecked n K) asked all))
 
     lentPassed : andThen lengths bytes ≡ Accepted
     lentPassed =
-        andThen-right (ownersChecked n here) (andThen lengths bytes)
-        (andThen-right (partyChecked n party) (andThen (ownersChecked n here) (andThen lengths bytes)) (andThen-right (sessionChecked n K) asked all))
+        andThen-right (partakersChecked n here (namedIn (reading .circuit))) (andThen lengths bytes)
+        (andThen-right (partyChecked n party) (andThen (partakersChecked n here (namedIn (reading .circuit))) (andThen lengths bytes)) (andThen-right (sessionChecked n K) asked all))
 
     sizes : lengths ≡ Accepted
     sizes = andThen-left lengths bytes lentPassed

@@ -1,9 +1,9 @@
-// Garbling as a call: rows, input masks and output masks from the contributions of all parties, and the named account of the row meter charged.
+// Garbling as a call: rows, input masks and a sheet of output masks for each party from the contributions of all, and the named account of the row meter charged.
 ghost use mathlib.Core.Path.{_≡_};
 ghost use Prim.Native.Nat.{_≤_};
 ghost use Rattle.checks.specs.Answer.{numberIn, placeIn};
 ghost use Rattle.circuit.specs.File.{readFile};
-ghost use Rattle.circuit.specs.Held.{wiresIn, outputsIn, Held, Holds};
+ghost use Rattle.circuit.specs.Held.{wiresIn, outputsIn, namedIn, Held, Holds};
 ghost use Rattle.calls.specs.Garble.{garbleBytes, garbleNamed, garbleLengths, garbleLent, garbleOwned, garbleAsked, GarbleCall};
 ghost use Rattle.row_calls.specs.Garbled.{Draws};
 use checks::Answer;
@@ -21,10 +21,10 @@ use party_calls::counted;
 use session::AskedSession;
 use session::Session;
 use session::length_checked;
-use session::owners_checked;
+use session::partakers_checked;
 use session::session_checked;
 
-// How many bytes are lent for the rows, the input masks and the output masks.
+// How many bytes are lent for the rows, the input masks and the sheets of output masks.
 struct Lengths {
     rows: usize,
     inputs: usize,
@@ -63,10 +63,11 @@ fn lengths_checked(circuit: Circuit, n: u32, k: u32, contributions: &[u8], lent:
     let all = parties * size;
     let width = parties * long;
     let bytes = count * width;
+    let sheets = parties * circuit.given;
     let drawn = length_checked(contributions.len(), all);
     let lines = length_checked(lent.rows, bytes);
     let masks = length_checked(lent.inputs, circuit.inputs);
-    let results = length_checked(lent.outputs, circuit.given);
+    let results = length_checked(lent.outputs, sheets);
     followed(drawn, followed(lines, followed(masks, results)))
 }
 
@@ -91,7 +92,7 @@ fn buffers_checked(
     }
 }
 
-// The owners, and then what is lent.
+// Everyone takes part whom the circuit needs, and then what is lent.
 fn garble_owned(
     circuit: Circuit,
     n: u32,
@@ -101,11 +102,11 @@ fn garble_owned(
     account: u32,
 ) -> Answer
     requires { ⌜ Held circuit × ((n ≤ 8) × (k ≤ 128)) ⌝ }
-    ensures { λ r. ⌜ r ≡ garbleOwned n k (wiresIn circuit) (outputsIn circuit) (now (contributions .entry)) (lent .rows) (lent .inputs) (lent .outputs) account ⌝ }
+    ensures { λ r. ⌜ r ≡ garbleOwned n k (wiresIn circuit) (outputsIn circuit) (now (contributions .entry)) (namedIn circuit) (lent .rows) (lent .inputs) (lent .outputs) account ⌝ }
 {
-    let owners = owners_checked(circuit, n);
+    let partakers = partakers_checked(circuit, n);
     let buffers = buffers_checked(circuit, n, k, contributions, lent, account);
-    followed(owners, buffers)
+    followed(partakers, buffers)
 }
 
 // The session, and where it is in range the rest.
@@ -118,7 +119,7 @@ fn garble_asked(
     account: u32,
 ) -> Answer
     requires { ⌜ Held circuit ⌝ }
-    ensures { λ r. ⌜ r ≡ garbleAsked n k (wiresIn circuit) (outputsIn circuit) (now (contributions .entry)) (lent .rows) (lent .inputs) (lent .outputs) account ⌝ }
+    ensures { λ r. ⌜ r ≡ garbleAsked n k (wiresIn circuit) (outputsIn circuit) (now (contributions .entry)) (namedIn circuit) (lent .rows) (lent .inputs) (lent .outputs) account ⌝ }
 {
     let session = session_checked(n, k);
     match session {

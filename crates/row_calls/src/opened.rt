@@ -8,7 +8,7 @@ ghost use Rattle.lists.specs.First.{first};
 ghost use Rattle.search.specs.Search.{same};
 ghost use Rattle.checks.specs.Answer.{numberIn, placeIn};
 ghost use Rattle.circuit.specs.File.{readFile};
-ghost use Rattle.circuit.specs.Held.{wiresIn, Held, Holds};
+ghost use Rattle.circuit.specs.Held.{wiresIn, namedIn, Held, Holds};
 ghost use Rattle.calls.specs.Open.{openBytes, openLent, openParty, openAsked, OpenCall};
 ghost use Rattle.opening.specs.Given.{Given};
 ghost use Rattle.row_calls.specs.Opened.{OpenSizes, Compared, firstWrong, GatesOpened, InputsOpened};
@@ -32,7 +32,7 @@ use search::same_bytes;
 use session::AskedSeat;
 use session::Seat;
 use session::length_checked;
-use session::owners_checked;
+use session::partakers_checked;
 use session::party_checked;
 use session::session_checked;
 use session::values_checked;
@@ -105,7 +105,7 @@ fn open_lent(
     }
 }
 
-// The party and the owners, and then what is lent.
+// The party asked for and all that the circuit needs take part, and then what is lent.
 fn open_party(
     circuit: Circuit,
     asked: AskedSeat,
@@ -118,7 +118,7 @@ fn open_party(
 ) -> Answer
     requires { ⌜ Held circuit × ((asked .n ≤ 8) × (asked .k ≤ 128)) ⌝ }
     ensures { λ r. ⌜ r ≡ openParty (asked .n) (asked .k) (wiresIn circuit) (now (contribution .entry)) (now (externals .entry)) (now (keys .entry)) (now (rows .entry))
-        (asked .party) wkeys wexternals ⌝ }
+        (namedIn circuit) (asked .party) wkeys wexternals ⌝ }
 {
     let n = asked.n;
     let k = asked.k;
@@ -133,8 +133,8 @@ fn open_party(
         wkeys,
         wexternals,
     );
-    let owners = followed(owners_checked(circuit, n), lent);
-    followed(party_checked(n, asked.party), owners)
+    let partakers = followed(partakers_checked(circuit, n), lent);
+    followed(party_checked(n, asked.party), partakers)
 }
 
 // The session, and where it is in range the rest.
@@ -150,7 +150,7 @@ fn open_asked(
 ) -> Answer
     requires { ⌜ Held circuit ⌝ }
     ensures { λ r. ⌜ r ≡ openAsked (asked .n) (asked .k) (wiresIn circuit) (now (contribution .entry)) (now (externals .entry)) (now (keys .entry)) (now (rows .entry))
-        (asked .party) wkeys wexternals ⌝ }
+        (namedIn circuit) (asked .party) wkeys wexternals ⌝ }
 {
     let session = session_checked(asked.n, asked.k);
     match session {

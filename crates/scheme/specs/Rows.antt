@@ -1,12 +1,14 @@
 -- Document 01, "The gates": the garbled rows of a circuit. "Rows lie in gate, component, row, receiver order, K bytes each." And the masks that garbling
 -- writes.
 -- Assumes nothing.
+use mathlib.Core.Bool.{cond}
 use mathlib.Core.List.{List}
 use Prim.Native.Nat.{ℕ}
 use lib.ListN.{length, getD}
 use Rattle.lists.specs.Blocks.{blocks, tab}
 use Rattle.words.specs.declared.gate.Wire.{Wire}
 use Rattle.circuit.specs.Wires.{wireAt, modulusAt, inputsIn}
+use Rattle.circuit.specs.Named.{readable}
 use Rattle.counts.specs.Recipe.{recipe}
 use Rattle.pads.specs.Pad.{Pad}
 use Rattle.scheme.specs.Draw.{Draw}
@@ -32,9 +34,14 @@ module _ (pad : Pad) (n K : ℕ) (file : List ℕ) (wires : List Wire) (draw : D
   unfoldable pub garbledRows : List ℕ
   garbledRows = blocks (length wires) gateRows
 
--- garbling also writes one mask byte per input and one per output
+-- garbling also writes one mask byte per input
 unfoldable pub inputMasks : List Wire → Draw → List ℕ
 inputMasks wires draw = tab (inputsIn wires) (mask wires draw)
 
-unfoldable pub outputMasks : List Wire → List ℕ → Draw → List ℕ
-outputMasks wires outputs draw = tab (length outputs) (λ i. mask wires draw (getD outputs i 0))
+-- .. and, order 9, "n sheets of output masks, seats ascending, a byte per output, 255 where that seat is not named"; the outputs name these
+module _ (wires : List Wire) (outputs named : List ℕ) (draw : Draw) where
+  unfoldable pub outputSheet : ℕ → List ℕ
+  outputSheet party = tab (length outputs) (λ i. cond (readable named party i) (mask wires draw (getD outputs i 0)) 255)
+
+  unfoldable pub outputSheets : ℕ → List ℕ
+  outputSheets n = blocks n outputSheet

@@ -3,3 +3,4 @@ pub mod Sessions
 pub mod LentLengths
 pub mod Circuits
 pub mod Searches
+pub mod Named

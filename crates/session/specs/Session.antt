@@ -1,14 +1,14 @@
--- Document 01, "Where each check stands": the checks that several calls share. "Every call reads the circuit first"; then the session's
--- checks, 11 to 15, on what the call is given.
+-- Document 01, "Where each check stands", and order 9: the checks that several calls share. "Every call reads the circuit first"; then the session's
+-- checks, 11 to 15, with 28 directly after 13, on what the call is given.
 -- Assumes nothing.
 use mathlib.Core.Bool.{Bool, true, false, _&&_}
 use mathlib.Core.List.{List, [], _∷_}
-use Prim.Native.Nat.{ℕ}
+use Prim.Native.Nat.{ℕ, _^_}
 use lib.Dec.{eqb, leb, ltb}
 use lib.ListN.{length, getD}
-use Rattle.checks.specs.declared.Refusal.the-variants.{SessionRange, NoSuchParty, OwnerAbsent, WrongLength, ValueTooLarge}
+use Rattle.checks.specs.declared.Refusal.the-variants.{SessionRange, NoSuchParty, OwnerAbsent, NamedAbsent, WrongLength, ValueTooLarge}
 use Rattle.checks.specs.declared.Answer.{Answer}
-use Rattle.checks.specs.Checked.{unless, noneBad}
+use Rattle.checks.specs.Checked.{andThen, unless, noneBad}
 use Rattle.words.specs.declared.gate.Gate.{Gate}
 use Rattle.words.specs.declared.gate.Gate.the-variants.{Input, Add, Scale, Multiply, Project, Select}
 use Rattle.words.specs.declared.gate.Wire.{Wire}
@@ -42,6 +42,18 @@ ownerAbsent n (Select gate) = false
 
 unfoldable pub ownersChecked : ℕ → List Wire → Answer
 ownersChecked n wires = noneBad (length wires) (λ w. ownerAbsent n (wireAt wires w .gate)) OwnerAbsent
+
+-- 28: every party that an output names takes part; bit s names party s, so a party from n up is named where this number is 2 ^ n or more (law
+-- `absent-named`)
+abbrev pub namedAbsent : ℕ → ℕ → Bool
+namedAbsent n parties = leb (2 ^ n) parties
+
+unfoldable pub namedChecked : ℕ → List ℕ → Answer
+namedChecked n named = noneBad (length named) (λ i. namedAbsent n (getD named i 0)) NamedAbsent
+
+-- 13, then 28, where the outputs name these
+unfoldable pub partakersChecked : ℕ → List Wire → List ℕ → Answer
+partakersChecked n wires named = andThen (ownersChecked n wires) (namedChecked n named)
 
 -- 14: each lent length is exact: the lengths lent are those wanted, one by one
 unfoldable pub sameNumbers : List ℕ → List ℕ → Bool

@@ -25,5 +25,5 @@ cut-fits (Fits.project f g) = uncut 0x6000_0000 (omega (arith, f)) g
 cut-fits (Fits.entry f) = uncut-one 0x7000_0000 (omega (arith, f))
 cut-fits (Fits.select f) = uncut-one 0x8000_0000 f
 cut-fits (Fits.branches f g) = uncut 0x9000_0000 f g
-cut-fits (Fits.output f) = uncut-one 0xa000_0000 f
+cut-fits (Fits.output f g) = uncut 0xa000_0000 (omega (arith, f)) g
 cut-fits Fits.end = refl

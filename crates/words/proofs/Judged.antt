@@ -83,11 +83,11 @@ pub data Judged (moduli : List ℕ) (given at : ℕ) : Due → Item → Step →
       → Judged moduli given at (Branches bit) (Item.Branches a b)
       (Makes (wireOf (Select (record { bit = bit; a = a; b = b })) (getD moduli a 0)) Gates)
   output :
-      {due : Due} {a : ℕ}
+      {due : Due} {named a : ℕ}
       → outputDue due ≡ true
       → a < length moduli
       → given < 256
-      → Judged moduli given at due (Item.Output a) (Gives a)
+      → Judged moduli given at due (Item.Output named a) (Gives a)
   end : {due : Due} → outputDue due ≡ true → Judged moduli given at due Item.End Ends
 
 module _ {moduli : List ℕ} {given at : ℕ} {due : Due} {x : Item} where
@@ -150,5 +150,5 @@ module _ (moduli : List ℕ) (given at : ℕ) where
       checked _ _ λ here. checked _ _ λ made. checked _ _ λ binary. checked _ _ λ space.
       Judged.select (room _ _ here space) (ltb-true bit (length moduli) made)
   judging due (Item.Branches a b) = branches-where due a b
-  judging due (Item.Output a) = checked _ _ λ here. checked _ _ λ made. checked _ _ λ space. Judged.output here (ltb-true a (length moduli) made) (ltb-true given 256 space)
+  judging due (Item.Output named a) = checked _ _ λ here. checked _ _ λ made. checked _ _ λ space. Judged.output here (ltb-true a (length moduli) made) (ltb-true given 256 space)
   judging due Item.End = checked _ _ λ here. checked _ _ λ some. Judged.end here

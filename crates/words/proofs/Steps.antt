@@ -19,7 +19,7 @@ use Rattle.words.specs.declared.gate.Due.{Due}
 use Rattle.words.specs.declared.gate.Due.the-variants.{Gates, Entries}
 use Rattle.words.specs.declared.gate.Step.{Step}
 use Rattle.words.specs.declared.gate.Step.the-variants.{Refused, Goes}
-use Rattle.words.specs.Bits.{bits, kind, clear, owner, inputModulus, wireA, wireB, oneWire, constant, outputModulus, image}
+use Rattle.words.specs.Bits.{bits, kind, clear, owner, inputModulus, wireA, wireB, named, oneWire, constant, outputModulus, image}
 use Rattle.words.specs.Items.{check, judged, afterEntry, isModulus}
 use Rattle.words.specs.declared.item.Item.{Item}
 use Rattle.words.specs.declared.item.Item.the-variants.{Head, Input, Add, Scale, Multiply, Project, Entry, Select, Branches, Output, End}
@@ -94,7 +94,7 @@ not-clean w (suc (suc (suc (suc (suc (suc zero)))))) e = ap (λ (b : Bool). said
 not-clean w (suc (suc (suc (suc (suc (suc (suc zero))))))) e = ap (λ (b : Bool). said b (Entry (image w))) e
 not-clean w (suc (suc (suc (suc (suc (suc (suc (suc zero)))))))) e = ap (λ (b : Bool). said b (Select (oneWire w))) e
 not-clean w (suc (suc (suc (suc (suc (suc (suc (suc (suc zero))))))))) e = ap (λ (b : Bool). said b (Branches (wireA w) (wireB w))) e
-not-clean w (suc (suc (suc (suc (suc (suc (suc (suc (suc (suc zero)))))))))) e = ap (λ (b : Bool). said b (Output (oneWire w))) e
+not-clean w (suc (suc (suc (suc (suc (suc (suc (suc (suc (suc zero)))))))))) e = ap (λ (b : Bool). said b (Output (named w) (oneWire w))) e
 not-clean w (suc (suc (suc (suc (suc (suc (suc (suc (suc (suc (suc zero))))))))))) e = ap (λ (b : Bool). said b End) e
 not-clean w (suc (suc (suc (suc (suc (suc (suc (suc (suc (suc (suc (suc k)))))))))))) e = refl
 

@@ -37,6 +37,10 @@ wireA w = bits w 19 10
 abbrev pub wireB : ℕ → ℕ
 wireB w = bits w 9 0
 
+-- output: the parties named, bit s for party s
+abbrev pub named : ℕ → ℕ
+named w = bits w 17 10
+
 -- scale, project, select and output: their one wire
 abbrev pub oneWire : ℕ → ℕ
 oneWire w = bits w 9 0

@@ -19,7 +19,7 @@ cleanOfKind w =
     ∷ clear w 27 8
     ∷ clear w 27 10
     ∷ clear w 27 20
-    ∷ clear w 27 10
+    ∷ clear w 27 18
     ∷ clear w 27 0
     ∷ []
 

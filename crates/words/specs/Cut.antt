@@ -14,5 +14,5 @@ cutWord (Project modulus a) = 0x6000_0000 + 1024 * (modulus % 1024) + a % 1024
 cutWord (Entry image) = 0x7000_0000 + image % 1024
 cutWord (Select bit) = 0x8000_0000 + bit % 1024
 cutWord (Branches a b) = 0x9000_0000 + 1024 * (a % 1024) + b % 1024
-cutWord (Output a) = 0xa000_0000 + a % 1024
+cutWord (Output named a) = 0xa000_0000 + 1024 * (named % 1024) + a % 1024
 cutWord End = 0xb000_0000

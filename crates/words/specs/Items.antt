@@ -140,7 +140,7 @@ branchesItem moduli (Branches bit) a b =
     (check (eqb (modulusOf moduli a) (modulusOf moduli b)) ModuliDiffer
     (Makes (wireOf (Select (record { bit = bit; a = a; b = b })) (modulusOf moduli a)) Gates))
 
--- output, where so many are given
+-- output, where so many are given; it may name any parties
 abbrev pub outputItem : List ℕ → ℕ → Due → ℕ → Step
 outputItem moduli given due a =
     check (outputDue due) NotDue
@@ -167,5 +167,5 @@ judged moduli given at due (Item.Project modulus a) = projectItem moduli at due 
 judged moduli given at due (Item.Entry image) = entryItem due image
 judged moduli given at due (Item.Select bit) = selectItem moduli due bit
 judged moduli given at due (Item.Branches a b) = branchesItem moduli due a b
-judged moduli given at due (Item.Output a) = outputItem moduli given due a
+judged moduli given at due (Item.Output named a) = outputItem moduli given due a
 judged moduli given at due Item.End = endItem given due

@@ -6,7 +6,7 @@ use mathlib.Core.List.{List, [], _∷_}
 use Prim.Native.Nat.{ℕ}
 use lib.ListN.{getD}
 use Rattle.checks.specs.declared.Refusal.the-variants.{UnknownWord}
-use Rattle.words.specs.Bits.{clear, kind, owner, inputModulus, wireA, wireB, oneWire, constant, outputModulus, image}
+use Rattle.words.specs.Bits.{clear, kind, owner, inputModulus, wireA, wireB, named, oneWire, constant, outputModulus, image}
 use Rattle.words.specs.Items.{judged}
 use Rattle.words.specs.declared.gate.Due.{Due}
 use Rattle.words.specs.declared.gate.Step.{Step}
@@ -37,7 +37,7 @@ byKind w =
     ∷ said (clear w 27 8) (Entry (image w))
     ∷ said (clear w 27 10) (Select (oneWire w))
     ∷ said (clear w 27 20) (Branches (wireA w) (wireB w))
-    ∷ said (clear w 27 10) (Output (oneWire w))
+    ∷ said (clear w 27 18) (Output (named w) (oneWire w))
     ∷ said (clear w 27 0) End
     ∷ []
 

@@ -3,7 +3,7 @@ ghost use mathlib.Core.Path.{_≡_};
 ghost use mathlib.Core.Bool.{_&&_};
 ghost use Prim.Native.Nat.{_+_, _*_, _≤_, _<_};
 ghost use lib.ListN.{length};
-ghost use Rattle.words.specs.Bits.{bits, clear, kind, wordAt};
+ghost use Rattle.words.specs.Bits.{bits, clear, kind, named, wordAt};
 
 // Two tests of a word.
 pub fn both(p: bool, q: bool) -> bool
@@ -39,6 +39,13 @@ pub fn byte_from(w: u32, low: u32) -> u32
     ensures { λ r. ⌜ r ≡ bits w (low + 7) low ⌝ }
 {
     (w >> low) % 256
+}
+
+// The parties that an output's word names.
+pub fn named_by(w: u32) -> u8
+    ensures { λ r. ⌜ r ≡ named w ⌝ }
+{
+    byte_from(w, 10) as u8
 }
 
 // The ten bits of a word from bit `low` up.

@@ -41,7 +41,7 @@ pub fn encode(item: Item) -> u32
         Item::Entry(image) => one(0x7000_0000, image),
         Item::Select(bit) => one(0x8000_0000, bit),
         Item::Branches(a, b) => two(0x9000_0000, a, b),
-        Item::Output(a) => one(0xA000_0000, a),
+        Item::Output(named, a) => two(0xA000_0000, named, a),
         Item::End => 0xB000_0000,
     }
 }

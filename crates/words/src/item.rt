@@ -20,7 +20,7 @@ pub enum Item {
     Select(u32),
     // wire a and wire b
     Branches(u32, u32),
-    // wire
-    Output(u32),
+    // the parties named and wire
+    Output(u32, u32),
     End,
 }

@@ -293,7 +293,7 @@ pub fn judge(moduli: &[u8], made: usize, given: usize, at: u32, due: Due, item: 
         Item::Entry(image) => entry_item(due, image),
         Item::Select(bit) => select_item(moduli, made, due, bit),
         Item::Branches(a, b) => branches_item(moduli, made, due, a, b),
-        Item::Output(a) => output_item(moduli, made, given, due, a),
+        Item::Output(_, a) => output_item(moduli, made, given, due, a),
         Item::End => end_item(given, due),
     }
 }

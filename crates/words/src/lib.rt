@@ -9,6 +9,7 @@ mod item;
 mod items;
 mod reading;
 
+pub use bits::named_by;
 pub use bits::word_at;
 pub use encoding::encode;
 pub use entries::good_entries;

@@ -36,7 +36,7 @@ fn clean(w: u32) -> bool
         7 => clear(w, 27, 8),
         8 => clear(w, 27, 10),
         9 => clear(w, 27, 20),
-        10 => clear(w, 27, 10),
+        10 => clear(w, 27, 18),
         11 => clear(w, 27, 0),
         _ => false,
     }

@@ -25,7 +25,7 @@ use Rattle.writer.specs.Written.{Draft, Drafted, stopped, drafted, after
 use Rattle.writer.specs.Desk.{Desk, desk, stop, deskAfter, itemOn, layItem}
 use Rattle.writer.specs.Walked.{Steady, Sound, Holds}
 use Rattle.writer.proofs.HoldingFiles.{Kept, kept-more}
-use Rattle.writer.proofs.HoldingFacts.{DueNext, Made, Gone, made-so, made-next, gone-so, given-so, ended-so, no-branches, not-outputs, not-table}
+use Rattle.writer.proofs.HoldingFacts.{DueNext, Made, Gone, partiesIn, made-so, made-next, gone-so, given-so, ended-so, no-branches, not-outputs, not-table}
 
 -- the desk holds what was drafted, or the pen was put down for the same reason at a place
 pub data Comes (lay : Bool) (before : List ℕ) (place : ℕ) (k : Desk) (k′ : Desk) : Drafted → Type 0 where
@@ -58,7 +58,7 @@ module _ {lay : Bool} {before : List ℕ} {k : Desk} {d : Draft} (h : Holds lay 
   at-more : (w : ℕ) → k .pen .at + 1 ≡ length (d .words ++ (w ∷ []))
   at-more w = omega (arith, h .at, length-append (d .words) (w ∷ []))
 
-  module _ (place : ℕ) (x : Item) where
+  module _ (place : ℕ) (x : Item) (byte : partiesIn x < 256) where
     same : judged (take (k .pen .made) (k .moduli)) (k .pen .given) (k .pen .at) (k .pen .due) x ≡ judged (d .moduli) (d .given) (length (d .words)) (d .due) x
     same =
         ap (λ (ms : List ℕ). judged ms (k .pen .given) (k .pen .at) (k .pen .due) x) (h .moduli)
@@ -131,7 +131,7 @@ module _ {lay : Bool} {before : List ℕ} {k : Desk} {d : Draft} (h : Holds lay 
           laid = file .laid;
         })
     comes (Gives wire) j =
-        let f : Fits x × (d .given < 256) = given-so (d .moduli) few (h .sound .byte) (h .sound .positive) j in
+        let f : Fits x × (d .given < 256) = given-so (d .moduli) few (h .sound .byte) (h .sound .positive) byte j in
         let file : Kept lay before (deskAfter lay 0 (cutWord x) k Ends .file) (d .words ++ (wordOf x ∷ [])) = file-more (f .0) in
         held
         (record {

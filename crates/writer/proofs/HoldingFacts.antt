@@ -94,6 +94,20 @@ pub record Gone (moduli : List ℕ) (x : Item) (due : Due) : Type 0 where
   pub fits : Fits x
   pub next : DueNext moduli due
 
+-- the parties that an item names: those of an output. The judging does not bound them, so who lays an item shows that they are a byte
+abbrev pub partiesIn : Item → ℕ
+partiesIn Item.Head = 0
+partiesIn (Item.Input owner modulus) = 0
+partiesIn (Item.Add a b) = 0
+partiesIn (Item.Scale constant a) = 0
+partiesIn (Item.Multiply a b) = 0
+partiesIn (Item.Project modulus a) = 0
+partiesIn (Item.Entry image) = 0
+partiesIn (Item.Select bit) = 0
+partiesIn (Item.Branches a b) = 0
+partiesIn (Item.Output named a) = named
+partiesIn Item.End = 0
+
 below : (moduli : List ℕ) → length moduli ≤ 1024 → {a : ℕ} → a < length moduli → a < 1024
 below moduli few h = omega (arith, few)
 
@@ -126,8 +140,8 @@ module _ (moduli : List ℕ) {given at : ℕ} (few : length moduli ≤ 1024) (by
       no-table : {bit left modulus : ℕ} → Branches bit ≡ Entries left modulus → ⊥
       no-table e = true≢false (ap isChoice e)
 
-  pub given-so : {due : Due} {x : Item} {a : ℕ} → Judged moduli given at due x (Gives a) → Fits x × (given < 256)
-  given-so (Judged.output due a room) = (Fits.output (below moduli few a), room)
+  pub given-so : {due : Due} {x : Item} {a : ℕ} → partiesIn x < 256 → Judged moduli given at due x (Gives a) → Fits x × (given < 256)
+  given-so byte (Judged.output due a room) = (Fits.output byte (below moduli few a), room)
 
   pub ended-so : {due : Due} {x : Item} → Judged moduli given at due x Ends → Fits x
   ended-so (Judged.end due) = Fits.end

@@ -1,12 +1,13 @@
 -- Laws of loading: the numbers of records and the records made of them, the tables and their sizes, and what the lengths that are right give.
 -- Assumes nothing.
 use mathlib.Core.Path.{_≡_, refl, sym, ap, ap₂, subst, _∙_}
-use mathlib.Core.List.{List, [], _∷_, _++_, map, append-nil, append-assoc}
-use Prim.Native.Nat.{ℕ, zero, suc, _+_, _-_, _*_, _≤_, _<_}
-use native.Mathlib.Nat.{add-zero, zero-add, add-suc}
+use mathlib.Core.List.{List, [], _∷_, _++_, map, zipWith, append-nil, append-assoc}
+use Prim.Native.Nat.{ℕ, zero, suc, _+_, _-_, _*_, _%_, _≤_, _<_, min}
+use native.Mathlib.Nat.{add-zero, zero-add, add-suc, mod-eq-of-lt}
 use native.Mathlib.Omega.{arith}
 use lib.ListN.{length, getD, take, drop, replicate, length-append, length-map, List·getD-map}
-use lib.Seq.{sets, sets-eq, drop-length, getD-take}
+use lib.Dec.{lit<}
+use lib.Seq.{sets, sets-eq, drop-length, getD-take, length-take-le}
 use Rattle.lists.specs.Blocks.{blocks, tab, part, sumTo}
 use Rattle.lists.proofs.Parts.{getD-part, part-of-take, part-left, part-last, part-whole}
 use Rattle.lists.proofs.Sums.{times-fits}
@@ -30,7 +31,7 @@ use Rattle.circuit.specs.declared.Reading.{Reading}
 use Rattle.circuit.specs.Wires.{noWire, wireAt, modulusAt, moduliOf}
 use Rattle.circuit.specs.File.{readFile}
 use Rattle.circuit.specs.Accepted.{ProjectionFits, GateFits, AcceptedCircuit}
-use Rattle.circuit.specs.Held.{wiresIn, outputsIn, Held, Holds}
+use Rattle.circuit.specs.Held.{wiresIn, outputsIn, namedIn, Held, Holds}
 use Rattle.circuit.proofs.Accepted.{accepted}
 use Rattle.counts.specs.Counts.{Counts}
 use Rattle.counts.proofs.Wires.{wire-at, padded-modulus}
@@ -49,7 +50,7 @@ use Rattle.writer.specs.Listing.{Listing, recordWith, numbersOf, entries
 pub record-is : (modulus : ℕ) {gate gate′ : Gate} {r : Record} → gate ≡ gate′ → r ≡ gateRecord gate′ modulus → r ≡ gateRecord gate modulus
 record-is modulus e h = h ∙ sym (ap (λ (g : Gate). gateRecord g modulus) e)
 
-pub select-is : {bit bit′ a a′ b b′ : ℕ} → bit ≡ bit′ → a ≡ a′ → b ≡ b′ → recordWith 8 0 0 0 bit a b ≡ recordWith 8 0 0 0 bit′ a′ b′
+pub select-is : {bit bit′ a a′ b b′ : ℕ} → bit ≡ bit′ → a ≡ a′ → b ≡ b′ → recordWith 8 0 0 0 bit a b 0 ≡ recordWith 8 0 0 0 bit′ a′ b′ 0
 select-is e f g = rw (e, f, g)
 
 -- ---- numbers stored one after another, in all of a list
@@ -63,31 +64,33 @@ stored out vs e =
 
 -- ---- records made of the numbers of records
 
-same-record : {kind modulus owner constant bit a b : ℕ} (r : Record)
-    → kind ≡ r .kind → modulus ≡ r .modulus → owner ≡ r .owner → constant ≡ r .constant → bit ≡ r .bit → a ≡ r .a → b ≡ r .b
-    → recordWith kind modulus owner constant bit a b ≡ r
-same-record r e f g h i j k = rw (e, f, g, h, i, j, k) refl
+same-record : {kind modulus owner constant bit a b named : ℕ} (r : Record)
+    → kind ≡ r .kind → modulus ≡ r .modulus → owner ≡ r .owner → constant ≡ r .constant → bit ≡ r .bit → a ≡ r .a → b ≡ r .b → named ≡ r .named
+    → recordWith kind modulus owner constant bit a b named ≡ r
+same-record r e f g h i j k l = rw (e, f, g, h, i, j, k, l) refl
 
--- n records, whose numbers stand behind those of m
-module _ (fields : List ℕ) (m n : ℕ) (f : ℕ → Record) (e : part fields (m * 7) (n * 7) ≡ blocks n (λ i. numbersOf (f i))) where
-  number-at : (i j : ℕ) → i < n → j < 7 → getD fields (7 * (m + i) + j) 0 ≡ getD (numbersOf (f i)) j 0
+-- n records, whose numbers stand behind those of m, and whose last number is a byte
+module _ (fields : List ℕ) (m n : ℕ) (f : ℕ → Record) (byte : (i : ℕ) → i < n → f i .named < 256)
+    (e : part fields (m * 8) (n * 8) ≡ blocks n (λ i. numbersOf (f i))) where
+  number-at : (i j : ℕ) → i < n → j < 8 → getD fields (8 * (m + i) + j) 0 ≡ getD (numbersOf (f i)) j 0
   number-at i j h k =
-      let place : 7 * (m + i) + j ≡ m * 7 + (i * 7 + j) = omega arith in
+      let place : 8 * (m + i) + j ≡ m * 8 + (i * 8 + j) = omega arith in
       ap (λ (p : ℕ). getD fields p 0) place
-      ∙ sym (getD-part fields (m * 7) (n * 7) (i * 7 + j) 0 (omega (arith, times-fits i n 7 h)))
-      ∙ ap (λ (l : List ℕ). getD l (i * 7 + j) 0) e
-      ∙ getD-blocks-same n 7 (λ l. numbersOf (f l)) (λ _ _. refl) i j 0 h k
+      ∙ sym (getD-part fields (m * 8) (n * 8) (i * 8 + j) 0 (omega (arith, times-fits i n 8 h)))
+      ∙ ap (λ (l : List ℕ). getD l (i * 8 + j) 0) e
+      ∙ getD-blocks-same n 8 (λ l. numbersOf (f l)) (λ _ _. refl) i j 0 h k
 
   record-at : (i : ℕ) → i < n → recordFrom fields (m + i) ≡ f i
   record-at i h =
       same-record (f i)
-      (ap (λ (p : ℕ). getD fields p 0) (sym (add-zero (7 * (m + i)))) ∙ number-at i 0 h (omega arith))
+      (ap (λ (p : ℕ). getD fields p 0) (sym (add-zero (8 * (m + i)))) ∙ number-at i 0 h (omega arith))
       (number-at i 1 h (omega arith))
       (number-at i 2 h (omega arith))
       (number-at i 3 h (omega arith))
       (number-at i 4 h (omega arith))
       (number-at i 5 h (omega arith))
       (number-at i 6 h (omega arith))
+      (ap (λ (x : ℕ). x % 256) (number-at i 7 h (omega arith)) ∙ mod-eq-of-lt (byte i h))
 
   records-are : tab n (λ i. recordFrom fields (m + i)) ≡ tab n f
   records-are = tab-ext n (λ i. recordFrom fields (m + i)) f record-at
@@ -99,13 +102,41 @@ blocks-add {A} m (suc n) f =
     rw (add-suc m n)
     (ap (λ (l : List A). l ++ f (m + n)) (blocks-add m n f) ∙ append-assoc (blocks m f) (blocks n (λ i. f (m + i))) (f (m + n)))
 
+-- the records of wires name nobody
+gate-names : (gate : Gate) (modulus : ℕ) → gateRecord gate modulus .named < 256
+gate-names (Input g) modulus = lit< tt
+gate-names (Add g) modulus = lit< tt
+gate-names (Scale g) modulus = lit< tt
+gate-names (Multiply g) modulus = lit< tt
+gate-names (Project g) modulus = lit< tt
+gate-names (Select g) modulus = lit< tt
+
+-- the records of outputs: as many as there are, and each with whom it names
+length-outputs : (outputs named : List ℕ) → length (zipWith outputRecord outputs named) ≡ min (length outputs) (length named)
+unfolding zipWith
+length-outputs [] named = omega arith
+length-outputs (wire ∷ outputs) [] = omega arith
+length-outputs (wire ∷ outputs) (parties ∷ named) = omega (arith, length-outputs outputs named)
+
+output-at : (outputs named : List ℕ) → length named ≡ length outputs → (i : ℕ)
+    → getD (zipWith outputRecord outputs named) i (outputRecord 0 0) ≡ outputRecord (getD outputs i 0) (getD named i 0)
+unfolding zipWith
+output-at [] [] e i = refl
+output-at [] (parties ∷ named) e i = absurd (omega arith)
+output-at (wire ∷ outputs) [] e i = absurd (omega arith)
+output-at (wire ∷ outputs) (parties ∷ named) e zero = refl
+output-at (wire ∷ outputs) (parties ∷ named) e (suc i) = output-at outputs named (omega arith) i
+
+named-is : {circuit : Circuit} → Held circuit → length (namedIn circuit) ≡ circuit .given
+named-is {circuit} held = length-take-le (circuit .given) (circuit .named) (omega (arith, held .given, held .named))
+
 -- the records of a circuit, by its arrays
-module _ {circuit : Circuit} (held : Held circuit) where
+module _ {circuit : Circuit} (held : Held circuit) (bytes : (i : ℕ) → getD (circuit .named) i 0 < 256) where
   abbrev ofWire : ℕ → Record
   ofWire w = wireRecord (wireAt (circuit .wires) w)
 
   abbrev ofOutput : ℕ → Record
-  ofOutput i = outputRecord (getD (circuit .outputs) i 0)
+  ofOutput i = outputRecord (getD (circuit .outputs) i 0) (getD (circuit .named) i 0)
 
   wires-listed : tab (circuit .made) ofWire ≡ map wireRecord (wiresIn circuit)
   wires-listed =
@@ -114,12 +145,14 @@ module _ {circuit : Circuit} (held : Held circuit) where
       (length-map (wiresIn circuit) wireRecord ∙ made-is held)
       (λ w h. List·getD-map wireRecord (wiresIn circuit) w noWire ∙ ap wireRecord (wire-at (circuit .wires) (circuit .made) w h)))
 
-  outputs-listed : tab (circuit .given) ofOutput ≡ map outputRecord (outputsIn circuit)
+  outputs-listed : tab (circuit .given) ofOutput ≡ zipWith outputRecord (outputsIn circuit) (namedIn circuit)
   outputs-listed =
       sym
-      (is-tab (circuit .given) ofOutput (map outputRecord (outputsIn circuit)) (outputRecord 0)
-      (length-map (outputsIn circuit) outputRecord ∙ given-is held)
-      (λ i h. List·getD-map outputRecord (outputsIn circuit) i 0 ∙ ap outputRecord (getD-take (circuit .given) (circuit .outputs) i 0 h)))
+      (is-tab (circuit .given) ofOutput (zipWith outputRecord (outputsIn circuit) (namedIn circuit)) (outputRecord 0 0)
+      (omega (arith, length-outputs (outputsIn circuit) (namedIn circuit), given-is held, named-is held))
+      (λ i h.
+      output-at (outputsIn circuit) (namedIn circuit) (named-is held ∙ sym (given-is held)) i
+      ∙ ap₂ outputRecord (getD-take (circuit .given) (circuit .outputs) i 0 h) (getD-take (circuit .given) (circuit .named) i 0 h)))
 
   -- their numbers stand in a list
   module _ {fields₀ fields : List ℕ} {at : ℕ} (r : Wrote fields₀ 0 (blocks (circuit .made) (λ w. numbersOf (ofWire w)) ++ blocks (circuit .given) (λ i. numbersOf (ofOutput i))) at fields) where
@@ -129,36 +162,36 @@ module _ {circuit : Circuit} (held : Held circuit) where
     abbrev ofOutputs : List ℕ
     ofOutputs = blocks (circuit .given) (λ i. numbersOf (ofOutput i))
 
-    first-long : length ofWires ≡ circuit .made * 7
-    first-long = length-blocks-same (circuit .made) 7 (λ w. numbersOf (ofWire w)) (λ _ _. refl)
+    first-long : length ofWires ≡ circuit .made * 8
+    first-long = length-blocks-same (circuit .made) 8 (λ w. numbersOf (ofWire w)) (λ _ _. refl)
 
-    next-long : length ofOutputs ≡ circuit .given * 7
-    next-long = length-blocks-same (circuit .given) 7 (λ i. numbersOf (ofOutput i)) (λ _ _. refl)
+    next-long : length ofOutputs ≡ circuit .given * 8
+    next-long = length-blocks-same (circuit .given) 8 (λ i. numbersOf (ofOutput i)) (λ _ _. refl)
 
-    end : at ≡ circuit .made * 7 + circuit .given * 7
+    end : at ≡ circuit .made * 8 + circuit .given * 8
     end = omega (arith, r .place, length-append ofWires ofOutputs, first-long, next-long)
 
-    first-part : part fields (0 * 7) (circuit .made * 7) ≡ ofWires
+    first-part : part fields (0 * 8) (circuit .made * 8) ≡ ofWires
     first-part =
-        sym (part-of-take fields at (0 * 7) (circuit .made * 7) (omega (arith, end)))
-        ∙ ap (λ (l : List ℕ). part l (0 * 7) (circuit .made * 7)) (wrote-take r)
-        ∙ part-left ofWires ofOutputs (0 * 7) (circuit .made * 7) (omega (arith, first-long))
-        ∙ part-whole ofWires (circuit .made * 7) (omega (arith, first-long))
+        sym (part-of-take fields at (0 * 8) (circuit .made * 8) (omega (arith, end)))
+        ∙ ap (λ (l : List ℕ). part l (0 * 8) (circuit .made * 8)) (wrote-take r)
+        ∙ part-left ofWires ofOutputs (0 * 8) (circuit .made * 8) (omega (arith, first-long))
+        ∙ part-whole ofWires (circuit .made * 8) (omega (arith, first-long))
 
-    next-part : part fields (circuit .made * 7) (circuit .given * 7) ≡ ofOutputs
+    next-part : part fields (circuit .made * 8) (circuit .given * 8) ≡ ofOutputs
     next-part =
-        sym (part-of-take fields at (circuit .made * 7) (circuit .given * 7) (omega (arith, end)))
-        ∙ ap (λ (l : List ℕ). part l (circuit .made * 7) (circuit .given * 7)) (wrote-take r)
-        ∙ part-last ofWires ofOutputs (circuit .made * 7) (circuit .given * 7) first-long next-long
+        sym (part-of-take fields at (circuit .made * 8) (circuit .given * 8) (omega (arith, end)))
+        ∙ ap (λ (l : List ℕ). part l (circuit .made * 8) (circuit .given * 8)) (wrote-take r)
+        ∙ part-last ofWires ofOutputs (circuit .made * 8) (circuit .given * 8) first-long next-long
 
-    pub fields-are : tab (circuit .made + circuit .given) (recordFrom fields) ≡ recordsOf (wiresIn circuit) (outputsIn circuit)
+    pub fields-are : tab (circuit .made + circuit .given) (recordFrom fields) ≡ recordsOf (wiresIn circuit) (outputsIn circuit) (namedIn circuit)
     fields-are =
         blocks-add (circuit .made) (circuit .given) (λ i. recordFrom fields i ∷ [])
         ∙ ap₂ (λ (a b : List Record). a ++ b)
         (tab-ext (circuit .made) (recordFrom fields) (λ i. recordFrom fields (0 + i)) (λ i _. ap (recordFrom fields) (sym (zero-add i)))
-        ∙ records-are fields 0 (circuit .made) ofWire first-part
+        ∙ records-are fields 0 (circuit .made) ofWire (λ w _. gate-names (wireAt (circuit .wires) w .gate) (wireAt (circuit .wires) w .modulus)) first-part
         ∙ wires-listed)
-        (records-are fields (circuit .made) (circuit .given) ofOutput next-part ∙ outputs-listed)
+        (records-are fields (circuit .made) (circuit .given) ofOutput (λ i _. bytes i) next-part ∙ outputs-listed)
 
 -- ---- the sizes of tables
 
@@ -194,9 +227,9 @@ pub length-tables : (file : List ℕ) (wires : List Wire) → length (tablesOf f
 length-tables file wires =
     length-blocks (length wires) (λ w. tableOf file wires (wireAt wires w .gate)) (entriesOf wires) (λ w _. length-table file wires (wireAt wires w .gate))
 
-pub length-records : (wires : List Wire) (outputs : List ℕ) → length (recordsOf wires outputs) ≡ length wires + length outputs
-length-records wires outputs =
-    length-append (map wireRecord wires) (map outputRecord outputs) ∙ ap₂ _+_ (length-map wires wireRecord) (length-map outputs outputRecord)
+pub length-records : (wires : List Wire) (outputs named : List ℕ) → length (recordsOf wires outputs named) ≡ length wires + min (length outputs) (length named)
+length-records wires outputs named =
+    length-append (map wireRecord wires) (zipWith outputRecord outputs named) ∙ ap₂ _+_ (length-map wires wireRecord) (length-outputs outputs named)
 
 -- ---- a part lent for a table
 
@@ -299,7 +332,9 @@ module _ {reading : Reading} (file : List ℕ) (room : ℕ) (tables₀ : List �
   -- the lengths that are wanted
   records-long : reading .circuit .made + reading .circuit .given ≡ length (recordsRead file)
   unfolding recordsRead
-  records-long = ap₂ _+_ (h .made) (h .given) ∙ sym (length-records (readFile file .wires) (readFile file .outputs))
+  records-long =
+      omega
+      (arith, h .made, h .given, length-records (readFile file .wires) (readFile file .outputs) (readFile file .named), sym (ap length (h .named)) ∙ named-is (h .held))
 
   images-long : entries ≡ length (tablesRead file)
   unfolding tablesRead
@@ -345,7 +380,7 @@ module _ {reading : Reading} (file : List ℕ) (room : ℕ) (tables₀ : List �
 
     -- accepted: all is written
     pub ends-listed : {fields tables : List ℕ}
-        → tab (reading .circuit .made + reading .circuit .given) (recordFrom fields) ≡ recordsOf (wiresIn (reading .circuit)) (outputsIn (reading .circuit))
+        → tab (reading .circuit .made + reading .circuit .given) (recordFrom fields) ≡ recordsOf (wiresIn (reading .circuit)) (outputsIn (reading .circuit)) (namedIn (reading .circuit))
         → tables ≡ tablesOf file (wiresIn (reading .circuit))
         → Listing file room tables₀ (record { answer = Accepted; count = room }) fields tables
     unfolding recordsRead tablesRead
@@ -356,7 +391,8 @@ module _ {reading : Reading} (file : List ℕ) (room : ℕ) (tables₀ : List �
           recordsAre =
               ap (λ (n : ℕ). tab n (recordFrom fields)) room-is
               ∙ r
-              ∙ ap₂ recordsOf (h .wires) (h .outputs)
+              ∙ ap₂ (λ (w : List Wire) (o : List ℕ). recordsOf w o (namedIn (reading .circuit))) (h .wires) (h .outputs)
+              ∙ ap (recordsOf (readFile file .wires) (readFile file .outputs)) (h .named)
               ∙ sym (afterwards-passed all (recordsRead file) []);
           tablesAre = t ∙ ap (tablesOf file) (h .wires) ∙ sym (afterwards-passed all (tablesRead file) tables₀);
         }

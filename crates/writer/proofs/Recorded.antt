@@ -33,7 +33,7 @@ module _ (file : List ℕ) (room size : ℕ) (e : recordsChecked file room size 
   few =
       let fine : AcceptedCircuit file (readFile file .wires) (readFile file .outputs) =
       accepted file (andThen-left (fileChecked file) _ e) in
-      omega (arith, length-records (readFile file .wires) (readFile file .outputs), fine .wiresLimit, fine .outputsLimit)
+      omega (arith, length-records (readFile file .wires) (readFile file .outputs) (readFile file .named), fine .wiresLimit, fine .outputsLimit)
 
   exact : room ≡ length (recordsRead file)
   unfolding recordsChecked
@@ -49,7 +49,7 @@ counted Accepted room count h e = (omega arith, omega (arith, h refl))
 counted (Refused reason place) room count h e = (omega arith, omega arith)
 
 pub fits : {file : List ℕ} {room : ℕ} {tables₀ : List ℕ} {listed : Listed} {fields tables : List ℕ}
-    → Listing file room tables₀ listed fields tables → length fields ≡ 8960 → (listed .count ≤ room) × (7 * listed .count ≤ length fields)
+    → Listing file room tables₀ listed fields tables → length fields ≡ 10240 → (listed .count ≤ room) × (8 * listed .count ≤ length fields)
 fits {file} {room} {tables₀} {listed} {fields} l e =
     let both : (listed .count ≤ room) × (listed .count ≤ 1280) =
     counted (recordsChecked file room (length tables₀)) room (listed .count) (most file room (length tables₀)) (l .countIs) in

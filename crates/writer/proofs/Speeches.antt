@@ -1,9 +1,11 @@
 -- Laws of what a record says, by its kind.
 -- Assumes nothing.
 use mathlib.Core.Path.{_≡_, refl, sym, ap, subst, _∙_}
-use mathlib.Core.Bool.{Bool, true, false, cond}
+use mathlib.Core.Bool.{Bool, true, false, _&&_, cond, and-true}
 use mathlib.Core.List.{List, [], _∷_}
-use Prim.Native.Nat.{ℕ, zero, suc}
+use Prim.Native.Nat.{ℕ, zero, suc, _<_}
+use borrow.Author.Tests.{lt-ltb}
+use lib.Dec.{eqb, ltb}
 use lib.ListN.{getD}
 use Rattle.words.specs.declared.item.Item.{Item}
 use Rattle.writer.specs.declared.entry.Record.{Record}
@@ -41,6 +43,15 @@ module _ (moduli tables : List ℕ) where
   said r kind {unset} {test} {speaks} {first} {rest} {says} {left} k e u f m =
       subst (λ (x : Speaks). Means moduli tables x (speechOf moduli tables r)) (sym (f ∙ ap (λ (b : Bool). cond b (Says first rest) Nothing) u))
       (subst (λ (x : Speech). Means moduli tables (cond test (Says first rest) Nothing) x) (sym (of-kind moduli tables r kind k e)) (told test m))
+
+-- an output's parties are a byte, so that the code need not ask whether they are
+pub output-unset : (r : Record) → r .named < 256 → {unset : Bool}
+    → unset ≡ (eqb (r .modulus) 0 && (eqb (r .owner) 0 && (eqb (r .constant) 0 && (eqb (r .bit) 0 && eqb (r .b) 0))))
+    → unset ≡ (eqb (r .modulus) 0 && (eqb (r .owner) 0 && (eqb (r .constant) 0 && (eqb (r .bit) 0 && (eqb (r .b) 0 && ltb (r .named) 256)))))
+output-unset r h u =
+    u
+    ∙ ap (λ (t : Bool). eqb (r .modulus) 0 && (eqb (r .owner) 0 && (eqb (r .constant) 0 && (eqb (r .bit) 0 && t))))
+    (sym (ap (λ (t : Bool). eqb (r .b) 0 && t) (lt-ltb (r .named) 256 h) ∙ and-true (eqb (r .b) 0)))
 
 -- a record of no such kind says nothing
 none-at :

@@ -8,7 +8,7 @@ use Prim.Native.Nat.{ℕ, zero, suc, _+_, _-_, _*_, _≤_, _<_, min}
 use native.Mathlib.Nat.{not-suc-le-zero}
 use native.Mathlib.Numerals.{add-one}
 use native.Mathlib.Omega.{arith}
-use lib.Dec.{leb}
+use lib.Dec.{leb, lit<}
 use lib.ListN.{length, getD, take, drop, length-take, length-drop, length-append}
 use lib.Seq.{drop-cons, drop-drop}
 use borrow.Author.Tests.{leb-true, leb-false}
@@ -38,7 +38,7 @@ use Rattle.writer.specs.Written.{Draft, Drafted, stopped, drafted, blank
 use Rattle.writer.specs.Desk.{Desk, desk, stop, deskAfter, itemOn, layItem, allBelow, tableOn, tableDue, tableAfter, layTable, Means, restOn, spokenOn, refuse}
 use Rattle.writer.specs.Walked.{noRecord, Steady, Ready, Begun, Stepped, Sound, Holds, Between, Walked}
 use Rattle.writer.proofs.HoldingFiles.{Kept, kept-more}
-use Rattle.writer.proofs.HoldingFacts.{no-choice, not-inputs}
+use Rattle.writer.proofs.HoldingFacts.{partiesIn, no-choice, not-inputs}
 use Rattle.writer.proofs.Holding.{Comes, held, put-down, made-is, held-item}
 use Rattle.writer.proofs.HoldingTables.{Tabled, full-table, put-down as table-down, tableOutcome, held-table}
 
@@ -107,8 +107,16 @@ counts Means.scale {d} (Judged.refused {reason = reason}) = not-made d _ reason
 counts Means.scale {d} (Judged.scale room a constant) = one-made d _ _ Gates Between.gates
 counts Means.multiply {d} (Judged.refused {reason = reason}) = not-made d _ reason
 counts Means.multiply {d} (Judged.multiply room two) = one-made d _ _ Gates Between.gates
-counts Means.output {d} (Judged.refused {reason = reason}) = not-made d _ reason
-counts Means.output {d} (Judged.output due a room) = one-given d _ _
+counts (Means.output byte) {d} (Judged.refused {reason = reason}) = not-made d _ reason
+counts (Means.output byte) {d} (Judged.output due a room) = one-given d _ _
+
+-- .. and the parties that it names are a byte
+byte-named : {ms ts : List ℕ} {x : Item} {speech : Speech} → Means ms ts (Says x Alone) speech → partiesIn x < 256
+byte-named Means.input = lit< tt
+byte-named Means.add = lit< tt
+byte-named Means.scale = lit< tt
+byte-named Means.multiply = lit< tt
+byte-named (Means.output byte) = byte
 
 branches-count : {given at : ℕ} (e : Draft) {due : Due} {a b : ℕ} {s : Step} → Judged (e .moduli) given at due (Item.Branches a b) s → Counts e (afterItem e (Item.Branches a b) s)
 branches-count e (Judged.refused {reason = reason}) = not-made e _ reason
@@ -195,7 +203,7 @@ module _ {lay : Bool} {before : List ℕ} (tables : List ℕ) {k : Desk} {d : Dr
   unfolding saidTo laidAll
   leaves-item x means =
       let n : Counts d (laid d x) = counts means (judging (d .moduli) (d .given) (length (d .words)) (d .due) x) in
-      subst (Leaves lay tables before place (layItem lay place x k)) (sym (only d (laid d x) n)) (leaves-one (held-item h place x) n (taken-kept lay place x k))
+      subst (Leaves lay tables before place (layItem lay place x k)) (sym (only d (laid d x) n)) (leaves-one (held-item h place x (byte-named means)) n (taken-kept lay place x k))
 
   -- a record that says nothing
   leaves-nothing : Leaves lay tables before place (refuse place k (k .pen .answer)) (saidTo d nothing)
@@ -302,7 +310,7 @@ module _ {lay : Bool} {before : List ℕ} (tables : List ℕ) {k : Desk} {d : Dr
     unfolding saidTo laidAll
     leaves-projection =
         leaves-project _ (judging (d .moduli) (d .given) (length (d .words)) (d .due) (Project q a))
-        (held-item (holds-leaving h (drop p (d .tables))) place (Project q a)) (taken-kept lay place (Project q a) k)
+        (held-item (holds-leaving h (drop p (d .tables))) place (Project q a) (lit< tt)) (taken-kept lay place (Project q a) k)
 
   -- a choice: its bit, and then its branches
   module _ (bit a b : ℕ) where
@@ -341,7 +349,7 @@ module _ {lay : Bool} {before : List ℕ} (tables : List ℕ) {k : Desk} {d : Dr
       leaves-branches =
           let n : Counts e₁ (laid e₁ branches) = branches-count e₁ (judging (e₁ .moduli) (e₁ .given) (length (e₁ .words)) (e₁ .due) branches) in
           subst (Leaves lay tables before place (layItem lay place branches k₁)) (sym (only e₁ (laid e₁ branches) n))
-          (after-branches (held-item (j .holds) place branches) n (taken-kept lay place branches k₁))
+          (after-branches (held-item (j .holds) place branches (lit< tt)) n (taken-kept lay place branches k₁))
 
     leaves-select : {due : Due} (s : Step) → Judged (d .moduli) (d .given) (length (d .words)) due (Select bit) s → {k₁ : Desk}
         → Comes lay before place k k₁ (afterItem d (Select bit) s) → k₁ .pen .taken ≡ k .pen .taken
@@ -356,7 +364,7 @@ module _ {lay : Bool} {before : List ℕ} (tables : List ℕ) {k : Desk} {d : Dr
     leaves-choice : Leaves lay tables before place (layItem lay place branches (layItem lay place (Select bit) k)) (saidTo d (items (Select bit ∷ branches ∷ []) (d .tables)))
     unfolding saidTo laidAll
     leaves-choice =
-        leaves-select _ (judging (d .moduli) (d .given) (length (d .words)) (d .due) (Select bit)) (held-item h place (Select bit)) (taken-kept lay place (Select bit) k)
+        leaves-select _ (judging (d .moduli) (d .given) (length (d .words)) (d .due) (Select bit)) (held-item h place (Select bit) (lit< tt)) (taken-kept lay place (Select bit) k)
 
   -- a record
   leaves : {speaks : Speaks} {speech : Speech} → Means (d .moduli) (d .tables) speaks speech → Leaves lay tables before place (spokenOn lay tables place speaks k) (saidTo d speech)
@@ -366,7 +374,7 @@ module _ {lay : Bool} {before : List ℕ} (tables : List ℕ) {k : Desk} {d : Dr
   leaves Means.add = leaves-item _ Means.add
   leaves Means.scale = leaves-item _ Means.scale
   leaves Means.multiply = leaves-item _ Means.multiply
-  leaves Means.output = leaves-item _ Means.output
+  leaves (Means.output byte) = leaves-item _ (Means.output byte)
   leaves (Means.table {modulus} {a}) = leaves-projection modulus a
   leaves (Means.choice {bit} {a} {b}) = leaves-choice bit a b
 

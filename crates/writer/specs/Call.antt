@@ -46,7 +46,7 @@ module _ (records : List Record) (tables : List ℕ) where
 -- loading: a file's records and tables, lengths exact
 module _ (file : List ℕ) where
   unfoldable pub recordsRead : List Record
-  recordsRead = recordsOf (readFile file .wires) (readFile file .outputs)
+  recordsRead = recordsOf (readFile file .wires) (readFile file .outputs) (readFile file .named)
 
   unfoldable pub tablesRead : List ℕ
   tablesRead = tablesOf file (readFile file .wires)

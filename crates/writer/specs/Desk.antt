@@ -2,7 +2,7 @@
 -- Assumes nothing.
 use mathlib.Core.Bool.{Bool, true, false, cond, _&&_}
 use mathlib.Core.List.{List, [], _∷_, map}
-use Prim.Native.Nat.{ℕ, suc, _+_, _*_}
+use Prim.Native.Nat.{ℕ, suc, _+_, _*_, _<_}
 use lib.Dec.{leb, ltb}
 use lib.ListN.{length, getD, take, drop, set}
 use Rattle.lists.specs.Blocks.{written}
@@ -131,14 +131,15 @@ refuse place d Accepted = desk (stop (d .pen) UnknownWord place) (d .moduli) (d 
 refuse place d (Refused reason at) = d
 
 -- what a record says, as the code has it: its first item, and the rest. The items that a record has alone are those of inputs, free gates and products,
--- and outputs.
+-- and outputs, which name their parties by a byte.
 pub data Means (moduli tables : List ℕ) : Speaks → Speech → Type 0 where
   silent : Means moduli tables Nothing nothing
   input : {owner modulus : ℕ} → Means moduli tables (Says (Item.Input owner modulus) Alone) (items (Item.Input owner modulus ∷ []) tables)
   add : {a b : ℕ} → Means moduli tables (Says (Item.Add a b) Alone) (items (Item.Add a b ∷ []) tables)
   scale : {constant a : ℕ} → Means moduli tables (Says (Item.Scale constant a) Alone) (items (Item.Scale constant a ∷ []) tables)
   multiply : {a b : ℕ} → Means moduli tables (Says (Item.Multiply a b) Alone) (items (Item.Multiply a b ∷ []) tables)
-  output : {a : ℕ} → Means moduli tables (Says (Item.Output a) Alone) (items (Item.Output a ∷ []) tables)
+  output :
+      {named a : ℕ} → named < 256 → Means moduli tables (Says (Item.Output named a) Alone) (items (Item.Output named a ∷ []) tables)
   table :
       {modulus a : ℕ}
       → Means moduli tables (Says (Project modulus a) Table)

@@ -27,11 +27,12 @@ pub record Listing (file : List ℕ) (room : ℕ) (tables₀ : List ℕ) (listed
   pub tablesAre : tables ≡ afterwards (recordsChecked file room (length tables₀)) (tablesRead file) tables₀
 
 -- a record by its fields, and a record's numbers
-abbrev pub recordWith : ℕ → ℕ → ℕ → ℕ → ℕ → ℕ → ℕ → Record
-recordWith kind modulus owner constant bit a b = record { kind = kind; modulus = modulus; owner = owner; constant = constant; bit = bit; a = a; b = b }
+abbrev pub recordWith : ℕ → ℕ → ℕ → ℕ → ℕ → ℕ → ℕ → ℕ → Record
+recordWith kind modulus owner constant bit a b named =
+    record { kind = kind; modulus = modulus; owner = owner; constant = constant; bit = bit; a = a; b = b; named = named }
 
 abbrev pub numbersOf : Record → List ℕ
-numbersOf r = r .kind ∷ r .modulus ∷ r .owner ∷ r .constant ∷ r .bit ∷ r .a ∷ r .b ∷ []
+numbersOf r = r .kind ∷ r .modulus ∷ r .owner ∷ r .constant ∷ r .bit ∷ r .a ∷ r .b ∷ r .named ∷ []
 
 -- how many entries a gate's table has, a wire's, and all of a circuit's
 abbrev pub entriesBy : Gate → (ℕ → ℕ) → ℕ

@@ -4,7 +4,7 @@
 use mathlib.Core.Bool.{Bool, true, false, _&&_}
 use mathlib.Core.List.{List, [], _∷_, map}
 use Prim.Native.Nat.{ℕ}
-use lib.Dec.{eqb}
+use lib.Dec.{eqb, ltb}
 use lib.ListN.{getD, take, drop}
 use Rattle.words.specs.declared.item.Item.{Item}
 use Rattle.words.specs.declared.item.Item.the-variants.{Input, Add, Scale, Multiply, Project, Entry, Select, Branches, Output}
@@ -24,21 +24,22 @@ abbrev none : ℕ → Bool
 none field = eqb field 0
 
 -- Where the wires made so far have these moduli, and these table entries are left: what a record says if it is of kind 0, 1, .. 10. A projection
--- takes an entry for each value of its wire, as far as there are any.
+-- takes an entry for each value of its wire, as far as there are any. The parties that an output names are a byte.
 abbrev pub speechOfKind : List ℕ → List ℕ → Record → List Speech
 speechOfKind moduli tables r =
     nothing
     ∷ nothing
-    ∷ spoken (none (r .constant) && (none (r .bit) && (none (r .a) && none (r .b)))) (Input (r .owner) (r .modulus) ∷ []) tables
-    ∷ spoken (none (r .modulus) && (none (r .owner) && (none (r .constant) && none (r .bit)))) (Add (r .a) (r .b) ∷ []) tables
-    ∷ spoken (none (r .modulus) && (none (r .owner) && (none (r .bit) && none (r .b)))) (Scale (r .constant) (r .a) ∷ []) tables
-    ∷ spoken (none (r .modulus) && (none (r .owner) && (none (r .constant) && none (r .bit)))) (Multiply (r .a) (r .b) ∷ []) tables
-    ∷ spoken (none (r .owner) && (none (r .constant) && (none (r .bit) && none (r .b))))
+    ∷ spoken (none (r .constant) && (none (r .bit) && (none (r .a) && (none (r .b) && none (r .named))))) (Input (r .owner) (r .modulus) ∷ []) tables
+    ∷ spoken (none (r .modulus) && (none (r .owner) && (none (r .constant) && (none (r .bit) && none (r .named))))) (Add (r .a) (r .b) ∷ []) tables
+    ∷ spoken (none (r .modulus) && (none (r .owner) && (none (r .bit) && (none (r .b) && none (r .named))))) (Scale (r .constant) (r .a) ∷ []) tables
+    ∷ spoken (none (r .modulus) && (none (r .owner) && (none (r .constant) && (none (r .bit) && none (r .named))))) (Multiply (r .a) (r .b) ∷ []) tables
+    ∷ spoken (none (r .owner) && (none (r .constant) && (none (r .bit) && (none (r .b) && none (r .named)))))
     (Project (r .modulus) (r .a) ∷ map Entry (take (getD moduli (r .a) 0) tables)) (drop (getD moduli (r .a) 0) tables)
     ∷ nothing
-    ∷ spoken (none (r .modulus) && (none (r .owner) && none (r .constant))) (Select (r .bit) ∷ Branches (r .a) (r .b) ∷ []) tables
+    ∷ spoken (none (r .modulus) && (none (r .owner) && (none (r .constant) && none (r .named)))) (Select (r .bit) ∷ Branches (r .a) (r .b) ∷ []) tables
     ∷ nothing
-    ∷ spoken (none (r .modulus) && (none (r .owner) && (none (r .constant) && (none (r .bit) && none (r .b))))) (Output (r .a) ∷ []) tables
+    ∷ spoken (none (r .modulus) && (none (r .owner) && (none (r .constant) && (none (r .bit) && (none (r .b) && ltb (r .named) 256)))))
+    (Output (r .named) (r .a) ∷ []) tables
     ∷ []
 
 -- what it says; no record has another kind

@@ -23,7 +23,7 @@ use Rattle.writer.specs.Desk.{Desk, desk, penOf, putWord, Means, spokenO
 
 -- what is read past the last record
 abbrev pub noRecord : Record
-noRecord = record { kind = 0; modulus = 0; owner = 0; constant = 0; bit = 0; a = 0; b = 0 }
+noRecord = record { kind = 0; modulus = 0; owner = 0; constant = 0; bit = 0; a = 0; b = 0; named = 0 }
 
 -- the arrays have room, and a selection under way has room for its wire
 pub record Steady (pen : Pen) (moduli : List ℕ) : Type 0 where

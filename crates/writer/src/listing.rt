@@ -27,7 +27,7 @@ fn list_reading(
     fields: &mut [u32],
     tables: &mut [u8],
 ) -> Listed
-    requires { ⌜ Holds reading (readFile (now file)) × (length (now fields) ≡ 8960) ⌝ }
+    requires { ⌜ Holds reading (readFile (now file)) × (length (now fields) ≡ 10240) ⌝ }
     ensures { λ r. ⌜ Listing (now (file .entry)) room (now (tables .entry)) r (now (fields .exit)) (now (tables .exit)) ⌝ }
 {
     let read = reading.answer;
@@ -54,7 +54,7 @@ fn list_reading(
 
 // The records and tables of a circuit file, into room for so many records and into `tables`.
 pub fn list(file: &[u8], room: usize, fields: &mut [u32], tables: &mut [u8]) -> Listed
-    requires { ⌜ length (now fields) ≡ 8960 ⌝ }
+    requires { ⌜ length (now fields) ≡ 10240 ⌝ }
     ensures { λ r. ⌜ Listing (now (file .entry)) room (now (tables .entry)) r (now (fields .exit)) (now (tables .exit)) ⌝ }
 {
     let reading = read(file);

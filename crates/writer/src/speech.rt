@@ -67,23 +67,39 @@ pub fn speak(entry: Record) -> Speaks
     let bit = entry.bit;
     let a = entry.a;
     let b = entry.b;
+    let named = entry.named as u32;
     let kind = entry.kind;
     match kind {
-        2 => alone(unset4(constant, bit, a, b), Item::Input(owner, modulus)),
-        3 => alone(unset4(modulus, owner, constant, bit), Item::Add(a, b)),
-        4 => alone(unset4(modulus, owner, bit, b), Item::Scale(constant, a)),
-        5 => alone(unset4(modulus, owner, constant, bit), Item::Multiply(a, b)),
+        2 => alone(
+            unset5(constant, bit, a, b, named),
+            Item::Input(owner, modulus),
+        ),
+        3 => alone(
+            unset5(modulus, owner, constant, bit, named),
+            Item::Add(a, b),
+        ),
+        4 => alone(
+            unset5(modulus, owner, bit, b, named),
+            Item::Scale(constant, a),
+        ),
+        5 => alone(
+            unset5(modulus, owner, constant, bit, named),
+            Item::Multiply(a, b),
+        ),
         6 => spoken(
-            unset4(owner, constant, bit, b),
+            unset5(owner, constant, bit, b, named),
             Item::Project(modulus, a),
             Rest::Table,
         ),
         8 => spoken(
-            unset3(modulus, owner, constant),
+            unset4(modulus, owner, constant, named),
             Item::Select(bit),
             Rest::Branches(a, b),
         ),
-        10 => alone(unset5(modulus, owner, constant, bit, b), Item::Output(a)),
+        10 => alone(
+            unset5(modulus, owner, constant, bit, b),
+            Item::Output(named, a),
+        ),
         _ => Speaks::Nothing,
     }
 }

@@ -133,9 +133,13 @@ read-spec =
     ))
     (λ c. search needs)
     (λ c. omega (arith, near (c .before .before .before .before .before .before .before .loop .inv .1)))
-    (λ c.
+    (λ c κs.
     let l = c .before .before .before .before .before .before .before .before .loop .inv .1 in
-    holds l (ended-well l (turned (c .before .before .before) _ (c .before .enum-told .given .1)) (c .if3 .taken)))
+    (l .inside, (l .passed, l .givenWithin)))
+    (λ c.
+    let l = c .before .before .before .before .before .before .before .before .before .loop .inv .1 in
+    holds l (c .named-before .ensures)
+    (ended-well l (turned (c .before .before .before .before) _ (c .before .before .enum-told .given .1)) (c .before .if3 .taken)))
     (λ c κs. search needs)
     (λ c.
     let l = c .before .before .before .before .before .before .before .before .before .loop .inv .1 in

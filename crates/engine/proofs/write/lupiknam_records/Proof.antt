@@ -91,7 +91,7 @@ R = T.the-row
 
 -- the local array, and where it lies
 abbrev n : ℕ
-n = 8960
+n = 10240
 
 abbrev Numbers : RattleType
 Numbers = Array u32 n
@@ -197,7 +197,7 @@ module _ {M : Type 1} (𝓤 : URA M) (H : Heap 𝓤) (A : Atoms 𝓤) (W : Given
       abbrev to-put : Puts 𝓤 H A mem run .Ghost
       to-put = (((ν ∷ [], (κ₁, tt)), (fullShare, (q₁, tt)), tt, put-args, (val (array l) ∷ [], (slice records ∷ [], (vint w64 count ∷ [], tt)))), tt)
 
-      asked-put : count < 2 ^ 64 → (count ≤ length (records .now)) × (7 * count ≤ length zs)
+      asked-put : count < 2 ^ 64 → (count ≤ length (records .now)) × (8 * count ≤ length zs)
           → ent 𝓤 (⋆ 𝓤 H A (‵ (flft (ν ∷ []) fullShare) ∷ ‵ (flft κ₁ q₁) ∷ ‵ (Shr u32 (array l) (named 0) (ν ∷ []) γ zs) ∷ ‵ OwnRecords ∷ [])) (Puts 𝓤 H A mem run .pre to-put)
       asked-put small fit =
           qed W (‵ (flft (ν ∷ []) fullShare) ∷ ‵ (flft κ₁ q₁) ∷ ‵ (Shr u32 (array l) (named 0) (ν ∷ []) γ zs) ∷ ‵ OwnRecords ∷ []) ∵ says ! fit $

@@ -12,5 +12,6 @@ masks-checked-spec =
     (λ c κs. search needs)
     (λ c. search needs)
     (λ c. search needs)
+    (λ c. search needs)
     (λ c κs. search needs)
-    (λ c. masks-met (c .before .before .before .before .before .before .before .pre) (c .before .before .before .before .moduli .ensures) (c .before .before .before .output-moduli .ensures) (c .either-checked .ensures)))
+    (λ c. masks-met (c .before .before .before .before .before .before .before .before .before .args .party) (c .before .before .before .before .before .before .before .before .before .pre) (c .before .before .before .before .before .before .moduli .ensures) (c .before .before .before .before .before .output-moduli .ensures) (c .either-checked .ensures)))

@@ -2,7 +2,7 @@
 use Prim.Native.Nat.{_-_}
 use native.Mathlib.Omega.{arith}
 use Rattle.lists.proofs.Steps.{steps-fits}
-use Rattle.rehearsal.proofs.Turns.{DecodeTo, decode-start, decode-next, decode-reads, decode-all}
+use Rattle.rehearsal.proofs.Turns.{DecodeTo, decode-start, decode-next, decode-reads, sheet-reads, decode-all}
 use Rattle.rehearsal.proofs.parties.decode_all.Statement.{statement}
 use Rattle.rehearsal.proofs.parties.decode_all.Tie as tie
 
@@ -18,16 +18,17 @@ decode-all-spec =
     (tie.spec
     Inv-loop
     μ-loop
-    (λ c. decode-start (c .before .before .before .before .pre .1))
+    (λ c. decode-start (c .before .before .before .before .pre .1 .1))
     (λ c κs. decode-reads (c .before .loop .inv) (c .loop-test .taken) (c .before .before .before .before .before .before .pre .0))
-    (λ c. omega (arith, steps-fits (c .before .before .loop .inv .level) (c .before .loop-test .taken)))
+    (λ c κs. sheet-reads (c .before .before .loop .inv) (c .before .loop-test .taken) (c .before .before .before .before .before .before .before .pre .1 .0))
+    (λ c. omega (arith, steps-fits (c .before .before .before .loop .inv .level) (c .before .before .loop-test .taken)))
     (λ c. omega arith)
     (λ c. omega arith)
-    (λ c. omega (arith, steps-fits (c .before .before .loop .inv .level) (c .before .loop-test .taken)))
+    (λ c. omega (arith, steps-fits (c .before .before .before .loop .inv .level) (c .before .before .loop-test .taken)))
     (λ c κs. tt)
-    (λ c. omega (arith, decode-reads (c .before .before .before .before .before .before .loop .inv) (c .before .before .before .before .before .loop-test .taken) (c .before .before .before .before .before .before .before .before .before .before .before .pre .0)))
+    (λ c. omega (arith, decode-reads (c .before .before .before .before .before .before .before .loop .inv) (c .before .before .before .before .before .before .loop-test .taken) (c .before .before .before .before .before .before .before .before .before .before .before .before .pre .0)))
     (λ c. omega arith)
     (λ c. omega arith)
-    (λ c. decode-next (c .before .before .before .before .before .before .loop .inv) (c .before .before .before .before .before .loop-test .taken) (c .before .before .before .before .piece .ensures .0) (c .before .before .lupiknam-decode .kept .1 .1 .1 .0) (c .before .before .lupiknam-decode .ensures))
+    (λ c. decode-next (c .before .before .before .before .before .before .before .loop .inv) (c .before .before .before .before .before .before .loop-test .taken) (c .before .before .before .before .before .piece .ensures .0) (c .before .before .before .before .piece2 .ensures .0) (c .before .before .lupiknam-decode .kept .1 .1 .1 .1 .1 .0) (c .before .before .lupiknam-decode .ensures))
     (λ c. c .before .loop .inv .level .kept)
     (λ c. decode-all (c .before .loop .inv) (c .loop-test .left)))

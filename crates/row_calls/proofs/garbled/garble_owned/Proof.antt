@@ -7,7 +7,7 @@ pub garble-owned-spec : {M : Type 1} → statement M
 garble-owned-spec =
     tie.close
     (tie.spec
-    (λ c κs. c .before .pre .0 .room)
+    (λ c κs. c .before .pre .0)
     (λ c κs. c .before .before .pre)
     (λ c κs. tt)
-    (λ c. stage-followed (c .before .before .owners-checked .ensures) (c .before .buffers-checked .ensures) (c .followed .ensures)))
+    (λ c. stage-followed (c .before .before .partakers-checked .ensures) (c .before .buffers-checked .ensures) (c .followed .ensures)))

@@ -39,5 +39,5 @@ encode-spec =
     (λ c. c .one .ensures ∙ sym (ap cutWord (c .before .before .item6 .given .1)))
     (λ c. c .one2 .ensures ∙ sym (ap cutWord (c .before .before .item7 .given .1)))
     (λ c. c .two5 .ensures ∙ sym (ap cutWord (c .before .before .item8 .given .1)))
-    (λ c. c .one3 .ensures ∙ sym (ap cutWord (c .before .before .item9 .given .1)))
+    (λ c. c .two6 .ensures ∙ sym (ap cutWord (c .before .before .item9 .given .1)))
     (λ c. sym (ap cutWord (c .enum-told2 .given .1))))

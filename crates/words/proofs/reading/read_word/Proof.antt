@@ -15,7 +15,7 @@ use Rattle.words.specs.Clean.{cleanOfKind, clean}
 use Rattle.words.specs.Reading.{Nothing, said, byKind, does, readWord}
 use Rattle.words.specs.declared.gate.Step.{Step}
 use Rattle.words.specs.declared.gate.Step.the-variants.{Refused}
-use Rattle.words.specs.Bits.{clear, kind, owner, inputModulus, wireA, wireB, oneWire, constant, outputModulus, image}
+use Rattle.words.specs.Bits.{clear, kind, owner, inputModulus, wireA, wireB, named, oneWire, constant, outputModulus, image}
 use Rattle.words.specs.Items.{inputItem, judged}
 use Rattle.words.proofs.Steps.{clean-of-kind, no-kind, no-known, of-kind, said-true, unclean}
 use Rattle.words.proofs.reading.read_word.Statement.{statement}
@@ -79,6 +79,6 @@ read-word-spec =
     (λ c. let w = c .before .before .before .before .before .before .before .before .before .before .args .w in simp (c .entry-item .ensures, c .before .before .before .before .byte-from .ensures) (arm (c .before .before .before .before .before .before .before .before .before .before) 7 (sym (c .before .before .kind .ensures) ∙ c .before .match .keys7) (c .before .before .before .before .before .before .before .before .clean .ensures) (c .before .before .before .before .before .before .before .if1 .left) (clear w 27 8) (Entry (image w)) refl refl))
     (λ c. let w = c .before .before .before .before .before .before .before .before .before .before .args .w in simp (c .select-item .ensures, c .before .before .before .before .before .before .wire-from .ensures) (arm (c .before .before .before .before .before .before .before .before .before .before) 8 (sym (c .before .before .kind .ensures) ∙ c .before .match .keys8) (c .before .before .before .before .before .before .before .before .clean .ensures) (c .before .before .before .before .before .before .before .if1 .left) (clear w 27 10) (Select (oneWire w)) refl refl))
     (λ c. let w = c .before .before .before .before .before .before .before .before .before .before .args .w in simp (c .branches-item .ensures, c .before .before .before .before .before .wire-from2 .ensures, c .before .before .before .before .before .before .wire-from .ensures) (arm (c .before .before .before .before .before .before .before .before .before .before) 9 (sym (c .before .before .kind .ensures) ∙ c .before .match .keys9) (c .before .before .before .before .before .before .before .before .clean .ensures) (c .before .before .before .before .before .before .before .if1 .left) (clear w 27 20) (Branches (wireA w) (wireB w)) refl refl))
-    (λ c. let w = c .before .before .before .before .before .before .before .before .before .before .args .w in simp (c .output-item .ensures, c .before .before .before .before .before .before .wire-from .ensures) (arm (c .before .before .before .before .before .before .before .before .before .before) 10 (sym (c .before .before .kind .ensures) ∙ c .before .match .keys10) (c .before .before .before .before .before .before .before .before .clean .ensures) (c .before .before .before .before .before .before .before .if1 .left) (clear w 27 10) (Output (oneWire w)) refl refl))
+    (λ c. let w = c .before .before .before .before .before .before .before .before .before .before .args .w in simp (c .output-item .ensures, c .before .before .before .before .before .before .wire-from .ensures) (arm (c .before .before .before .before .before .before .before .before .before .before) 10 (sym (c .before .before .kind .ensures) ∙ c .before .match .keys10) (c .before .before .before .before .before .before .before .before .clean .ensures) (c .before .before .before .before .before .before .before .if1 .left) (clear w 27 18) (Output (named w) (oneWire w)) refl refl))
     (λ c. simp (c .end-item .ensures) (arm (c .before .before .before .before .before .before .before .before .before .before) 11 (sym (c .before .before .kind .ensures) ∙ c .before .match .keys11) (c .before .before .before .before .before .before .before .before .clean .ensures) (c .before .before .before .before .before .before .before .if1 .left) (clear (c .before .before .before .before .before .before .before .before .before .before .args .w) 27 0) (End) refl refl))
     (λ c. none (c .before .before .before .before .before .before .before .before .before) (c .before .kind .result) (sym (c .before .kind .ensures)) (no-known (c .match .rest .0 .0 .0 .0 .0 .0 .0 .0 .0 .0 .1) (c .match .rest .0 .0 .0 .0 .0 .0 .0 .0 .0 .1) (c .match .rest .0 .0 .0 .0 .0 .0 .0 .0 .1) (c .match .rest .0 .0 .0 .0 .0 .0 .0 .1) (c .match .rest .0 .0 .0 .0 .0 .0 .1) (c .match .rest .0 .0 .0 .0 .0 .1) (c .match .rest .0 .0 .0 .0 .1) (c .match .rest .0 .0 .0 .1) (c .match .rest .0 .0 .1) (c .match .rest .0 .1) (c .match .rest .1))))

@@ -1,6 +1,9 @@
 -- `writer::put_fields` meets its contract: two parts lent one after another. Assumes nothing.
 use mathlib.Core.Path.{sym, _∙_}
-use Prim.Native.Nat.{_*_}
+use Prim.Native.Nat.{ℕ, _*_}
+use mir.Syntax.{w8}
+use mir.Val.{Fits}
+use lib.ListN.{getD}
 use native.Mathlib.Omega.{arith}
 use lib.Seq.{length-take-le}
 use Rattle.lists.proofs.Wrote.{wrote-front, wrote-lent, wrote-join}
@@ -19,10 +22,10 @@ put-fields-spec =
     (λ c. omega (arith, c .before .before .before .pre .0 .room .made, c .before .before .before .pre .0 .given, c .before .before .before .pre .1))
     (λ c.
     let start = c .before .before .before .before in
-    sym (length-take-le (7 * start .args .circuit .made) (start .args .fields .now) (omega (arith, start .pre .0 .room .made, start .pre .1))))
+    sym (length-take-le (8 * start .args .circuit .made) (start .args .fields .now) (omega (arith, start .pre .0 .room .made, start .pre .1))))
     (λ c κs.
     let start = c .before .before .before .before in
-    (start .pre .0 .room, length-take-le (7 * start .args .circuit .made) (start .args .fields .now) (omega (arith, start .pre .0 .room .made, start .pre .1)) ∙ omega arith))
+    (start .pre .0 .room, length-take-le (8 * start .args .circuit .made) (start .args .fields .now) (omega (arith, start .pre .0 .room .made, start .pre .1)) ∙ omega arith))
     (λ c. search needs)
     (λ c. search needs)
     (λ c. search needs)
@@ -33,6 +36,7 @@ put-fields-spec =
     let start = c .before .before .before .before .before .before .before .before .before .before .before in
     let wires = c .before .before .before .before .before .before .put-wires in
     let outputs = c .before .before .put-outputs in
-    fields-are (start .pre .0)
-    (wrote-join (wrote-front (start .args .fields .now) (7 * start .args .circuit .made) (omega (arith, start .pre .0 .room .made, start .pre .1)) (wires .kept .1 .0) (wires .ensures))
+    let byte : (i : ℕ) → Fits w8 (getD (start .args .circuit .named) i 0) = λ i. search (needs, start .good .0) in
+    fields-are (start .pre .0) (λ i. byte i .fits)
+    (wrote-join (wrote-front (start .args .fields .now) (8 * start .args .circuit .made) (omega (arith, start .pre .0 .room .made, start .pre .1)) (wires .kept .1 .0) (wires .ensures))
     (wrote-lent (omega arith) (omega (arith, c .before .before .before .before .before .before .put-wires .kept .1 .0, start .pre .0 .room .made, start .pre .0 .given, start .pre .1)) (outputs .kept .1 .0) (outputs .ensures)))))

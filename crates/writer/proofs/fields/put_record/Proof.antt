@@ -1,6 +1,7 @@
--- `writer::put_record` meets its contract: seven stores, one after another. Assumes nothing.
+-- `writer::put_record` meets its contract: eight stores, one after another. Assumes nothing.
 use native.Mathlib.Omega.{arith}
 use lib.ListN.{length-set}
+use borrow.Author.Needs.{needs}
 use Rattle.writer.proofs.Listings.{stored}
 use Rattle.writer.specs.Listing.{numbersOf}
 use Rattle.writer.proofs.fields.put_record.Statement.{statement}
@@ -17,5 +18,7 @@ put-record-spec =
     (λ c. simp length-set (omega arith))
     (λ c. simp length-set (omega arith))
     (λ c. simp length-set (omega arith))
+    (λ c. search needs)
+    (λ c. simp length-set (omega arith))
     (λ c. simp length-set)
-    (λ c. stored (c .args .out .now) (numbersOf (c .args .entry)) (c .pre)))
+    (λ c. stored (c .before .args .out .now) (numbersOf (c .before .args .entry)) (c .before .pre)))

@@ -1,4 +1,4 @@
--- `writer::put_wires` meets its contract: a loop that fills blocks of seven. Assumes nothing.
+-- `writer::put_wires` meets its contract: a loop that fills blocks of eight. Assumes nothing.
 use mathlib.Core.Path.{refl, ap, _∙_}
 use Prim.Native.Nat.{_-_}
 use native.Mathlib.Omega.{arith}
@@ -10,7 +10,7 @@ use Rattle.writer.proofs.fields.put_wires.Statement.{statement}
 use Rattle.writer.proofs.fields.put_wires.Tie as tie
 
 abbrev Inv-loop : tie.InvT-loop
-Inv-loop fields₀ circuit made at₀ w₀ fields at w = Level fields₀ 0 w (circuit .made) 7 (λ v. numbersOf (wireRecord (wireAt (circuit .wires) v))) at fields
+Inv-loop fields₀ circuit made at₀ w₀ fields at w = Level fields₀ 0 w (circuit .made) 8 (λ v. numbersOf (wireRecord (wireAt (circuit .wires) v))) at fields
 
 abbrev μ-loop : tie.MeasureT-loop
 μ-loop fields₀ circuit made at₀ w₀ fields at w = circuit .made - w

@@ -1,5 +1,5 @@
 -- `writer::fill::put_records` meets its contract: a walk of its MIR, by hand. The borrow of the records is opened once, before the loop, and closed once, after it. In between the records lie in memory as the function's own: after i turns they are `putRecords fields i records`.
--- A turn calls `record_from`, of which all that is known is that it meets its contract, and stores the whole result at its place, 28 bytes for each record before it. A Record is plain data. The fields are a `&`: what it owns is had twice, for the callee and for the next turn.
+-- A turn calls `record_from`, of which all that is known is that it meets its contract, and stores the whole result at its place, 32 bytes for each record before it. A Record is plain data. The fields are a `&`: what it owns is had twice, for the callee and for the next turn.
 --     At i         what is had where the loop's test is reached, after i turns
 --     turn         from `At i`: where the test holds, the turn ends in `At (i + 1)`; where it fails, i is `count`, and the function ends
 --     all-turns    the loop. Its variant is the number of turns left
@@ -124,7 +124,7 @@ module _ {M : Type 1} (𝓤 : URA M) (H : Heap 𝓤) (A : Atoms 𝓤) (W : Given
   abbrev to : ℕ → RecordFrom 𝓤 H A mem run .Ghost
   to i = (((κ₀, tt), (q₀, tt), tt, (f, (i, tt)), (v ∷ [], (vint w64 i ∷ [], tt))), tt)
 
-  asked : (i : ℕ) → i < 2 ^ 64 → 7 * i + 6 < length (f .now) → ent 𝓤 (⋆ 𝓤 H A ((‵ (flft κ₀ q₀) ⊛ ‵ ftrue) ∷ ‵ Own ∷ [])) (RecordFrom 𝓤 H A mem run .pre (to i))
+  asked : (i : ℕ) → i < 2 ^ 64 → 8 * i + 7 < length (f .now) → ent 𝓤 (⋆ 𝓤 H A ((‵ (flft κ₀ q₀) ⊛ ‵ ftrue) ∷ ‵ Own ∷ [])) (RecordFrom 𝓤 H A mem run .pre (to i))
   asked i fits within =
       qed W ((‵ (flft κ₀ q₀) ⊛ ‵ ftrue) ∷ ‵ Own ∷ []) ∵ says ! within $ frame ! $
       nothing ! $ owned ! usize (Is usize) (uint-makes 𝓤 H A W w64) i _ (refl, fits) $ fjoin ! $ move ! (1 ∷ 0 ∷ []) $ fjoin ! $ done !
@@ -140,7 +140,7 @@ module _ {M : Type 1} (𝓤 : URA M) (H : Heap 𝓤) (A : Atoms 𝓤) (W : Given
       move ! (2 ∷ []) $ split ! $ move ! (3 ∷ 1 ∷ []) $ join ! $ move ! (1 ∷ 0 ∷ []) $ join ! $ frame ! $
       nothing ! $ nothing ! $ fjoin ! $ move ! (1 ∷ 0 ∷ []) $ fjoin ! $ nothing ! $ fjoin ! $ frame ! $ feqI ! (List Val) (vunit ∷ []) (vunit ∷ []) refl $ done !
 
-  module _ (𝓣 : Tables 𝓤 H) (known : Triple 𝓤 (𝓣 .C #record-from) (RecordFrom 𝓤 H A mem run)) (room : Room R (length (x .now))) (within : count ≤ length (x .now)) (enough : 7 * count ≤ length (f .now)) (p : Is (ShrSlice (named 0) κ₀ u32) f (v ∷ [])) where
+  module _ (𝓣 : Tables 𝓤 H) (known : Triple 𝓤 (𝓣 .C #record-from) (RecordFrom 𝓤 H A mem run)) (room : Room R (length (x .now))) (within : count ≤ length (x .now)) (enough : 8 * count ≤ length (f .now)) (p : Is (ShrSlice (named 0) κ₀ u32) f (v ∷ [])) where
     module _ (l₀ l₁ l₂ l₃ l₄ l₅ l₆ l₇ l₈ : ℕ) where
       -- the locals: the result, fields, records, count, i, the test, the record, its offset and its place
       abbrev En : Env 𝓤 H
@@ -163,7 +163,7 @@ module _ {M : Type 1} (𝓤 : URA M) (H : Heap 𝓤) (A : Atoms 𝓤) (W : Given
           assigns ! (bin ! (load ! (from ! (stop !)) (look ! 12 refl)) (load ! (from ! (stop !)) (look ! 14 refl)) tt) (from ! (stop !)) (init ! 10 refl (tt, tt)) $
           tests ! (load ! (from ! (stop !)) (look ! 10 refl))
           (λ h. let less : i < count = ltb→lt i count h in
-          let bytes : i * 28 < 2 ^ 64 = omega (arith, room .1) in
+          let bytes : i * 32 < 2 ^ 64 = omega (arith, room .1) in
           let next : i + 1 < 2 ^ 64 = omega (arith, room .0) in
           let inside : i < length (set-to i) = omega (arith, length-putRecords (f .now) (x .now) i (omega arith)) in
           move ! (2 ∷ []) $ use1 W (‵ Own ⊛ ‵ Own) (shr-slice-copy 𝓤 H A W (named 0) κ₀ u32 .twice f (v ∷ [])) $ split ! $
@@ -176,7 +176,7 @@ module _ {M : Type 1} (𝓤 : URA M) (H : Heap 𝓤) (A : Atoms 𝓤) (W : Given
           land ! (from ! (stop !)) (init ! 9 refl (LL.lawful T.the-type T′.the-laws 𝓤 H A W .typed r _ is .0)) $
           assigns ! (bin ! (load ! (from ! (stop !)) (look ! 13 refl)) (lit ! tt) (record { fits = bytes })) (from ! (stop !)) (init ! 7 refl (tt, record { fits = bytes })) $
           assigns ! (bin ! (load ! (from ! (fld ! refl (stop !))) (look-in ! 17 (sub ! 0 refl (whole !)))) (load ! (from ! (stop !)) (look ! 7 refl)) tt) (from ! (stop !)) (init ! 5 refl (tt, tt)) $
-          rewrite ! 5 (λ (p′ : ℕ). ‵ (fat fullShare tyPtr l₈ 0 (vptr (x .ptr .0) p′))) (sym (place-is 28 (x .ptr .1) i)) refl $
+          rewrite ! 5 (λ (p′ : ℕ). ‵ (fat fullShare tyPtr l₈ 0 (vptr (x .ptr .0) p′))) (sym (place-is 32 (x .ptr .1) i)) refl $
           move ! (3 ∷ []) $ elem-out ! R (Is R) (shows 𝓤 H A R) (LL.vals T.the-type T′.the-laws) (LL.tells T.the-type T′.the-laws) fullShare (set-to i) i r (x .ptr .0) (x .ptr .1) inside (λ _.
           -- [record i's cell; what it owns; the others; what the new one owns; the fields' token; what fields own; the open borrow; _8; …; _7; …; …; _0; …]
           assigns ! (of-opd ! (load ! (from ! (stop !)) (look ! 11 refl))) (from ! (hop ! (look ! 7 refl) (stop !))) (store-raw ! 0 refl (LL.lawful T.the-type T′.the-laws 𝓤 H A W .typed r _ is .0)) $

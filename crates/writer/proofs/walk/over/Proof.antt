@@ -190,12 +190,12 @@ module _ {M : Type 1} (𝓤 : URA M) (H : Heap 𝓤) (A : Atoms 𝓤) (W : Given
           assigns ! (bin ! (load ! (from ! (stop !)) (look ! 23 refl)) (load ! (from ! (stop !)) (look ! 17 refl)) tt) (from ! (stop !)) (init ! 15 refl (tt, tt)) $
           tests ! (load ! (from ! (stop !)) (look ! 15 refl))
           (λ h. let less : s .i < length (records .now) = ltb→lt (s .i) (length (records .now)) h in
-          let bytes : s .i * 28 < 2 ^ 64 = omega (arith, room₀ .1) in
+          let bytes : s .i * 32 < 2 ^ 64 = omega (arith, room₀ .1) in
           let next : s .i + 1 < 2 ^ 64 = omega (arith, room₀ .0) in
           -- the record is copied
           assigns ! (bin ! (load ! (from ! (stop !)) (look ! 23 refl)) (lit ! tt) (record { fits = bytes })) (from ! (stop !)) (store ! 17 refl (tt, record { fits = bytes })) $
           assigns ! (bin ! (load ! (from ! (fld ! refl (stop !))) (look-in ! 35 (sub ! 0 refl (whole !)))) (load ! (from ! (stop !)) (look ! 17 refl)) tt) (from ! (stop !)) (init ! 13 refl (tt, tt)) $
-          rewrite ! 13 (λ (p : ℕ). ‵ (fat fullShare tyPtr l₁₂ 0 (vptr (records .ptr .0) p))) (sym (place-is 28 (records .ptr .1) (s .i))) refl $
+          rewrite ! 13 (λ (p : ℕ). ‵ (fat fullShare tyPtr l₁₂ 0 (vptr (records .ptr .0) p))) (sym (place-is 32 (records .ptr .1) (s .i))) refl $
           move ! (1 ∷ []) $ elem-out ! E.the-row (Is E.the-row) (shows 𝓤 H A E.the-row) (LL.vals E.the-type E′.the-laws) (LL.tells E.the-type E′.the-laws) q (records .now) (s .i) noRecord (records .ptr .0) (records .ptr .1) less (λ is-record.
           assigns ! (of-opd ! (load ! (from ! (hop ! (look ! 15 refl) (stop !))) (look-raw ! 0 refl))) (from ! (stop !)) (init ! 13 refl (LL.lawful E.the-type E′.the-laws 𝓤 H A W .typed (entry s) _ is-record .0)) $
           elem-back ! E.the-row q (records .now) (s .i) noRecord (of-record (entry s) ∷ []) (records .ptr .0) (records .ptr .1) less $ move ! (1 ∷ []) $

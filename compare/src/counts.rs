@@ -1,5 +1,5 @@
 //! What a run has met: under a heading, of each sort, and by a number where there is one, such as a
-//! modulus, a key length or an account.
+//! modulus, a key length, an account or a seat.
 
 use std::collections::BTreeMap;
 
@@ -20,6 +20,13 @@ const PRINTED: usize = 8;
 impl Counts {
     pub fn add(&mut self, heading: &'static str, sort: impl Into<String>, number: u32) {
         *self.0.entry((heading, sort.into(), number)).or_default() += 1;
+    }
+
+    /// Counts those of the sorts that are met.
+    pub fn add_met(&mut self, heading: &'static str, sorts: &[&str], is: &[bool], number: u32) {
+        for (sort, _) in sorts.iter().zip(is).filter(|(_, is)| **is) {
+            self.add(heading, *sort, number);
+        }
     }
 
     fn times(&self, heading: &'static str, sort: &str, number: u32) -> u64 {

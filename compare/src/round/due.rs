@@ -1,0 +1,25 @@
+//! What a thorough run must have met of the seats that outputs name, heading by heading.
+
+use super::{again, order, readers, strangers, unread};
+use crate::counts::Due;
+
+pub fn all() -> Vec<Due> {
+    let named = |sorts: &[&str]| sorts.iter().map(|sort| String::from(*sort)).collect();
+    let due = |heading, sorts, numbers: &[u32]| Due {
+        heading,
+        sorts,
+        numbers: numbers.to_vec(),
+    };
+    vec![
+        due(readers::HEADING, named(&readers::SORTS), &readers::PARTIES),
+        due(
+            readers::BY_SEAT,
+            named(&readers::SORTS_BY_SEAT),
+            &readers::SEATS,
+        ),
+        due(strangers::HEADING, strangers::sorts(), &strangers::SEATS),
+        due(order::HEADING, order::sorts(), &[0]),
+        due(unread::HEADING, named(&unread::SORTS), &[0]),
+        due(again::HEADING, named(&again::SORTS), &[0]),
+    ]
+}
