@@ -90,13 +90,23 @@ static void *room(size_t bytes) {
     return at;
 }
 
+// one row of a projection and of a square, none of a bit times itself, two of any other product and of a select
+static uint32_t opened_of(uint32_t kind, int square, uint32_t modulus) {
+    if (kind == 5 && square)
+        return modulus == 2 ? 0 : 1;
+    return kind == 6 ? 1 : kind == 5 || kind == 9 ? 2 : 0;
+}
+
 static void count_file(void) {
+    uint8_t modulus[1024];
     must(lupiknam_read(r.file, r.file_length, &r.wires, &r.inputs, &r.outputs, &r.rows, &r.moduli, &r.records), "read");
     r.opened_rows = 0;
-    for (size_t at = 0; 4 * at < r.file_length; at++) {
-        uint32_t kind = word(at) >> 28, square = (word(at) >> 10 & 1023) == (word(at) & 1023);
-        // one row of a projection and of a square, two of any other product and of a select
-        r.opened_rows += kind == 6 || (kind == 5 && square) ? 1 : kind == 5 || kind == 8 ? 2 : 0;
+    for (uint32_t at = 1, made = 0; made < r.wires; at++) {
+        uint32_t kind = word(at) >> 28, high = word(at) >> 10 & 1023, low = word(at) & 1023;
+        if (kind == 7 || kind == 8) // an entry makes no wire, and a select makes its own at its second word
+            continue;
+        modulus[made] = (uint8_t)(kind == 2 ? low : kind == 6 ? high : modulus[low]);
+        r.opened_rows += opened_of(kind, high == low, modulus[made++]);
     }
 }
 

@@ -1,8 +1,9 @@
 #!/usr/bin/env python3
-"""Garbles a circuit for two and opens it for every choice of values: inputs a and b modulo 3, the projection of a by 0, 1, 2 -> 2, 4, 1
-modulo 5, and the product of a and b; key length 2, round 0x04030211. Written from documents 01 and 02 (orders 3 and 8); SHAKE256 is python's
-hashlib. The pads, rows and masks must be those that are written in compare/src/generate/pair_example.rs, where they are worked through by
-hand and from where `compare pairs` takes what it asks of the engine; and what is opened must decode to the plain values."""
+"""Garbles two circuits for two and opens them for every choice of values: inputs a and b modulo 3, the projection of a by 0, 1, 2 -> 2, 4, 1
+modulo 5, and the product of a and b, with key length 2; and a bit times itself, with key length 3; round 0x04030211. Written from documents
+01 and 02 (orders 3 and 8); SHAKE256 is python's hashlib. The pads, rows and masks must be those that are written in
+compare/src/generate/pair_example.rs, where they are worked through by hand and from where `compare pairs` takes what it asks of the engine;
+and what is opened must decode to the plain values."""
 import hashlib
 import pathlib
 import re
@@ -14,6 +15,8 @@ TABLE = [2, 4, 1]
 ROUND = 0x04030211
 # wire numbers
 PROJECTION, PRODUCT = 2, 3
+# of the other circuit: offset, the bit's zero key, the square's wire number
+BIT_OFFSET, BIT, SQUARE = [1, 1, 0], [1, 0, 0], 1
 
 
 def pad(modulus, wire, component, key, q):
@@ -56,6 +59,17 @@ def halves():
     return first_pads + second_pads, plus(3, first, 1, second), rows
 
 
+def bit_halves():
+    """The same of a bit times itself, whose second half is under the same keys; without the rows that are all zero."""
+    keys = [plus(2, BIT, external - BIT[0], BIT_OFFSET) for external in range(2)]
+    first_pads, second_pads = [[pad(2, SQUARE, component, key, 2) for key in keys] for component in range(2)]
+    images = [-BIT[0] * (alpha - BIT[0]) for alpha in range(2)]
+    first = plus(2, [-x for x in first_pads[0]], -images[0], BIT_OFFSET)
+    second = [-x % 2 for x in second_pads[0]]
+    rows = [plus(2, plus(2, first, images[1], BIT_OFFSET), 1, first_pads[1]), plus(2, plus(2, second, -1, BIT), 1, second_pads[1])]
+    return first_pads + second_pads, plus(2, first, 1, second), rows
+
+
 def opened(rows, wire, component, key, q):
     """The row that component 0 of the key names, less its pad; row 0 is not written."""
     row = [0, 0] if key[0] == 0 else rows[key[0] - 1]
@@ -74,12 +88,16 @@ def check(what, holds):
 
 project_pads, project_zero, project_rows = projection()
 product_pads, product_zero, product_rows = halves()
+bit_pads, bit_zero, bit_rows = bit_halves()
 for start in (project_rows, product_rows, product_rows[3:]):
     check("row 0 is all zero", start[0] == [0, 0])
 written = {
     "PADS": sum(project_pads + product_pads, []),
     "ROWS": sum(project_rows[1:] + product_rows[1:3] + product_rows[4:], []),
     "MASKS": [project_zero[0], product_zero[0]],
+    "BIT_PADS": sum(bit_pads, []),
+    "BIT_ROWS": sum(bit_rows, []),
+    "BIT_MASKS": [bit_zero[0]],
 }
 text = (pathlib.Path(__file__).parent / "src/generate/pair_example.rs").read_text(encoding="utf-8")
 for name, numbers in written.items():
@@ -95,5 +113,11 @@ for a in range(3):
         sum_of_halves = plus(3, opened(product_rows[1:3], PRODUCT, 0, key_a, 3), 1, opened(product_rows[4:], PRODUCT, 1, key_b, 3))
         z = plus(3, sum_of_halves, key_b[0], key_a)
         check(f"product of {a} and {b}", z == key_of(product_zero, a * b, 3) and (z[0] - product_zero[0]) % 3 == a * b % 3)
+for bit in range(2):
+    key = plus(2, BIT, bit, BIT_OFFSET)
+    z = [0, 0, 0] if key[0] == 0 else plus(2, plus(2, bit_rows[0], 1, bit_rows[1]), 1, key)
+    for component in range(2):
+        z = plus(2, z, -1, pad(2, SQUARE, component, key, 2))
+    check(f"{bit} times itself", z == plus(2, bit_zero, bit, BIT_OFFSET) and (z[0] - bit_zero[0]) % 2 == bit)
 print(f"{passed} passed, {failed} failed")
 raise SystemExit(failed > 0)

@@ -196,6 +196,12 @@ static struct {
     uint8_t external;
 } pair_row[MOST_ROWS];
 
+/* The bits times themselves, which a ring has as copies of wires, and the wire of each. */
+static struct {
+    uint16_t wire, of;
+} copied[MOST_WIRES];
+static uint32_t copies;
+
 static uint8_t primes[PRIMES], modulus[MOST_WIRES], owner[MOST_WIRES], records_of[MOST_WIRES], row_modulus[MOST_ROWS];
 static uint8_t contribution_modulus[128 * PRIMES + 129 * 3 * MOST_WIRES];
 static uint16_t output_wire[MOST_OUTPUTS], own_wire[MOST_WIRES];
@@ -245,6 +251,17 @@ static void list_half(uint32_t under) {
     pair_halves++;
 }
 
+/* A multiply of a wire by itself: of a bit a copy, with no record and no rows, else as a projection. */
+static void list_square(uint32_t of) {
+    const uint8_t p = modulus[of];
+    if (p == 2) {
+        list_wire(p, 0, 0, 0);
+        copied[copies].wire = (uint16_t)(counts.wires - 1);
+        copied[copies++].of = (uint16_t)of;
+    } else
+        list_wire(p, 1, p, 1);
+}
+
 static void list_word(uint32_t w) {
     uint8_t low = modulus[w & 1023];
     if (w >> 28 == 5)
@@ -262,8 +279,8 @@ static void list_word(uint32_t w) {
         list_wire(low, 0, 0, 0);
         break;
     case 5:
-        if ((w >> 10 & 1023) == (w & 1023)) /* a square is a projection */
-            list_wire(low, 1, low, 1);
+        if ((w >> 10 & 1023) == (w & 1023))
+            list_square(w & 1023);
         else
             list_wire(low, 2, 2u * low, 2);
         break;
@@ -286,7 +303,7 @@ static void list_word(uint32_t w) {
 
 static void list_circuit(void) {
     memset(&counts, 0, sizeof counts);
-    opened_rows = pair_total = pair_halves = 0;
+    opened_rows = pair_total = pair_halves = copies = 0;
     entries = first_select = 0;
     for (size_t i = 1; i < file.length / 4; i++) {
         const uint32_t w = word_at(bytes(&file), i);
@@ -683,6 +700,16 @@ static void judge_carried(void) {
         check(word_at(bytes(&meter), i) == (i == 0 ? carried : 0), "the carried total is account 0's, and the others are 0");
 }
 
+/* After an accepted opening, whatever was lent: every party's key on a copy, and its external value, are those of its wire. */
+static void judge_copies(void) {
+    const size_t row = (size_t)n * k;
+    for (uint32_t i = 0; i < copies; i++) {
+        const size_t to = copied[i].wire, from = copied[i].of;
+        check(memcmp(bytes(&wire_keys) + to * row, bytes(&wire_keys) + from * row, row) == 0, "a copy opens to the keys of its wire");
+        check(bytes(&wire_externals)[to] == bytes(&wire_externals)[from], "a copy opens to the external value of its wire");
+    }
+}
+
 /* A written buffer after a call: nothing around it is changed, and its bytes are as the answer says. */
 static void judge_written(enum call c, const struct buffer *b, uint32_t number, const lupiknam_meter *before) {
     const uint8_t *from = bytes(b), *to = from + b->length;
@@ -741,6 +768,8 @@ static lupiknam_answer make(enum call c) {
         list_circuit();
     for (int i = 0; i < 4 && written[i]; i++)
         judge_written(c, written[i], a.number, &before);
+    if (c == OPEN && a.number == 0)
+        judge_copies();
     return a;
 }
 
@@ -904,7 +933,7 @@ static void read_file(const uint8_t *data, size_t size) {
     }
     if (reading.number != 0) {
         memset(&counts, 0, sizeof counts);
-        first_select = pair_total = pair_halves = 0;
+        first_select = pair_total = pair_halves = copies = 0;
     } else
         check(memcmp(bytes(&numbers), &counts, sizeof counts) == 0, "the counts are those of the file");
 }
@@ -1292,11 +1321,16 @@ static void small_part(enum call c) {
     put_small(11u << 28);
 }
 
-/* The rows of a part: 2p of a product, p of a square and of a project, for each prime p. */
+/* The rows of a part: for each prime p 2p of a product, p of a square and of a project, but none of a square at 2. */
 static uint32_t rows_due(enum call c) {
     uint32_t due = 0;
-    for (uint32_t i = 0; i < bundle.r; i++)
-        due += c == MULTIPLY ? (bundle.a == bundle.b ? 1u : 2u) * primes[i] : c == SCALE && bundle.integer % primes[i] == 0 ? primes[i] : 0;
+    for (uint32_t i = 0; i < bundle.r; i++) {
+        const uint32_t p = primes[i];
+        if (c == MULTIPLY)
+            due += bundle.a != bundle.b ? 2 * p : p == 2 ? 0 : p;
+        else if (c == SCALE && bundle.integer % p == 0)
+            due += p;
+    }
     return due;
 }
 
@@ -1710,6 +1744,24 @@ static void spoil(struct fault f) {
     faulty += made_calls - before;
 }
 
+/* Contributions and rows as they were while a copy had a record and two rows, which is too long. */
+static void lend_old_layouts(void) {
+    const size_t record = k + 1, two_rows = 2 * (size_t)n * k;
+    const struct {
+        enum call call;
+        struct buffer *buffer;
+        size_t more;
+    } old[] = {{GARBLE, &contributions, n * record}, {GARBLE, &rows, two_rows}, {INPUT_KEYS, &contribution, record},
+        {OPEN, &contribution, record}, {OPEN, &rows, two_rows}};
+    for (size_t i = 0; copies > 0 && i < sizeof old / sizeof old[0]; i++) {
+        const size_t was = old[i].buffer->length;
+        set_length(old[i].buffer, was + copies * old[i].more);
+        must(old[i].call, 14, 0);
+        old[i].buffer->length = was;
+        faulty++;
+    }
+}
+
 /* Every fault is taken back; what a refused call had filled before it was made is put back here. */
 static void spoil_all(void) {
     static uint8_t rows_were[1 << 21], masks_were[MOST_PARTIES * MOST_OUTPUTS], externals_were[MOST_WIRES];
@@ -2035,6 +2087,7 @@ int LLVMFuzzerTestOneInput(const uint8_t *data, size_t size) {
     if (reading.number == 0 && in_range() && owners_below(n) && first_absent() == counts.outputs && !dear()) {
         play();
         spoil_all();
+        lend_old_layouts();
     }
     if (reading.number == 0 && first_select > 0)
         refuse_selector();

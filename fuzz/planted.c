@@ -6,7 +6,7 @@
 #include <stdlib.h>
 #include <string.h>
 
-enum { FAULTS = 85 }; /* fuzz/run reads this line */
+enum { FAULTS = 95 }; /* fuzz/run reads this line */
 
 #define FILE_PARAMETERS const uint8_t *file, size_t length
 #define READ_ONLY(name) const uint8_t *name, size_t name##_length
@@ -95,13 +95,51 @@ static const uint8_t *without_absent(FILE_PARAMETERS, uint32_t n) {
     return copy;
 }
 
-static uint32_t squares(FILE_PARAMETERS) {
-    uint32_t found = 0;
-    for (size_t i = 0; i + 4 <= length; i += 4) {
+/* The multiplies of a wire by itself in an accepted file: how many, and of each its wire and modulus. One of modulus 2 is a copy, the others are
+   squares by table. */
+static struct {
+    uint16_t wire;
+    uint8_t modulus;
+} square[1024];
+
+static uint32_t list_squares(FILE_PARAMETERS) {
+    static uint8_t modulus[1024];
+    uint32_t wires = 0, found = 0;
+    for (size_t i = 4; i + 4 <= length; i += 4) {
         const uint32_t low = file[i] | (uint32_t)(file[i + 1] & 3) << 8, high = file[i + 1] >> 2 | (uint32_t)(file[i + 2] & 15) << 6;
-        found += file[i + 3] == 0x50 && low == high;
+        const unsigned kind = file[i + 3] >> 4;
+        if (kind == 7 || kind == 8 || kind > 9) // a select makes its wire here at its second word
+            continue;
+        modulus[wires] = (uint8_t)(kind == 2 ? file[i] : kind == 6 ? high : modulus[low]);
+        if (kind == 5 && low == high) {
+            square[found].wire = (uint16_t)wires;
+            square[found++].modulus = modulus[low];
+        }
+        wires++;
     }
     return found;
+}
+
+/* How many of them have this modulus. */
+static uint32_t squares_of(FILE_PARAMETERS, unsigned modulus) {
+    const uint32_t all = list_squares(file, length);
+    uint32_t found = 0;
+    for (uint32_t i = 0; i < all; i++)
+        found += square[i].modulus == modulus;
+    return found;
+}
+
+static uint32_t copies(FILE_PARAMETERS) {
+    return squares_of(file, length, 2);
+}
+
+/* The wire of the first copy of a file that has one. */
+static size_t first_copy(FILE_PARAMETERS) {
+    uint32_t i = 0;
+    list_squares(file, length);
+    while (square[i].modulus != 2)
+        i++;
+    return square[i].wire;
 }
 
 lupiknam_answer lupiknam_read(FILE_PARAMETERS, uint32_t *wires, uint32_t *inputs, uint32_t *outputs, uint32_t *rows, uint32_t *moduli,
@@ -125,8 +163,18 @@ lupiknam_answer lupiknam_read(FILE_PARAMETERS, uint32_t *wires, uint32_t *inputs
     if (planted(3) && a.number == 0 && c[4] == 4) // a good file refused
         return (lupiknam_answer){4, 1};
     a = engine_read(file, length, wires, inputs, outputs, rows, moduli, records);
-    if (planted(25) && a.number == 0) // a square with the record of a product
-        *records += squares(file, length);
+    if (a.number != 0)
+        return a;
+    if (planted(25)) // a square with the record of a product
+        *records += list_squares(file, length) - copies(file, length);
+    if (planted(86)) // a bit times itself with the rows of a square
+        *rows += 2 * copies(file, length);
+    if (planted(87)) // a bit times itself with the record of a square
+        *records += copies(file, length);
+    if (planted(88)) { // a square of modulus 3 taken for a copy
+        *rows -= 3 * squares_of(file, length, 3);
+        *records -= squares_of(file, length, 3);
+    }
     return a;
 }
 
@@ -157,6 +205,21 @@ static void charge_wrongly(lupiknam_meter *meter, uint32_t account, uint32_t row
     }
     for (uint32_t i = 0; planted(36) && i < 8; i++) // every account is charged
         meter->totals[i] += i == account ? 0 : rows;
+}
+
+/* Faults of copies after an accepted opening, the same at every party; every byte is still below its modulus. */
+static void copy_wrongly(FILE_PARAMETERS, size_t row, uint8_t *wire_keys, uint8_t *wire_externals) {
+    const uint32_t all = list_squares(file, length);
+    for (uint32_t i = 0; i < all; i++)
+        if (square[i].modulus == 2) {
+            uint8_t *key = wire_keys + square[i].wire * row;
+            if (planted(89)) // another external value
+                wire_externals[square[i].wire] ^= 1;
+            if (planted(90)) // another byte in the last party's key
+                key[row - 1] ^= 1;
+            if (planted(91) && file[4] == 2) // the keys of wire 0, whichever is copied
+                memcpy(key, wire_keys, row);
+        }
 }
 
 /* Faults of the sheets that an accepted garbling has written. */
@@ -206,6 +269,8 @@ lupiknam_answer lupiknam_garble(FILE_PARAMETERS, uint32_t n, uint32_t k, uint32_
         meter->totals[account] = before.totals[account] + added;
         if (a.number == 0)
             charge_wrongly(meter, account, added);
+        if (planted(92) && a.number == 0) // a bit times itself charged with the rows of a square
+            meter->totals[account] += 2 * copies(file, length);
     }
     if (planted(37) && a.number == 21) // a full account is filled up though the call is refused
         meter->totals[account] = UINT32_MAX;
@@ -248,6 +313,13 @@ lupiknam_answer lupiknam_input_keys(FILE_PARAMETERS, uint32_t n, uint32_t k, uin
         keys_length);
     if (planted(10) && a.number == 16) // a byte written though the call is refused
         keys[keys_length - 1] = 0;
+    if (planted(93) && a.number == 14 && copies(file, length) > 0) { // a contribution with a record for each copy taken
+        uint32_t c[6];
+        engine_read(file, length, c, c + 1, c + 2, c + 3, c + 4, c + 5);
+        const size_t size = (size_t)k * c[4] + ((size_t)k + 1) * c[5];
+        if (contribution_length == size + ((size_t)k + 1) * copies(file, length))
+            return engine_input_keys(file, length, n, k, party, contribution, size, externals, externals_length, keys, keys_length);
+    }
     return a;
 }
 
@@ -261,6 +333,10 @@ lupiknam_answer lupiknam_open(FILE_PARAMETERS, uint32_t n, uint32_t k, uint32_t 
         wire_keys[wire_keys_length / 2] = 1;
     if (planted(12) && a.number == 19) // another place
         a.place++;
+    if (planted(95) && a.number == 20 && copies(file, length) > 0) // 20 at a bit times itself
+        a.place = first_copy(file, length);
+    if (a.number == 0)
+        copy_wrongly(file, length, (size_t)n * k, wire_keys, wire_externals);
     if (planted(13) && a.number == 0 && n > 2 && party == 2) // another key at one party, still below its modulus
         wire_keys[0] = wire_keys[0] == 0;
     if (planted(78) && a.number == 28) // a reader that does not take part taken
@@ -396,8 +472,10 @@ lupiknam_answer lupiknam_pair_read(FILE_PARAMETERS, uint32_t *rows) {
     uint32_t found = *rows, c[6];
     lupiknam_answer a = engine_pair_read(file, length, &found);
     const size_t select = word_of_kind(file, length, 1, 8), at = stranger(file, length);
-    if (planted(44) && a.number == 0 && squares(file, length) > 0) // a square with the rows of a ring's
+    if (planted(44) && a.number == 0 && list_squares(file, length) > 0) // a square with the rows of a ring's
         engine_read(file, length, c, c + 1, c + 2, &found, c + 4, c + 5);
+    if (planted(94) && a.number == 0) // a bit times itself is a copy for two as well
+        found -= 2 * copies(file, length);
     if (planted(45) && a.number == 0 && file[4 * at + 3] == 0x20) // an owner above 1 refused
         return (lupiknam_answer){13, at - 1};
     if (planted(46) && a.number == 26) // the place of the last selector

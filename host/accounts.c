@@ -38,7 +38,8 @@ struct circuit {
     size_t count, inputs, z, rows;
 };
 
-/* Multiply 251 has 502 rows, select 2 has 6, project 2 has 2, the price list's product of modulus 5 has 10, and an add has none. */
+/* Multiply 251 has 502 rows, select 2 has 6, project 2 has 2, the price list's product of modulus 5 has 10, and an add has none. A square of
+   modulus 3 has 3, and a bit times itself, a copy, none and no key of its own. */
 static const struct circuit product_251 = {{0x10000000, 0x200000FB, 0x200100FB, 0x50000001, 0xA0000002, 0xB0000000}, 6, 2, 4, 502};
 static const struct circuit product_5 = {{0x10000000, 0x20000005, 0x20010005, 0x50000001, 0xA0000002, 0xB0000000}, 6, 2, 4, 10};
 static const struct circuit select_2 = {
@@ -46,6 +47,8 @@ static const struct circuit select_2 = {
 static const struct circuit project_2 = {
     {0x10000000, 0x20010002, 0x60000800, 0x70000001, 0x70000000, 0xA0000001, 0xB0000000}, 7, 1, 2, 2};
 static const struct circuit sum = {{0x10000000, 0x20000005, 0x20010005, 0x30000001, 0xA0000002, 0xB0000000}, 6, 2, 2, 0};
+static const struct circuit square_3 = {{0x10000000, 0x20000003, 0x50000000, 0xA0000001, 0xB0000000}, 5, 1, 2, 3};
+static const struct circuit copy_2 = {{0x10000000, 0x20000002, 0x50000000, 0xA0000001, 0xB0000000}, 5, 1, 1, 0};
 static const struct circuit modulus_6 = {{0x10000000, 0x20000005, 0x20010006, 0x50000001, 0xA0000002, 0xB0000000}, 6, 2, 4, 10};
 static const struct circuit owner_2 = {{0x10000000, 0x20000005, 0x20020005, 0x50000001, 0xA0000002, 0xB0000000}, 6, 2, 4, 10};
 
@@ -53,7 +56,8 @@ static const struct circuit owner_2 = {{0x10000000, 0x20000005, 0x20020005, 0x50
 static const struct circuit names_1 = {{0x10000000, 0x20000005, 0x20010005, 0x50000001, 0xA0000802, 0xB0000000}, 6, 2, 4, 10};
 static const struct circuit names_2 = {{0x10000000, 0x20000005, 0x20010005, 0x50000001, 0xA0001802, 0xB0000000}, 6, 2, 4, 10};
 
-static const struct circuit *const circuits[] = {&product_251, &product_5, &select_2, &project_2, &sum};
+static const struct circuit *const circuits[] = {&product_251, &product_5, &select_2, &project_2, &sum, &square_3, &copy_2};
+enum { CIRCUITS = sizeof circuits / sizeof circuits[0] };
 
 /* ---- one garbling */
 
@@ -168,6 +172,8 @@ static void charges_one(uint32_t account)
     garbles("old totals", &product_251, account, 0, some, 0, 0, with(some, account, some[account] + 502));
     garbles("no rows", &sum, account, 0, some, 0, 0, some);
     garbles("two rows", &project_2, account, 0, some, 0, 0, with(some, account, some[account] + 2));
+    garbles("a square", &square_3, account, 0, some, 0, 0, with(some, account, some[account] + 3));
+    garbles("a bit times itself", &copy_2, account, 0, some, 0, 0, some);
     garbles("an output for party 1", &names_1, account, 0, some, 0, 0, with(some, account, some[account] + 10));
 }
 
@@ -178,6 +184,7 @@ static void limits_one(uint32_t account)
     garbles("ten rows to the limit, the others full", &product_5, account, 0, with(full, account, limit - 10), 0, 0, full);
     garbles("the others full", &product_5, account, 0, with(full, account, 0), 0, 0, with(full, account, 10));
     garbles("no rows in a full account", &sum, account, 0, full, 0, 0, full);
+    garbles("a bit times itself in a full account", &copy_2, account, 0, full, 0, 0, full);
     refuses("ten rows past the limit", &product_5, account, 0, with(empty, account, limit - 9), 21, 0);
     refuses("a full account, the others empty", &product_5, account, 0, with(empty, account, limit), 21, 0);
     refuses("a full account, the others not", &project_2, account, 0, with(some, account, limit), 21, 0);
@@ -291,7 +298,7 @@ static void reckoned_apart(void)
     held.meter.totals[4] = (uint32_t)(sums[4] = limit - 900);
     int full_met = 0;
     for (int i = 0; i < 1000; i++) {
-        const struct circuit *c = circuits[drawn(5)];
+        const struct circuit *c = circuits[drawn(CIRCUITS)];
         const uint32_t account = drawn(10);
         const uint32_t due = account >= ACCOUNTS ? 25 : sums[account] + c->rows > limit ? 21 : 0;
         lupiknam_answer answer = garble(c, account, 0);

@@ -286,7 +286,15 @@ static uint64_t times(uint64_t x, uint64_t y, uint64_t m)
     return sum;
 }
 
-/* A product has 2p rows for each prime p, a square p, a project p, sums and scales none. */
+static uint32_t rows_for_two(uint32_t r)
+{
+    uint32_t rows = 0;
+    check(answers(lupiknam_pair_read(circuit, circuit_length, &rows), 0), "reading for two", r);
+    return rows;
+}
+
+/* A product has 2p rows for each prime p, a square p, but none at 2, where it is a copy; a project has p, sums and scales none. For two a
+   product has 2p - 2, a square too, at every prime. */
 static void computes(uint32_t r)
 {
     const uint64_t m = products[r], some[] = {0, 1, 2, m / 2, m - 2, m - 1, 6700417 % m, 4294967296 % m, 3037000500 % m};
@@ -300,8 +308,10 @@ static void computes(uint32_t r)
         check(rows_of(r) == 0 && result_of(r, x, y) == (x + y) % m, "a sum", r);
         build(MULTIPLY, r, 0, r);
         check(rows_of(r) == 2 * sum && result_of(r, x, y) == times(x, y, m), "a product", r);
+        check(rows_for_two(r) == 2 * (sum - r), "a product for two", r);
         build(MULTIPLY, r, r, r);
-        check(rows_of(r) == sum && result_of(r, x, y) == times(y, y, m), "a square", r);
+        check(rows_of(r) == sum - 2 && result_of(r, x, y) == times(y, y, m), "a square", r);
+        check(rows_for_two(r) == 2 * (sum - r), "a square for two", r);
         build(SCALE, r, 0, y);
         rows = 0;
         for (uint32_t p = 0; p < r; p++)

@@ -229,7 +229,16 @@ struct round {
     uint8_t *decoded;
 };
 
-/* By the records of the file: one key for an input, a project and a square, two for another product, none for an add and a scale. */
+/* One key for an input, a project and a square, two for another product, none for an add, a scale and a bit times itself. */
+static uint8_t keys_in_record(const lupiknam_record *of, uint8_t modulus)
+{
+    const int square = of->kind == 5 && of->a == of->b;
+    if (of->kind == 3 || of->kind == 4 || (square && modulus == 2))
+        return 0;
+    return of->kind == 5 && !square ? 2 : 1;
+}
+
+/* By the records of the file; a wire's modulus goes by its number, as in drawing. */
 static void list_keys(struct round *r)
 {
     size_t entries = 0;
@@ -239,7 +248,7 @@ static void list_keys(struct round *r)
     uint8_t *tables = room(entries);
     must(lupiknam_records(r->file, r->length, records, r->wires + r->outputs, tables, entries), "loading");
     for (uint32_t w = 0; w < r->wires; w++)
-        r->keys_of[w] = records[w].kind == 3 || records[w].kind == 4 ? 0 : records[w].kind == 5 && records[w].a != records[w].b ? 2 : 1;
+        r->keys_of[w] = keys_in_record(&records[w], primes[w % R]);
     free(records);
     free(tables);
 }

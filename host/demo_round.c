@@ -338,7 +338,7 @@ static const struct wire *wire_named(const struct circuit *c, uint32_t word) {
     return &c->wire[word & 0x3FF];
 }
 
-// is it a multiply of a wire by itself? It has the rows and the record of a projection
+// is it a multiply of a wire by itself? It has the rows and the record of a projection, but of a bit it is a copy, which has neither
 static bool is_square(uint32_t word) {
     return word >> 28 == MULTIPLY && (word >> 10 & 0x3FF) == (word & 0x3FF);
 }
@@ -351,9 +351,9 @@ static struct wire wire_of(const struct circuit *c, uint32_t word, uint32_t next
         return (struct wire){kind, word >> 16 & 0xFF, word & 0xFF, 0, 1, 0};
     case PROJECT:
         return (struct wire){kind, 0, word >> 10 & 0xFF, p, 1, p - 1};
-    case MULTIPLY: // in the two-party form a square is a product like any other
+    case MULTIPLY: // in the two-party form a square is a product like any other, of a bit too
         if (is_square(word))
-            return (struct wire){kind, 0, p, p, 1, 2 * p - 2};
+            return p == 2 ? (struct wire){kind, 0, p, 0, 0, 2 * p - 2} : (struct wire){kind, 0, p, p, 1, 2 * p - 2};
         return (struct wire){kind, 0, p, 2 * p, 2, 2 * p - 2};
     case SELECT: // which the two-party form has not
         return (struct wire){kind, 0, p, 2 * p + 2, 3, 0};

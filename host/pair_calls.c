@@ -63,7 +63,8 @@ enum { WIRES = 11, INPUTS = 3, OUTPUTS = 11, MODULI = 4, ROWS = 23 };
 
 static const unsigned modulus[WIRES] = {5, 5, 2, 5, 5, 3, 5, 5, 2, 5, 7}, moduli[MODULI] = {2, 3, 5, 7};
 
-/* A circuit with every kind of gate but a select, whose wires are all outputs; with a selector its first is word 14, after a table. */
+/* A circuit with every kind of gate but a select, whose wires are all outputs; with a selector its first is word 14, after a table. A bit
+   times itself, a copy in a ring, is a product here, with 2 rows. */
 static void lay_circuit(unsigned wrong)
 {
     file_length = 0;
@@ -305,7 +306,8 @@ static const struct {
     {{0x10000000, 0x200000FB, 0x200100FB, 0x50000001, 0xA0000002, 0xB0000000}, 6, 0, 0, 500},
     {{0x10000000, 0x200100FB, 0x50000000, 0xA0000001, 0xB0000000}, 5, 0, 0, 500},
     {{0x10000000, 0x20000002, 0x20010002, 0x50000001, 0xA0000002, 0xB0000000}, 6, 0, 0, 2},
-    {{0x10000000, 0x20000002, 0x50000000, 0xA0000001, 0xB0000000}, 5, 0, 0, 2},
+    {{0x10000000, 0x20000002, 0x50000000, 0xA0000001, 0xB0000000}, 5, 0, 0, 2}, /* a bit times itself, which is a copy in a ring alone */
+    {{0x10000000, 0x20000002, 0x50000000, 0x50000401, 0xA0000002, 0xB0000000}, 6, 0, 0, 4},
     {{0x10000000, 0x20010002, 0x60000800, 0x70000001, 0x70000000, 0xA0000001, 0xB0000000}, 7, 0, 0, 1},
     {{0x10000000, 0x20000005, 0x20010005, 0x30000001, 0x40000C02, 0xA0000003, 0xB0000000}, 7, 0, 0, 0},
     {{0x10000000, 0x20070005, 0xA0000000, 0xB0000000}, 4, 0, 0, 0}, /* owners are not looked at */

@@ -26,18 +26,21 @@ static const uint32_t circuit[] = {
     0x50001405, /* wire 6: wire 5 times itself                                      */
     0x60001C06, /* wire 7: wire 6 by a table, modulus 7; the images of 0 to 4 follow */
     0x70000001, 0x70000002, 0x70000003, 0x70000004, 0x70000005,
-    0x80000002, /* wire 8: by the bit on wire 2, one of the two wires that follow   */
+    0x50000802, /* wire 8: wire 2 times itself, a bit: a copy of wire 2             */
+    0x80000008, /* wire 9: by the bit on wire 8, one of the two wires that follow   */
     0x90001403, /*         wire 5 where it is 0, wire 3 where it is 1               */
     0xA0000007, /* output: wire 7, for every party                                  */
-    0xA0000808, /* output: wire 8, for party 1 alone (bit 11)                       */
+    0xA0000809, /* output: wire 9, for party 1 alone (bit 11)                       */
     0xA0001405, /* output: wire 5, for parties 0 and 2 (bits 10 and 12)             */
     0xB0000000, /* end                                                              */
 };
 
 enum { WORDS = sizeof circuit / sizeof circuit[0], INPUTS = 3, OUTPUTS = 3, ROWS = 32, ROUNDS = 3, ACCOUNTS = 8, NOT_READ = 255 };
+enum { BIT = 2, COPY = 8 }; /* wires */
 
 /* Values of the inputs, and the outputs, worked out by hand: for 3, 4 and 1 wire 3 is 2, wire 4 is 1, wire 5 is 4, wire 6 is 1, wire 7 is 2,
-   and wire 8 is wire 3. The rows are 10 of the product, 5 of the square, 5 of the table and 2 * 5 + 2 of the choice. */
+   wire 8 is 1, and wire 9 is wire 3. The rows are 10 of the product, 5 of the square, 5 of the table, none of the bit times itself, and 2 * 5
+   + 2 of the choice. */
 static const uint8_t values[ROUNDS][INPUTS] = {{3, 4, 1}, {3, 4, 0}, {4, 3, 1}};
 static const uint8_t figures[ROUNDS][OUTPUTS] = {{2, 2, 4}, {2, 4, 4}, {5, 2, 3}};
 
@@ -80,6 +83,15 @@ static uint8_t *room(size_t bytes)
         exit(1);
     }
     return at;
+}
+
+/* A bit times itself is opened as its wire is: every party's key, and the external value. */
+static void copied(const uint8_t *wire_keys, const uint8_t *wire_externals, size_t row)
+{
+    if (memcmp(wire_keys + COPY * row, wire_keys + BIT * row, row) == 0 && wire_externals[COPY] == wire_externals[BIT])
+        return;
+    fprintf(stderr, "opening: the copy is not its wire\n");
+    exit(1);
 }
 
 /* ---- who reads what: by the names in the output words, which stand before the end word */
@@ -169,8 +181,10 @@ static void list_wires(const uint8_t *file, size_t words, struct wire *wires)
         case 4: /* scale */
             *next = (struct wire){wires[word & 1023].modulus, 0, 0};
             break;
-        case 5: /* multiply: of a wire by itself, a square, it has a projection's record */
-            *next = (struct wire){wires[word & 1023].modulus, 0, (word >> 10 & 1023) == (word & 1023) ? 1 : 2};
+        case 5: /* multiply: of a wire by itself, a square, it has a projection's record, and of a bit by itself, a copy, none */
+            *next = (struct wire){wires[word & 1023].modulus, 0, 2};
+            if ((word >> 10 & 1023) == (word & 1023))
+                next->keys = next->modulus == 2 ? 0 : 1;
             break;
         case 6: /* project */
             *next = (struct wire){word >> 10 & 255, 0, 1};
@@ -271,6 +285,7 @@ static void play(const uint8_t *file, size_t length, uint32_t n, uint32_t k, int
     for (uint32_t party = 0; party < n; party++) {
         must(lupiknam_open(file, length, n, k, party, round, contributions + party * size, size, externals, inputs, keys, inputs * row,
                  row_bytes, rows * row, wire_keys, wires * row, wire_externals, wires), "opening");
+        copied(wire_keys, wire_externals, row);
         memcpy(sheet, sheets + party * sheet_length, sheet_length);
         own_alone(sheet, party);
         must(lupiknam_decode(file, length, n, party, wire_externals, wires, sheet, sheet_length, decoded, outputs), "decoding");

@@ -34,7 +34,8 @@
  * record for each wire in the order of the wires, by the kind of the wire:
  *
  *   input, project   zero key; mask share
- *   multiply         zero key, first-part key; mask share, first-part share; but of a wire by itself, a square, as a project
+ *   multiply         zero key, first-part key; mask share, first-part share; but of a wire by itself, a square, as a project, and of a
+ *                    bit, a wire of modulus 2, by itself nothing: it is a copy, with that wire's keys, mask and external value, and no rows
  *   select           zero key, two first-part keys; mask share, two first-part shares (of the product of bit and difference)
  *   add, scale       nothing
  *
@@ -310,7 +311,7 @@ lupiknam_answer lupiknam_bundle_add(
 
 /*
  * Writes the part of a circuit that multiplies two bundles: as lupiknam_bundle_add, with the product for the sum. Where a and b are the
- * same, the gates are squares.
+ * same, the gates are squares, and that of prime 2 is a copy.
  */
 lupiknam_answer lupiknam_bundle_multiply(
     uint32_t r, uint32_t first, uint32_t a, uint32_t b,
@@ -529,7 +530,7 @@ lupiknam_answer lupiknam_decode(
  * two. The rows are
  *
  *   project    p - 1, where p is the modulus of the wire that it names
- *   multiply   2 * p - 2, where p is its modulus; of a wire by itself too, which in a ring has p
+ *   multiply   2 * p - 2, where p is its modulus; of a wire by itself too, which in a ring has p, or none where it is a bit
  *   others     none
  *
  * Only the garbler's keys exist. The key for value v is the wire's zero key plus v times the offset of the wire's modulus. Component 0 of a

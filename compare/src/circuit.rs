@@ -62,11 +62,18 @@ impl<'f> Wire<'f> {
         matches!(self.gate, Gate::Multiply { a, b } if a == b)
     }
 
+    /// Whether this wire is a bit times itself, and so a copy of that bit.
+    pub fn is_copy(&self) -> bool {
+        self.is_square() && self.modulus == 2
+    }
+
     /// The gate that this wire is garbled and opened as: its own, but for a square, which is
-    /// garbled as a projection. All that has to do with rows or records asks for this gate; the
-    /// plain value, the kind and the file's words are those of the wire's own.
+    /// garbled as a projection or, of a bit, not at all: keys, mask and external value are those of
+    /// the bit, as those of its multiple by 1 are. All that has to do with rows or records asks for
+    /// this gate; the plain value, the kind and the file's words are those of the wire's own.
     pub fn garbled(&self) -> Gate<'f> {
         match self.gate {
+            Gate::Multiply { a, .. } if self.is_copy() => Gate::Scale { constant: 1, a },
             Gate::Multiply { a, .. } if self.is_square() => Gate::Project {
                 a,
                 table: Table::Squares(self.modulus),
@@ -504,17 +511,20 @@ mod tests {
         assert_eq!(rows(&project), 2);
     }
 
-    /// A wire times itself has as many rows as a projection of it, half as many as other products.
+    /// A wire times itself has as many rows as a projection of it, half as many as other products; a
+    /// bit times itself has none.
     #[test]
     fn rows_of_squares() {
-        for (p, due) in [(2, 2), (3, 3), (251, 251)] {
+        for (p, due) in [(2, 0), (3, 3), (251, 251)] {
             let square = [HEAD, input(0, p), multiply(0, 0), output(1), END];
             assert_eq!(rows(&square), due);
         }
-        // A wire of the same value is not the same wire: 2·251.
-        let copied = [scale(1, 0), multiply(0, 1), output(2), END];
-        let copied = [&[HEAD, input(0, 251)], &copied[..]].concat();
-        assert_eq!(rows(&copied), 502);
+        // A wire of the same value is not the same wire: 2·2, 2·251.
+        for (p, due) in [(2, 4), (251, 502)] {
+            let equal = [scale(1, 0), multiply(0, 1), output(2), END];
+            let equal = [&[HEAD, input(0, p)], &equal[..]].concat();
+            assert_eq!(rows(&equal), due);
+        }
         // A product, the square of a sum, and the square of that square: 10 + 5 + 5.
         let gates = [multiply(0, 1), add(0, 1), multiply(3, 3), multiply(4, 4)];
         let mixed = [

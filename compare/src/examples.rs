@@ -140,9 +140,38 @@ fn rows() -> Vec<Line> {
             Rows(251),
         ),
         (
-            "square at 2",
+            "square at 3",
+            vec![HEAD, input(0, 3), multiply(0, 0), output(1), END],
+            Rows(3),
+        ),
+        (
+            "a bit times itself",
             vec![HEAD, input(0, 2), multiply(0, 0), output(1), END],
-            Rows(2),
+            Rows(0),
+        ),
+        (
+            "a bit times itself, and that times itself",
+            vec![
+                HEAD,
+                input(0, 2),
+                multiply(0, 0),
+                multiply(1, 1),
+                output(2),
+                END,
+            ],
+            Rows(0),
+        ),
+        (
+            "a bit times its copy",
+            vec![
+                HEAD,
+                input(0, 2),
+                multiply(0, 0),
+                multiply(0, 1),
+                output(2),
+                END,
+            ],
+            Rows(4),
         ),
         (
             "select at 2",

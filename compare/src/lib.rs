@@ -8,6 +8,8 @@ pub mod bundle;
 mod bundle_tests;
 pub mod circuit;
 pub mod contribution;
+#[cfg(test)]
+mod copy_tests;
 pub mod decode;
 pub mod garble;
 pub mod generate;

@@ -3,7 +3,9 @@
 use crate::circuit::{Gate, read as read_circuit};
 use crate::contribution::{combined, scaled};
 use crate::generate::circuits::all_moduli;
-use crate::generate::pair_example::{MASKS, PADS, ROUND, ROWS, by_hand};
+use crate::generate::pair_example::{
+    BIT_MASKS, BIT_PADS, BIT_ROWS, MASKS, PADS, ROUND, ROWS, bit_by_hand, by_hand,
+};
 use crate::generate::pair_settings::{PairSetting, setting};
 use crate::generate::settings::below;
 use crate::pad::Row;
@@ -180,22 +182,27 @@ fn rows_of_every_modulus() {
     }
 }
 
-/// A bit times itself has two rows, and they open to the bit.
+/// A bit times itself is a product here, with the rows and the mask worked through by hand. The keys of
+/// the bit and of the product are (1, 0, 0) and (0, 1, 0) for the value 0, both the other way about for 1.
 #[test]
 fn a_bit_times_itself() {
-    let words = [HEAD, input(1, 2), multiply(0, 0), output(1), END];
-    for (mask, value) in [(0, 0), (0, 1), (1, 0), (1, 1)] {
-        let played = play(&PairSetting {
-            file: word::file(&words),
-            k: 3,
-            round: 5,
-            account: 6,
-            // Offset; zero key.
-            draw: vec![1, 0, 1, mask, 1, 1],
-            values: vec![value],
-        });
-        assert_eq!(played.rows.len(), 2 * 3);
-        assert_eq!(played.decoded, [value]);
+    let row = |component: u8| Row {
+        round: ROUND,
+        modulus: 2,
+        wire: 1,
+        component,
+        receiving: 2,
+    };
+    let keys = [[0, 1, 0], [1, 0, 0]];
+    let pads = [0, 1].map(|component| keys.map(|key| row(component).pads(0, &[key])));
+    let pads = pads.concat().concat();
+    assert!(pads.into_iter().eq(BIT_PADS.map(i32::from)));
+    for (bit, keys) in [(0, [1, 0, 0, 0, 1, 0]), (1, [0, 1, 0, 1, 0, 0])] {
+        let played = play(&bit_by_hand(bit));
+        assert_eq!(played.rows, BIT_ROWS);
+        assert_eq!(played.output_masks, BIT_MASKS);
+        assert_eq!(played.wire_keys, keys);
+        assert_eq!(played.decoded, [bit]);
     }
 }
 

@@ -92,9 +92,6 @@ mod tests {
             price_sheet(text),
             format!("wire kind modulus rows\n{expected}")
         );
-        let bit = b"10000000\n20000002\n50000000\nA0000001\nB0000000\n";
-        let expected = "wire kind modulus rows\n0 2 2 0\n1 5 2 2\ntotal 2\n";
-        assert_eq!(price_sheet(bit), expected);
     }
 
     #[test]

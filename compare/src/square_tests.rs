@@ -3,7 +3,7 @@
 use crate::circuit::{Counts, read};
 use crate::contribution::{Contribution, length};
 use crate::generate::circuits::all_moduli;
-use crate::generate::old_layout::{in_old_layout, old_rows};
+use crate::generate::old_layout::Layout::BeforeSquares;
 use crate::generate::settings::Setting;
 use crate::pad::Row;
 use crate::rng::Rng;
@@ -49,11 +49,11 @@ fn counts_and_lengths_of_a_variance_circuit() {
         records: 3 + 4,
     };
     assert_eq!(circuit.counts(), expected);
-    assert_eq!(old_rows(&circuit), 4 * 14);
+    assert_eq!(BeforeSquares.total_rows(&circuit), 4 * 14);
     // K·Q + (K + 1)·(I + P), the squares in P: 2·1 + 3·(3 + 4) = 23.
     assert_eq!(length(&circuit, 2), 23);
     // With the squares in M it was 2·1 + 3·(3 + 2·4) = 35.
-    let old = in_old_layout(&circuit, 2, &[1; 23], &mut Rng::new(1));
+    let old = BeforeSquares.contributions(&circuit, 2, &[1; 23], &mut Rng::new(1));
     assert_eq!(old.len(), 35);
     // At the largest key length 128 + 129·7 = 1031.
     assert_eq!(length(&circuit, 128), 1031);
@@ -160,26 +160,11 @@ fn a_square_is_opened() {
     assert_eq!(played.decoded, [4]);
 }
 
-/// A bit times itself is no exception: it has 2 rows.
-#[test]
-fn a_bit_times_itself_has_two_rows() {
-    let file = word::file(&[HEAD, input(0, 2), multiply(0, 0), output(1), END]);
-    let circuit = read(&file).unwrap();
-    assert_eq!(circuit.counts().rows, 2);
-    // 1·1 + 2·(1 + 1), for a bit and its square.
-    assert_eq!(length(&circuit, 1), 5);
-    for bit in [0, 1] {
-        let mut setting = Setting::new(file.clone(), (2, 1, ROUND, 3), &mut Rng::new(3));
-        setting.values = vec![bit];
-        assert_eq!(play(&setting).decoded, [bit]);
-    }
-}
-
-/// The largest value at every modulus: −1 squared is 1.
+/// The largest value at every modulus from 3 on: −1 squared is 1.
 #[test]
 fn squares_of_every_modulus_are_decoded() {
     let mut rng = Rng::new(7);
-    for p in all_moduli() {
+    for p in all_moduli().into_iter().skip(1) {
         let file = word::file(&[HEAD, input(0, p), multiply(0, 0), output(1), END]);
         let mut setting = Setting::new(file, (2, 1, ROUND, 3), &mut rng);
         setting.values = vec![p as u8 - 1];

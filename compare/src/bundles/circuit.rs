@@ -2,7 +2,7 @@
 //! read it, joined, is the integer result.
 
 use super::case::Case;
-use super::laws::{PART_WRITTEN, PLAIN_DECODED, RESULT_JOINED, RESULT_KEPT};
+use super::laws::{PART_ROWS, PART_WRITTEN, PLAIN_DECODED, RESULT_JOINED, RESULT_KEPT};
 use super::part::{Held, Part, SORTS, Source};
 use crate::call::ACCEPTED;
 use crate::round;
@@ -141,11 +141,15 @@ impl Case<'_> {
             let part = Part::drawn(sort, draft.next_bundle(*r), held, &mut self.rng);
             sort = self.rng.pick(&SORTS);
             let words = self.written(&part)?;
+            let before = self.rows(&draft.file_so_far());
             held.push(Held {
                 bundle: draft.part(*r, &words),
                 integer: part.integer(),
                 source: Source::Part,
             });
+            let due = before.map(|before| before + part.rows());
+            let rows = self.rows(&draft.file_so_far());
+            self.law(PART_ROWS, rows.is_some() && rows == due);
             parts.push(part);
         }
         draft.gates(left);

@@ -8,17 +8,19 @@ pub const FIRST_FAULT: &str = "the first of the faults put in is named";
 pub const SPLIT_JOINS: &str = "what is split joins to the same";
 pub const JOINED_SPLITS: &str = "what is joined splits to the same";
 pub const PART_WRITTEN: &str = "a part with no fault is written";
+pub const PART_ROWS: &str = "a part has the rows of its gates, a square none of modulus 2";
 pub const FILE_ACCEPTED: &str = "a circuit with parts is accepted";
 pub const PLAIN_DECODED: &str = "every party decodes the plain outputs that it may read";
 pub const RESULT_JOINED: &str = "what is decoded joins to the integer result";
 pub const RESULT_KEPT: &str = "a figure for others is 255 throughout";
 
 /// All of them; a thorough run looks at each with every number of primes.
-pub const LAWS: [&str; 8] = [
+pub const LAWS: [&str; 9] = [
     FIRST_FAULT,
     SPLIT_JOINS,
     JOINED_SPLITS,
     PART_WRITTEN,
+    PART_ROWS,
     FILE_ACCEPTED,
     PLAIN_DECODED,
     RESULT_JOINED,
@@ -48,6 +50,12 @@ impl Case<'_> {
         let split = joined.and_then(|integer| self.split(r, integer));
         let holds = split.is_some_and(|split| split == residues);
         self.law(JOINED_SPLITS, holds);
+    }
+
+    /// How many rows the engine says that a circuit has.
+    pub fn rows(&self, file: &[u8]) -> Option<u32> {
+        let after = engine::run(file, &Call::Read);
+        (after.answer == ACCEPTED).then_some(after.loan.numbers[3])
     }
 
     /// Whether both programs accept a file that has parts among its gates.

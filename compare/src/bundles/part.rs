@@ -2,7 +2,9 @@
 
 use super::call::{Call, Name};
 use compare::generate::bundle_circuits::Bundle;
-use compare::generate::bundle_numbers::{integer_with_zeros, product_of, words_of_scale};
+use compare::generate::bundle_numbers::{
+    integer_with_zeros, primes_of, product_of, words_of_scale,
+};
 use compare::rng::Rng;
 
 #[derive(Clone, Copy, Debug, PartialEq, Eq, PartialOrd, Ord)]
@@ -127,6 +129,19 @@ impl Part {
             before: rng.next_u64(),
             nulls: false,
         }
+    }
+
+    /// The rows of its gates: for each prime p none of a sum or a scale, 2p of a product, and p of a
+    /// projection to 0 or of a square, but of a bit's square none.
+    pub fn rows(&self) -> u32 {
+        let of_gate = |p: u32| match self.sort {
+            Add | Double => 0,
+            Multiply => 2 * p,
+            Square if p == 2 => 0,
+            Scale | ScaleWithZeros | ScaleByZero if !self.constant.is_multiple_of(p.into()) => 0,
+            _ => p,
+        };
+        primes_of(self.made.r).into_iter().map(of_gate).sum()
     }
 
     /// The integer result modulo the product.

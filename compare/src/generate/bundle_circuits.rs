@@ -108,6 +108,12 @@ impl<'r> Draft<'r> {
         Some(values)
     }
 
+    /// The file of the circuit so far, with one output.
+    pub fn file_so_far(&self) -> Vec<u8> {
+        let words = self.builder.words();
+        word::file(&[words, &[word::output(0), END]].concat())
+    }
+
     /// So many outputs of any wires, for any of the parties.
     pub fn outputs(&mut self, count: usize) {
         for _ in 0..count {

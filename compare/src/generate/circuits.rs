@@ -77,7 +77,7 @@ fn every_modulus(rng: &mut Rng) -> Vec<u32> {
 }
 
 /// For each of the 54 moduli, of two inputs: the square of one, their product, the square of their
-/// sum, and the square of the first square.
+/// sum, the square of the first square, and the product of the one with its square.
 pub fn every_square() -> Vec<u32> {
     let primes = all_moduli();
     let inputs = primes.iter().flat_map(|p| [word::input(0, *p); 2]);
@@ -85,11 +85,12 @@ pub fn every_square() -> Vec<u32> {
     let gates = 2 * primes.len() as u32;
     for index in 0..primes.len() as u32 {
         let (a, b) = (2 * index, 2 * index + 1);
-        // The first of this modulus's five gates.
-        let square = gates + 5 * index;
+        // The first of this modulus's six gates.
+        let square = gates + 6 * index;
         let sum = square + 2;
         words.extend([word::multiply(a, a), word::multiply(a, b), word::add(a, b)]);
-        words.extend([word::multiply(sum, sum), word::multiply(square, square)]);
+        words.extend([sum, square].map(|wire| word::multiply(wire, wire)));
+        words.push(word::multiply(a, square));
     }
     words.extend([word::output(gates), END]);
     words
@@ -240,13 +241,18 @@ impl<'r> Builder<'r> {
     }
 
     fn gate_on(&mut self, a: u32) {
-        match self.rng.below(7) {
+        match self.rng.below(8) {
             0 => self.two_wired(a, word::add),
             1 => self.two_wired(a, word::multiply),
-            // Squares are garbled in their own way, so they are at least as likely as others.
-            2 => self.push_wire(word::multiply(a, a), self.moduli[a as usize]),
-            3 => self.scale(a),
-            4 => {
+            // Squares are garbled in their own way, and a bit's square in another, so they are at least
+            // as likely as other products.
+            2 => self.square(a),
+            3 => {
+                let bit = self.wire_of(2);
+                self.square(bit.unwrap_or(a));
+            }
+            4 => self.scale(a),
+            5 => {
                 let modulus = self.modulus();
                 // Long tables would crowd out everything else.
                 if self.moduli[a as usize] < 20 || self.rng.once_in(4) {
@@ -265,10 +271,11 @@ impl<'r> Builder<'r> {
         // Long tables would crowd out everything else.
         let is_short = self.moduli[from as usize] < 32;
         match self.wire_of(modulus) {
-            Some(a) if !is_short || self.rng.once_in(2) => match self.rng.below(4) {
+            Some(a) if !is_short || self.rng.once_in(2) => match self.rng.below(5) {
                 0 => self.two_wired(a, word::add),
                 1 => self.two_wired(a, word::multiply),
-                2 => self.scale(a),
+                2 => self.square(a),
+                3 => self.scale(a),
                 _ => self.select(a),
             },
             _ => self.project(from, modulus),
@@ -293,6 +300,10 @@ impl<'r> Builder<'r> {
             write(b, a)
         };
         self.push_wire(word, modulus);
+    }
+
+    fn square(&mut self, a: u32) {
+        self.push_wire(word::multiply(a, a), self.moduli[a as usize]);
     }
 
     fn scale(&mut self, a: u32) {
@@ -359,7 +370,7 @@ fn below_or_last(rng: &mut Rng, bound: u32) -> u32 {
 #[cfg(test)]
 mod tests {
     use super::*;
-    use crate::circuit::{Wire, read};
+    use crate::circuit::{Circuit, Gate, Wire, read};
 
     #[test]
     fn good_circuits_are_accepted() {
@@ -391,6 +402,35 @@ mod tests {
         assert!(mixed > 50, "{mixed}");
     }
 
+    /// Bits times themselves at all, as outputs, of copies, and beside squares of other moduli.
+    #[test]
+    fn random_circuits_have_copies() {
+        let mut rng = Rng::new(1);
+        let mut counts = [0; 4];
+        for _ in 0..1000 {
+            let file = word::file(&accepted(&mut rng));
+            let Circuit { wires, outputs, .. } = read(&file).expect("accepted");
+            let is_copy = |wire: u16| wires[usize::from(wire)].is_copy();
+            let of_copy = |wire: &Wire| match wire.gate {
+                Gate::Multiply { a, .. } => wire.is_copy() && is_copy(a),
+                _ => false,
+            };
+            let copy = wires.iter().any(Wire::is_copy);
+            let square = |wire: &Wire| wire.is_square() && !wire.is_copy();
+            let is = [
+                copy,
+                outputs.iter().any(|output| is_copy(output.wire)),
+                wires.iter().any(of_copy),
+                copy && wires.iter().any(square),
+            ];
+            for (count, is) in counts.iter_mut().zip(is) {
+                *count += u32::from(is);
+            }
+        }
+        let mut enough = counts.iter().zip([250, 100, 50, 50]);
+        assert!(enough.all(|(count, due)| *count > due), "{counts:?}");
+    }
+
     #[test]
     fn every_modulus_has_its_squares() {
         let file = word::file(&every_square());
@@ -399,7 +439,8 @@ mod tests {
         let moduli: Vec<u32> = squares.map(|wire| wire.modulus.into()).collect();
         let due: Vec<u32> = all_moduli().into_iter().flat_map(|p| [p; 3]).collect();
         assert_eq!(moduli, due);
-        // Of each prime p a product and three squares, 2p + 3p; the primes add up to 6,081.
-        assert_eq!(circuit.counts().rows, 5 * 6081);
+        // Of each prime p two products and three squares, 4p + 3p, but for those of 2, which have no
+        // rows; the primes add up to 6,081.
+        assert_eq!(circuit.counts().rows, 7 * 6081 - 3 * 2);
     }
 }

@@ -1,4 +1,4 @@
-//! A setting for two that is worked through by hand, and by compare/pair_row.py.
+//! Settings for two that are worked through by hand, and by compare/pair_row.py.
 
 use super::pair_settings::PairSetting;
 use crate::word::{self, END, HEAD, entry, input, multiply, output, project};
@@ -52,3 +52,32 @@ pub const ROWS: [u8; 12] = [
 
 /// The projection's zero key begins with 3; the product's is k′ + k″ = (1, 0).
 pub const MASKS: [u8; 2] = [3, 1];
+
+/// The other circuit of compare/pair_row.py: a bit times itself, which is a product here.
+pub fn bit_by_hand(bit: u8) -> PairSetting {
+    PairSetting {
+        file: word::file(&[HEAD, input(1, 2), multiply(0, 0), output(1), END]),
+        k: 3,
+        round: ROUND,
+        account: 6,
+        // The offset; the bit's zero key, whose mask is 1.
+        draw: vec![1, 1, 0, 1, 0, 0],
+        values: vec![bit],
+    }
+}
+
+/// The pads under the bit's keys for the external values 0 and 1, (0, 1, 0) and (1, 0, 0).
+pub const BIT_PADS: [u8; 12] = [
+    0, 1, 1, 1, 0, 0, // the first half
+    1, 1, 1, 1, 1, 0, // the second
+];
+
+/// Of the first half, which takes v to −v. External value 0 is the value 1, which goes to 1:
+/// k′ + (1, 1, 0) + (0, 1, 1) is all zero, so k′ = (1, 0, 1).
+///   1: value 0 goes to 0: (1, 0, 1) + (1, 0, 0) = (0, 0, 1)
+/// Of the second half, where k″ + (1, 1, 1) is all zero, so k″ = (1, 1, 1).
+///   1: (1, 1, 1) − (1, 0, 0) + (1, 1, 0) = (1, 0, 1)
+pub const BIT_ROWS: [u8; 6] = [0, 0, 1, 1, 0, 1];
+
+/// The square's zero key is k′ + k″ = (0, 1, 0), which is not the bit's.
+pub const BIT_MASKS: [u8; 1] = [0];

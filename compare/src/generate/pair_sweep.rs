@@ -17,7 +17,7 @@ const ZEROS: [&[bool]; 4] = [
     &[true, true],
 ];
 
-/// The sweep is cases 1 to one below this; case 0 is that of the example.
+/// The sweep is cases 1 to one below this; case 0 is that of the examples.
 pub const CASES: u64 = 357;
 
 pub fn circuit(case: u64, rng: &mut Rng) -> Option<Swept> {
@@ -53,8 +53,8 @@ pub fn circuit(case: u64, rng: &mut Rng) -> Option<Swept> {
 }
 
 /// Every kind of gate but a selector, on wires of modulus p, and projections to modulus q and back.
-/// Products are of two inputs, of an input with itself, of a square with itself, and of a sum with a
-/// multiple of it and with a copy, which do not make it a square.
+/// Products are of two inputs, of an input with itself, of a square with itself, and of a sum with
+/// multiples of it, one of them by 1, which do not make it a square.
 fn every_kind(p: u32, q: u32) -> Vec<u32> {
     let image = |value: u32| value * value + value / 2 + 1;
     let mut words = vec![HEAD, word::input(0, p), word::input(0, p)];
@@ -71,7 +71,7 @@ fn every_kind(p: u32, q: u32) -> Vec<u32> {
     // Wires 7 to 10: a square of a square, a sum, a multiple of it, and their product.
     words.extend([word::multiply(3, 3), word::add(2, 6)]);
     words.extend([word::scale(p - 1, 8), word::multiply(8, 9)]);
-    // Wires 11 and 12: a copy of the sum, and their product.
+    // Wires 11 and 12: the sum by 1, and their product.
     words.extend([word::scale(1, 8), word::multiply(8, 11)]);
     words.extend((0..13).map(word::output));
     words.push(END);

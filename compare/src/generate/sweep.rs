@@ -117,12 +117,12 @@ fn named(seats: [u32; 3]) -> Vec<u32> {
     words
 }
 
-/// A square, another product, and the square of that square.
+/// A square, another product, the square of that square, and the product of a wire with its square.
 fn multiplied(modulus: u32) -> Vec<u32> {
     let [one, other] = [0, 1].map(|owner| word::input(owner, modulus));
     let mut words = vec![HEAD, one, other];
-    words.extend([(0, 0), (0, 1), (2, 2)].map(|(a, b)| word::multiply(a, b)));
-    words.extend([word::output(4), END]);
+    words.extend([(0, 0), (0, 1), (2, 2), (0, 2)].map(|(a, b)| word::multiply(a, b)));
+    words.extend([word::output(5), END]);
     words
 }
 
@@ -150,8 +150,8 @@ mod tests {
         assert!(read(&word::file(&GOOD)).is_ok());
     }
 
-    /// Two squares of p rows and a product of 2p; two inputs and two squares with a key each in a
-    /// record, and a product with two.
+    /// Two squares of p rows and two products of 2p; two inputs and two squares with a key each in a
+    /// record, and two products with two. At 2 the squares have neither.
     #[test]
     fn squares_and_products_of_every_modulus() {
         let files = files();
@@ -159,7 +159,8 @@ mod tests {
             let file = word::file(&multiplied(p));
             assert!(files.contains(&file));
             let counts = read(&file).expect("accepted").counts();
-            assert_eq!((counts.rows, counts.records), (4 * p, 6));
+            let due = if p == 2 { (8, 6) } else { (6 * p, 8) };
+            assert_eq!((counts.rows, counts.records), due);
         }
     }
 }

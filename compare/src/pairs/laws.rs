@@ -16,7 +16,7 @@ pub const INPUTS_KEPT: &str = "the opened keys of the inputs are their input key
 pub const KEY_IS_EXTERNAL: &str = "component 0 of every opened key is the external value";
 pub const VALUE_TIMES_OFFSET: &str =
     "two keys of a wire differ by the offset times the difference of the plain values";
-pub const AS_BY_HAND: &str = "rows and masks of the example are those worked through by hand";
+pub const AS_BY_HAND: &str = "rows and masks of the examples are those worked through by hand";
 pub const PLAIN_DECODED: &str = "what is opened decodes to the plain outputs";
 pub const OPENS_ANYWAY: &str =
     "opening takes all keys and rows below their moduli, under any round number";

@@ -28,7 +28,7 @@ pub fn one(seed: u64, number: u64) -> ExitCode {
 }
 
 /// A case: a whole round, openings of it with what is not its own, calls with faults of each sort,
-/// calls that belong to no round, and a sequence of garblings. The first begins with the example.
+/// calls that belong to no round, and a sequence of garblings. The first begins with the examples.
 fn play_case(seed: u64, number: u64, tally: &mut Tally, print: bool) {
     let before = tally.wrong();
     let mut case = Case {
@@ -38,7 +38,7 @@ fn play_case(seed: u64, number: u64, tally: &mut Tally, print: bool) {
         print,
     };
     if number == 0 {
-        case.play_example();
+        case.play_examples();
     }
     let setting = setting(number, &mut case.rng);
     let round = case.play_round(&setting);

@@ -2,7 +2,8 @@
 
 use super::carry::{Carried, Carry};
 use super::chain::Made;
-use super::laws::TOTAL_CARRIED;
+use super::copies::are_copied;
+use super::laws::{COPIED, TOTAL_CARRIED};
 use super::step::Step;
 use super::tally::Tally;
 use super::{engine, second};
@@ -22,6 +23,9 @@ impl Caller<'_> {
             println!("{step}: second {ours}, engine {engines}");
         }
         self.tally.count(self.case, step, &made);
+        if let Some(holds) = are_copied(step, &made.engines) {
+            self.law(COPIED, holds);
+        }
         made
     }
 

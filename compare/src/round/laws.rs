@@ -11,18 +11,22 @@ pub const SAME_SHEET: &str =
 pub const UNREAD_PASSED: &str = "no byte of a sheet where its seat may not read changes a figure";
 pub const LOWEST_COUNTS: &str =
     "15 passes over masks that a seat may not read, and over no external value";
+pub const COPIED: &str = "a copy has the keys and the external value of its bit";
+pub const OLD_LENGTHS: &str = "what is lent in an old layout is refused by 14 at 0";
 pub const TOTALS_RECKONED: &str =
     "after a sequence each total is its start plus the rows accepted in its name";
 pub const TOTAL_CARRIED: &str = "an old total becomes account 0's, the others are 0";
 
 /// All of them; a thorough run looks at each.
-pub const LAWS: [&str; 8] = [
+pub const LAWS: [&str; 10] = [
     FIRST_FAULT,
     FIRST_STRANGER,
     SHEETS_WRITTEN,
     SAME_SHEET,
     UNREAD_PASSED,
     LOWEST_COUNTS,
+    COPIED,
+    OLD_LENGTHS,
     TOTALS_RECKONED,
     TOTAL_CARRIED,
 ];

@@ -5,10 +5,9 @@ use super::chain::play;
 use super::faults::spoiled;
 use super::loose::{loose, on_any_file};
 use super::reopened::reopen;
-use super::squares::lend_old_layout;
 use super::step::{Name, Step};
 use super::tally::Tally;
-use super::{again, carry, order, readers, sequence, strangers, unread};
+use super::{again, carry, old_layouts, order, readers, sequence, strangers, unread};
 use compare::generate::settings::setting;
 use compare::rng::Rng;
 use std::process::ExitCode;
@@ -31,9 +30,9 @@ pub fn one(seed: u64, case: u64) -> ExitCode {
     tally.report()
 }
 
-/// A case: a whole round, openings of it with other round numbers, calls lent the squares' old
-/// layout, calls with faults, what goes with the seats that outputs name, old totals carried over, and
-/// a sequence of garblings.
+/// A case: a whole round, openings of it with other round numbers, calls with faults, calls lent what
+/// has an old layout, what goes with the seats that outputs name, old totals carried over, and a
+/// sequence of garblings.
 fn play_case(seed: u64, case: u64, tally: &mut Tally, print: bool) {
     let mut rng = Rng::of_case(seed, case);
     let setting = setting(case, &mut rng);
@@ -46,7 +45,6 @@ fn play_case(seed: u64, case: u64, tally: &mut Tally, print: bool) {
     let mut count = |step: &Step| caller.make(step);
     let round = play(&setting, &mut rng, &mut count);
     let reopened = reopen(&round, &mut rng, &mut count);
-    let old_layout = lend_old_layout(&round, &mut rng, &mut count);
     for _ in 0..faulty_calls(setting.cost()) {
         let good = one_of(&round.steps, &mut rng);
         count(&spoiled(good, &mut rng));
@@ -55,6 +53,7 @@ fn play_case(seed: u64, case: u64, tally: &mut Tally, print: bool) {
         count(&loose(&setting.file, &mut rng));
         count(&on_any_file(&mut rng));
     }
+    old_layouts::play(&round, &mut rng, &mut caller);
     order::play(&round.steps, &mut rng, &mut caller);
     strangers::play(&round.steps, &mut rng, &mut caller);
     readers::look_at_sheets(&setting, &round, &mut caller);
@@ -65,7 +64,6 @@ fn play_case(seed: u64, case: u64, tally: &mut Tally, print: bool) {
     }
     sequence::play(&mut rng, &mut caller);
     tally.count_round(&setting, &round, &reopened);
-    tally.count_old_layout(&old_layout);
     tally.close_case(before);
 }
 

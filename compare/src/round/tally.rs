@@ -7,21 +7,18 @@ use super::difference::Difference;
 use super::laws::{LAWS, Laws};
 use super::reopened::Reopened;
 use super::several::sorts;
-use super::squares::{self, SORTS};
 use super::step::{NAMES, Name, Step};
-use super::{due, readers};
-use crate::call::Answer;
+use super::{copies, due, readers, squares};
 use crate::counts::Counts;
 use crate::smallest::Smallest;
-use compare::generate::circuits::all_moduli;
 use compare::generate::round_numbers::{WAYS, has_different_bytes};
 use compare::generate::settings::Setting;
 use std::collections::BTreeMap;
 use std::process::ExitCode;
 
 /// A run of this many cases must meet every refusal that each call can give, 16 and 18 with several
-/// bytes too large, the round numbers below, squares of each sort at every modulus, the refusals of
-/// their old layout, what is counted of accounts and of the seats that outputs name, and each law.
+/// bytes too large, the round numbers below, what is counted of accounts, of squares, of copies and of
+/// the seats that outputs name, and each law.
 const THOROUGH: u64 = 1000;
 
 /// A sort of round numbers, by its name.
@@ -41,7 +38,6 @@ pub struct Tally {
     pub differences: u64,
     rounds: u64,
     wrong_rounds: u64,
-    wrong_refusals: u64,
     passed: u64,
     failed: u64,
     /// How often each call gave each number, 0 where it was accepted.
@@ -53,12 +49,8 @@ pub struct Tally {
     /// How often opening gave each number where the round number was not garbling's, by the way in
     /// which it differed.
     reopened: BTreeMap<(&'static str, u32), u64>,
-    /// How many rounds with a square of each sort and modulus were right.
-    squares: BTreeMap<(&'static str, u8), u64>,
-    /// How often each call refused a contribution in the squares' old layout.
-    old_layout: BTreeMap<Name, u64>,
     pub accounts: AccountTally,
-    /// What was met of the seats that outputs name.
+    /// What was met of squares, of copies, of old layouts and of the seats that outputs name.
     pub counts: Counts,
     pub laws: Laws,
     smallest: Smallest<Difference>,
@@ -108,15 +100,14 @@ impl Tally {
         self.wrong_rounds += u64::from(!right);
         if right {
             readers::count(setting, &mut self.counts);
+            squares::count(setting, &mut self.counts);
+            copies::count(setting, &mut self.counts);
         }
         if setting.rows() == 0 {
             return;
         }
         if right {
             self.accounts.count_round(&round.steps[0]);
-            for sort in squares::sorts(setting) {
-                *self.squares.entry(sort).or_default() += 1;
-            }
         }
         for (sort, is) in NUMBERS {
             let so = right && is(setting.round);
@@ -124,19 +115,6 @@ impl Tally {
         }
         for (way, answer) in reopened {
             *self.reopened.entry((way, answer.number)).or_default() += 1;
-        }
-    }
-
-    /// Counts calls that were lent a contribution in the squares' old layout: its length is wrong.
-    pub fn count_old_layout(&mut self, answers: &[(Name, Answer)]) {
-        let wrong_length = Answer {
-            number: 14,
-            place: 0,
-        };
-        for (name, answer) in answers {
-            let refused = *answer == wrong_length;
-            *self.old_layout.entry(*name).or_default() += u64::from(refused);
-            self.wrong_refusals += u64::from(!refused);
         }
     }
 
@@ -151,7 +129,7 @@ impl Tally {
 
     /// All that went wrong so far.
     pub fn wrong(&self) -> u64 {
-        self.differences + self.wrong_rounds + self.wrong_refusals + self.laws.broken()
+        self.differences + self.wrong_rounds + self.laws.broken()
     }
 
     pub fn print_differences(&self, seed: u64) {
@@ -165,8 +143,8 @@ impl Tally {
     }
 
     /// Prints the counts; the run failed if anything is wrong, or if a long run missed a refusal, a
-    /// sort of several bytes too large, a sort of round numbers, a sort of squares, something of
-    /// accounts or of named seats, or a law.
+    /// sort of several bytes too large, a sort of round numbers, something of accounts, of squares, of
+    /// copies or of named seats, or a law.
     pub fn report(mut self) -> ExitCode {
         let count = self.passed + self.failed;
         let mut missed = Vec::new();
@@ -176,8 +154,6 @@ impl Tally {
         missed.extend(self.line_of_several());
         missed.extend(self.line_of_numbers());
         missed.extend(self.line_of_reopened());
-        missed.extend(self.line_of_squares());
-        missed.extend(self.line_of_old_layout());
         missed.extend(self.accounts.lines());
         for due in due::all() {
             missed.extend(self.counts.lines(&due));
@@ -256,40 +232,5 @@ impl Tally {
         }
         println!("open with another round number {}", counts.join("; "));
         missed
-    }
-
-    /// Prints at how many moduli right rounds had each sort of squares, and gives what was never met.
-    fn line_of_squares(&self) -> Vec<String> {
-        let mut counts = Vec::new();
-        let mut missed = Vec::new();
-        for sort in SORTS {
-            let times = |p: &u8| self.squares.get(&(sort, *p)).copied();
-            let moduli = all_moduli().into_iter().map(|p| p as u8);
-            let (met, never): (Vec<u8>, Vec<u8>) = moduli.partition(|p| times(p).is_some());
-            let all: u64 = met.iter().filter_map(times).sum();
-            counts.push(format!("{sort}: {all} at {} moduli", met.len()));
-            if !never.is_empty() {
-                missed.push(format!("square {sort} at {never:?}"));
-            }
-        }
-        println!("right rounds with squares {}", counts.join(", "));
-        missed
-    }
-
-    /// Prints how often each call refused the squares' old layout, and gives those that never did.
-    fn line_of_old_layout(&self) -> Vec<String> {
-        let names = NAMES.into_iter().filter(|name| name.has_contribution());
-        let times = |name: Name| self.old_layout.get(&name).copied().unwrap_or_default();
-        let line = |name: Name| format!("{}: {}", name.text(), times(name));
-        let counts: Vec<String> = names.clone().map(line).collect();
-        println!(
-            "squares in the old layout, refused by 14: {}; not so: {}",
-            counts.join(", "),
-            self.wrong_refusals
-        );
-        let never = names.filter(|name| times(*name) == 0);
-        never
-            .map(|name| format!("{} lent squares in the old layout", name.text()))
-            .collect()
     }
 }

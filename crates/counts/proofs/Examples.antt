@@ -1,9 +1,10 @@
--- The counts of a small circuit with a gate of each kind, computed from the definitions, and rows of a table, a product and a square.
+-- The counts of a small circuit with a gate of each kind, computed from the definitions, and rows of a table, a product, a square, a bit times itself
+-- and a bundle times itself.
 -- Document 01's row counts stand with the other marked cases, in the crate examples.
 -- Assumes nothing.
 use mathlib.Core.Path.{_≡_, refl}
-use mathlib.Core.List.{List, [], _∷_}
-use Prim.Native.Nat.{ℕ}
+use mathlib.Core.List.{List, [], _∷_, _++_, map}
+use Prim.Native.Nat.{ℕ, suc}
 use Rattle.lists.specs.Blocks.{sumTo}
 use Rattle.residue.specs.Residue.{mul}
 use Rattle.words.specs.declared.gate.Gate.{Gate}
@@ -11,7 +12,7 @@ use Rattle.words.specs.declared.gate.Gate.the-variants.{Input, Add, Scale, Mult
 use Rattle.words.specs.declared.gate.Wire.{Wire}
 use Rattle.counts.specs.declared.recipe.Images.the-variants.{Squares}
 use Rattle.counts.specs.Recipe.{recipe, imageOf}
-use Rattle.counts.specs.Counts.{rowsOf, rowsIn, recordKeysIn, inputsOf}
+use Rattle.counts.specs.Counts.{rowsOf, rowsIn, recordKeysOf, recordKeysIn, inputsOf}
 use Rattle.counts.specs.Moduli.{someBelow, moduliUsed}
 
 wire : Gate → ℕ → Wire
@@ -33,6 +34,42 @@ product-rows = refl
 square-rows : rowsOf (input 0 251 ∷ input 1 251 ∷ wire (Multiply (record { a = 1; b = 1 })) 251 ∷ []) 2 ≡ 251
 unfolding recipe wire input
 square-rows = refl
+
+-- a bit times itself: no rows, and no key in its record; a product of two bits has 4 rows, and the square of a residue modulo 3 has 3
+bit-rows : rowsOf (input 0 2 ∷ wire (Multiply (record { a = 0; b = 0 })) 2 ∷ []) 1 ≡ 0
+unfolding recipe wire input
+bit-rows = refl
+
+bit-record : recordKeysOf (input 0 2 ∷ wire (Multiply (record { a = 0; b = 0 })) 2 ∷ []) 1 ≡ 0
+unfolding recipe wire input
+bit-record = refl
+
+two-bits-rows : rowsOf (input 0 2 ∷ input 1 2 ∷ wire (Multiply (record { a = 0; b = 1 })) 2 ∷ []) 2 ≡ 4
+unfolding recipe wire input
+two-bits-rows = refl
+
+square-of-3-rows : rowsOf (input 0 3 ∷ wire (Multiply (record { a = 0; b = 0 })) 3 ∷ []) 1 ≡ 3
+unfolding recipe wire input
+square-of-3-rows = refl
+
+-- whole numbers by the ten primes, and the square of one: 3 + 5 + 7 + … + 29 rows, and none by 2; keys of ten inputs and of nine squares
+primes : List ℕ
+primes = 2 ∷ 3 ∷ 5 ∷ 7 ∷ 11 ∷ 13 ∷ 17 ∷ 19 ∷ 23 ∷ 29 ∷ []
+
+squares : ℕ → List ℕ → List Wire
+squares w [] = []
+squares w (p ∷ ps) = wire (Multiply (record { a = w; b = w })) p ∷ squares (suc w) ps
+
+squared : List Wire
+squared = map (input 0) primes ++ squares 0 primes
+
+squared-rows : rowsIn squared ≡ 127
+unfolding recipe wire input primes squares squared sumTo
+squared-rows = refl
+
+squared-records : recordKeysIn squared ≡ 19
+unfolding recipe wire input primes squares squared sumTo
+squared-records = refl
 
 -- 16 · 16 is 256, so 5 modulo 251
 square-of-16 : imageOf [] Squares 251 16 ≡ 5

@@ -6,8 +6,8 @@ use mathlib.Core.Bool.{Bool, true, false}
 use mathlib.Core.List.{List}
 use Prim.Native.Nat.{ℕ, _+_, _*_, _/_, _<_}
 use native.Mathlib.Omega.{arith}
-use borrow.Author.Tests.{ltb-true, eq-eqb, ne-eqb}
-use lib.Dec.{ltb}
+use borrow.Author.Tests.{ltb-true, eqb-true, eq-eqb, ne-eqb}
+use lib.Dec.{ltb, eqb}
 use lib.ListN.{length}
 use Rattle.words.specs.declared.gate.Gate.{Gate}
 use Rattle.words.specs.declared.gate.Wire.{Wire}
@@ -15,7 +15,7 @@ use Rattle.words.specs.declared.gate.Pair.{Pair}
 use Rattle.words.specs.declared.gate.Scaling.{Scaling}
 use Rattle.words.specs.declared.gate.Choice.{Choice as Chosen}
 use Rattle.circuit.specs.Wires.{wireAt, modulusAt, isInput, inputsIn}
-use Rattle.circuit.specs.Accepted.{GateFits, PairFits, ScalingFits, ChoiceFits, AcceptedCircuit}
+use Rattle.circuit.specs.Accepted.{Alike, GateFits, PairFits, ScalingFits, ChoiceFits, AcceptedCircuit}
 use Rattle.circuit.proofs.Moduli.{wire-positive}
 use Rattle.residue.proofs.Vectors.{mul-below}
 use Rattle.counts.specs.declared.recipe.Images.{Images}
@@ -23,7 +23,7 @@ use Rattle.counts.specs.declared.recipe.Images.the-variants.{File, Squar
 use Rattle.counts.specs.declared.recipe.Lookup.{Lookup}
 use Rattle.counts.specs.declared.recipe.Recipe.{Recipe}
 use Rattle.counts.specs.declared.recipe.Recipe.the-variants.{Entered, Sum, Multiple, Table, Product, Choice}
-use Rattle.counts.specs.Recipe.{isSquare, squareOrProduct, recipeOf, recipe, imageOf}
+use Rattle.counts.specs.Recipe.{isSquare, squareOf, squareOrProduct, recipeOf, recipe, imageOf}
 use Rattle.counts.specs.Images.{ImageHeld, ImagesFit}
 
 -- where the gate is known, so is the recipe
@@ -32,11 +32,18 @@ unfolding recipe
 by-gate wire e = ap (λ (g : Gate). recipeOf g (wire .modulus)) e
 
 -- where the wires of a multiply are compared, so is its recipe
-pub a-square : (g : Pair) → g .a ≡ g .b → squareOrProduct g ≡ Table (record { a = g .a; images = Squares })
-a-square g e = rw (eq-eqb (g .a) (g .b) e)
+pub a-square : (g : Pair) (p : ℕ) → g .a ≡ g .b → squareOrProduct g p ≡ squareOf (g .a) p
+a-square g p e = rw (eq-eqb (g .a) (g .b) e)
 
-pub a-product : (g : Pair) → (g .a ≡ g .b → ⊥) → squareOrProduct g ≡ Product g
-a-product g e = rw (ne-eqb (g .a) (g .b) e)
+pub a-product : (g : Pair) (p : ℕ) → (g .a ≡ g .b → ⊥) → squareOrProduct g p ≡ Product g
+a-product g p e = rw (ne-eqb (g .a) (g .b) e)
+
+-- and where its modulus is compared with 2, that of a square
+pub a-copy : (a p : ℕ) → p ≡ 2 → squareOf a p ≡ Multiple (record { constant = 1; a = a })
+a-copy a p e = rw (eq-eqb p 2 e)
+
+pub a-table : (a p : ℕ) → (p ≡ 2 → ⊥) → squareOf a p ≡ Table (record { a = a; images = Squares })
+a-table a p e = rw (ne-eqb p 2 e)
 
 -- where the sort of images is known: those of a file stand there
 held-inside : {file : List ℕ} {v table : ℕ} → ImageHeld file v (File table) → 4 * (table + v) < length file
@@ -63,15 +70,22 @@ inside : (i n : ℕ) → i < n / 4 → 4 * i < n
 inside i n l = omega arith
 
 module _ {file : List ℕ} {wires : List Wire} {outputs : List ℕ} (accepted : AcceptedCircuit file wires outputs) (w : ℕ) (made : w < length wires) where
-  by-square : {g : Pair} (square : Bool) → isSquare g ≡ square → PairFits wires w g → RecipeFits file wires w (squareOrProduct g)
+  -- a bit's constant is 1, which is below 2
+  by-modulus : (a : ℕ) (bit : Bool) → eqb (modulusAt wires w) 2 ≡ bit → Alike wires w a → RecipeFits file wires w (squareOf a (modulusAt wires w))
   unfolding imageOf
-  by-square true e fits =
+  by-modulus a true e fits =
+      rw e
+      (multiple {g = record { constant = 1; a = a }} (record { a = fits; positive = omega arith; below = omega (arith, eqb-true (modulusAt wires w) 2 e) }))
+  by-modulus a false e fits =
       rw e
       (table
       (record {
-        lower = fits .a .lower;
+        lower = fits .lower;
         images = record { held = λ v h. ImageHeld.computed; below = λ v h. mul-below (wire-positive accepted w made) _ _ };
       }))
+
+  by-square : {g : Pair} (square : Bool) → isSquare g ≡ square → PairFits wires w g → RecipeFits file wires w (squareOrProduct g (modulusAt wires w))
+  by-square true e fits = rw e (by-modulus _ (eqb (modulusAt wires w) 2) refl (fits .a))
   by-square false e fits = rw e (product fits)
 
   by-kind : {gate : Gate} → GateFits file wires w gate → isInput gate ≡ ltb w (inputsIn wires) → RecipeFits file wires w (recipeOf gate (modulusAt wires w))

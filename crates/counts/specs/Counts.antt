@@ -34,7 +34,7 @@ abbrev pub rowsIn : List Wire → ℕ
 rowsIn wires = sumTo (length wires) (rowsOf wires)
 
 -- the keys that a wire's record has, and as many mask shares: zero key and share; for a product those of its first part too; for a
--- choice those of two first parts. So I + P + 2M + 3S in all, a square counted in P
+-- choice those of two first parts. So I + P + 2M + 3S in all, a square counted in P, but a bit times itself in none of them
 abbrev pub recordKeysBy : Recipe → ℕ
 recordKeysBy Entered = 1
 recordKeysBy (Sum g) = 0

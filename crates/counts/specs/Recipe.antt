@@ -1,5 +1,5 @@
--- How a wire's gate is garbled, by document 01's "The gates" and document 02's order 4: what is computed, of which wires. Rows, records, garbling and opening all go by this one
--- definition, and none of them looks at the gate.
+-- How a wire's gate is garbled, by document 01's "The gates" and document 02's orders 4 and 10: what is computed, of which wires. Rows, records, garbling
+-- and opening all go by this one definition, and none of them looks at the gate.
 -- Assumes nothing.
 use mathlib.Core.Bool.{Bool, cond}
 use mathlib.Core.List.{List}
@@ -20,16 +20,20 @@ use Rattle.counts.specs.declared.recipe.Recipe.the-variants.{Entered, Su
 abbrev pub isSquare : Pair → Bool
 isSquare g = eqb (g .a) (g .b)
 
--- document 02, order 4: a square is garbled as a table, any other multiply as a product
-abbrev pub squareOrProduct : Pair → Recipe
-squareOrProduct g = cond (isSquare g) (Table (record { a = g .a; images = Squares })) (Product g)
+-- document 02, order 10: a bit times itself is that bit, a copy, as a scale by 1 makes one; order 4: a square of any other modulus is a table
+abbrev pub squareOf : ℕ → ℕ → Recipe
+squareOf a p = cond (eqb p 2) (Multiple (record { constant = 1; a = a })) (Table (record { a = a; images = Squares }))
+
+-- any other multiply is garbled as a product
+abbrev pub squareOrProduct : Pair → ℕ → Recipe
+squareOrProduct g p = cond (isSquare g) (squareOf (g .a) p) (Product g)
 
 -- the recipe of a gate whose wire has modulus p
 abbrev pub recipeOf : Gate → ℕ → Recipe
 recipeOf (Input g) p = Entered
 recipeOf (Add g) p = Sum g
 recipeOf (Scale g) p = Multiple g
-recipeOf (Multiply g) p = squareOrProduct g
+recipeOf (Multiply g) p = squareOrProduct g p
 recipeOf (Project g) p = Table (record { a = g .a; images = File (g .table) })
 recipeOf (Select g) p = Choice g
 

@@ -1,6 +1,6 @@
 // How a wire's gate is garbled.
 ghost use mathlib.Core.Path.{_≡_};
-ghost use Rattle.counts.specs.Recipe.{squareOrProduct, recipe};
+ghost use Rattle.counts.specs.Recipe.{squareOf, squareOrProduct, recipe};
 use words::Choice;
 use words::Gate;
 use words::Pair;
@@ -31,15 +31,26 @@ pub enum Recipe {
     Choice(Choice),
 }
 
-// A product of two wires. One of a wire with itself is a table, at half the rows.
-fn square_or_product(g: Pair) -> Recipe
-    ensures { λ r. ⌜ r ≡ squareOrProduct g ⌝ }
+// A wire times itself, of modulus p. A bit's square is the bit: a copy, with no rows. Any other is a table, at half a product's rows.
+fn square_of(a: u16, p: u8) -> Recipe
+    ensures { λ r. ⌜ r ≡ squareOf a p ⌝ }
 {
-    if g.a == g.b {
+    if p == 2 {
+        Recipe::Multiple(Scaling { constant: 1, a: a })
+    } else {
         Recipe::Table(Lookup {
-            a: g.a,
+            a: a,
             images: Images::Squares,
         })
+    }
+}
+
+// A product of two wires of modulus p, or a square.
+fn square_or_product(g: Pair, p: u8) -> Recipe
+    ensures { λ r. ⌜ r ≡ squareOrProduct g p ⌝ }
+{
+    if g.a == g.b {
+        square_of(g.a, p)
     } else {
         Recipe::Product(g)
     }
@@ -53,7 +64,7 @@ pub fn recipe_of(wire: Wire) -> Recipe
         Gate::Input(_) => Recipe::Entered,
         Gate::Add(g) => Recipe::Sum(g),
         Gate::Scale(g) => Recipe::Multiple(g),
-        Gate::Multiply(g) => square_or_product(g),
+        Gate::Multiply(g) => square_or_product(g, wire.modulus),
         Gate::Project(g) => Recipe::Table(Lookup {
             a: g.a,
             images: Images::File(g.table),

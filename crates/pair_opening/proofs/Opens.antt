@@ -6,12 +6,10 @@ use Prim.Native.Nat.{ℕ, _+_, _*_, _≤_, _<_}
 use native.Mathlib.Nat.{mul-comm, one-mul, zero-lt-suc}
 use native.Mathlib.Omega.{arith}
 use lib.ListN.{length}
-use Rattle.lists.specs.Blocks.{sumTo, runs, part, nthPiece}
-use Rattle.lists.proofs.Sums.{sumTo-ext, sumTo-const, sumTo-times, sumTo-fits, times-fits}
-use Rattle.lists.proofs.Blocks.{getD-runs}
+use Rattle.lists.specs.Blocks.{sumTo, nthPiece}
+use Rattle.lists.proofs.Sums.{sumTo-ext, sumTo-times, sumTo-fits}
 use Rattle.residue.specs.Vector.{AllBelow}
 use Rattle.residue.proofs.Vectors.{addV-below, subV-below, mulV-below}
-use Rattle.checks.specs.declared.Refusal.{Refusal}
 use Rattle.checks.specs.declared.Refusal.the-variants.{KeyOrRowTooLarge}
 use Rattle.checks.specs.declared.Answer.the-variants.{Accepted}
 use Rattle.words.specs.declared.gate.Gate.{Gate}
@@ -20,9 +18,8 @@ use Rattle.words.specs.declared.gate.Wire.{Wire}
 use Rattle.circuit.specs.Wires.{wireAt, modulusAt, inputsIn}
 use Rattle.circuit.specs.Accepted.{AcceptedCircuit}
 use Rattle.pads.specs.Pad.{Pad, shakePad}
-use Rattle.scheme.specs.Bytes.{bytesChecked, keysChecked, countedRowsChecked}
-use Rattle.scheme.proofs.ByteChecks.{bytes-below}
-use Rattle.scheme.proofs.EachBelow.{below-part}
+use Rattle.scheme.specs.Bytes.{keysChecked, countedRowsChecked}
+use Rattle.scheme.proofs.ByteChecks.{run-below, keys-below}
 use Rattle.scheme.proofs.Bounds.{positive, input-first}
 use Rattle.pair.specs.Key.{externalOf}
 use Rattle.pair.specs.Half.{openHalf}
@@ -73,23 +70,13 @@ module _ {file : List ℕ} {wires : List Wire} {outputs : List ℕ} (accepted : 
       (accepted .fits w made .gate) below
       ∙ sym (openedKey-step accepted w made (shakePad round) K keys rows)
 
--- ---- checked bytes: run w of a list is below its modulus
-
-run-below : (n : ℕ) (size m : ℕ → ℕ) (xs : List ℕ) (reason : Refusal) → bytesChecked xs (runs n size m) reason ≡ Accepted → (w : ℕ) → w < n
-    → sumTo w size + size w ≤ length xs → AllBelow (m w) (part xs (sumTo w size) (size w))
-run-below n size m xs reason e w h k =
-    below-part (m w) xs (sumTo w size) (size w) k
-    (λ i l. rw (getD-runs n size m w i 0 h l) at (bytes-below xs (runs n size m) reason e (sumTo w size + i) (omega arith)))
+-- ---- checked bytes
 
 module _ (K : ℕ) (wires : List Wire) where
   pub key-below : (keys : List ℕ) → length keys ≡ inputsIn wires * K → keysChecked 1 K wires keys ≡ Accepted → (w : ℕ) → w < inputsIn wires
       → AllBelow (modulusAt wires w) (nthPiece keys K w)
-  unfolding keysChecked
   key-below keys size e w h =
-      let place : sumTo w (λ _. 1 * K) ≡ w * K = sumTo-const w (1 * K) ∙ ap (λ (x : ℕ). w * x) (one-mul K) in
-      rw (place, one-mul K) at
-      (run-below (inputsIn wires) (λ _. 1 * K) (modulusAt wires) keys KeyOrRowTooLarge e w h
-      (omega (arith, place, one-mul K, times-fits w (inputsIn wires) K h, size)))
+      rw (one-mul K) at (keys-below 1 K wires keys (size ∙ ap (λ (x : ℕ). inputsIn wires * x) (sym (one-mul K))) e w h)
 
   abbrev bytesOf : ℕ → ℕ
   bytesOf v = pairRowsOf wires v * (1 * K)

@@ -3,7 +3,7 @@
 use mathlib.Core.Path.{_≡_, refl, sym, ap, ap₂, _∙_}
 use mathlib.Core.Bool.{Bool, true, false}
 use mathlib.Core.List.{List}
-use Prim.Native.Nat.{ℕ, _<_}
+use Prim.Native.Nat.{ℕ, zero, suc, _*_, _%_, _<_}
 use native.Mathlib.Omega.{arith}
 use borrow.Author.Tests.{eqb-true}
 use lib.Dec.{eqb}
@@ -19,7 +19,7 @@ use Rattle.circuit.specs.Accepted.{GateFits, AcceptedCircuit}
 use Rattle.counts.specs.declared.recipe.Images.the-variants.{Squares}
 use Rattle.counts.specs.declared.recipe.Recipe.{Recipe}
 use Rattle.counts.specs.declared.recipe.Recipe.the-variants.{Entered, Sum, Multiple, Table, Product, Choice}
-use Rattle.counts.specs.Recipe.{isSquare, squareOrProduct, recipeOf, recipe, imageOf}
+use Rattle.counts.specs.Recipe.{isSquare, squareOf, squareOrProduct, recipeOf, recipe, imageOf}
 use Rattle.plain.specs.Plain.{chosenBy, plainBy, plainTo, plainValues}
 
 -- the value of wire w, of modulus p, by its recipe
@@ -31,15 +31,33 @@ valueBy file inputs w p (Table g) value = imageOf file (g .images) p (value (g .
 valueBy file inputs w p (Product g) value = mul p (value (g .a)) (value (g .b))
 valueBy file inputs w p (Choice g) value = chosenBy (eqb (value (g .bit)) 0) (value (g .a)) (value (g .b))
 
+-- v·v and v are both even or both odd
+same-parity : (v : ℕ) → v * v % 2 ≡ v % 2
+same-parity zero = refl
+same-parity (suc v) = omega (arith, same-parity v)
+
+-- a bit times itself is that bit, once
+bit-square : (p v : ℕ) → p ≡ 2 → mul p v v ≡ mul p 1 v
+unfolding mul
+bit-square p v e = rw e (same-parity v ∙ omega arith)
+
 -- a square's image is its plain value
-square-image : (file : List ℕ) (p : ℕ) (g : Pair) (value : ℕ → ℕ) → isSquare g ≡ true → mul p (value (g .a)) (value (g .b)) ≡ imageOf file Squares p (value (g .a))
+square-image : (file : List ℕ) (p v : ℕ) → mul p v v ≡ imageOf file Squares p v
 unfolding imageOf
-square-image file p g value e = ap (λ (b : ℕ). mul p (value (g .a)) (value b)) (sym (eqb-true (g .a) (g .b) e))
+square-image file p v = refl
+
+-- a square, whether of a bit or not
+square-value : (file inputs : List ℕ) (w p a : ℕ) (value : ℕ → ℕ) (bit : Bool) → eqb p 2 ≡ bit
+    → mul p (value a) (value a) ≡ valueBy file inputs w p (squareOf a p) value
+unfolding valueBy
+square-value file inputs w p a value true e = bit-square p (value a) (eqb-true p 2 e) ∙ rw e
+square-value file inputs w p a value false e = square-image file p (value a) ∙ rw e
 
 multiply-value : (file inputs : List ℕ) (w p : ℕ) (g : Pair) (value : ℕ → ℕ) (square : Bool) → isSquare g ≡ square
-    → mul p (value (g .a)) (value (g .b)) ≡ valueBy file inputs w p (squareOrProduct g) value
+    → mul p (value (g .a)) (value (g .b)) ≡ valueBy file inputs w p (squareOrProduct g p) value
 unfolding valueBy
-multiply-value file inputs w p g value true e = square-image file p g value e ∙ rw e
+multiply-value file inputs w p g value true e =
+    ap (λ (b : ℕ). mul p (value (g .a)) (value b)) (sym (eqb-true (g .a) (g .b) e)) ∙ square-value file inputs w p (g .a) value (eqb p 2) refl ∙ rw e
 multiply-value file inputs w p g value false e = rw e
 
 -- it is that of the gate

@@ -1,5 +1,5 @@
 -- The claim at work: the round of specs/Example.antt meets every condition, so under SHAKE256 party 1 decodes 1 and 3, and party 0, whom the second output
--- does not name, 1 and 255. No pad is computed here; that the conditions can be met is.
+-- does not name, 1 and 255. No pad is computed here; that the conditions can be met is. And wire 7 is a copy of wire 2.
 -- Assumes nothing.
 use mathlib.Core.Path.{_≡_, refl, sym, ap, subst, _∙_}
 use mathlib.Core.Bool.{true, cond}
@@ -15,10 +15,11 @@ use Rattle.residue.specs.Prime.{remaindersBelow, isPrime}
 use Rattle.residue.specs.Residue.{add, mul}
 use Rattle.checks.specs.declared.Answer.the-variants.{Accepted}
 use Rattle.checks.specs.Checked.{unless, noneBad}
+use Rattle.words.specs.declared.gate.Gate.the-variants.{Multiply}
 use Rattle.words.specs.declared.gate.Wire.{Wire}
 use Rattle.words.specs.Items.{check, afterEntry}
 use Rattle.words.specs.Reading.{said, readWord}
-use Rattle.circuit.specs.Wires.{modulusAt, inputsIn}
+use Rattle.circuit.specs.Wires.{wireAt, modulusAt, inputsIn}
 use Rattle.circuit.specs.Named.{names, mayRead, readable}
 use Rattle.circuit.specs.File.{Read, accepted, ended, after, readFrom, headed, readFile}
 use Rattle.counts.specs.Recipe.{recipe}
@@ -32,6 +33,7 @@ use Rattle.scheme.specs.Bytes.{allZero, bytesChecked, contributionsChecked, zer
 use Rattle.meter.specs.Meter.{accounts, HasSpace}
 use Rattle.round.specs.Round.{ownerAt, figures}
 use Rattle.round.specs.Claim.{LengthsRight, Conditions, Promise}
+use Rattle.round.specs.Copies.{CopyOf}
 use Rattle.words.specs.Encode.{fileOf}
 use Rattle.round.specs.Example.{file, wires, outputs, named, contributions, values, meter, lent}
 use Rattle.round.proofs.RealPad.{shake-claim}
@@ -133,6 +135,17 @@ conditions =
           (subst (λ (outs : List ℕ). LengthsRight 2 1 wires outs lent) (sym outputs-read) lengths);
       account = account;
       space = as-read (λ ws. HasSpace meter (rowsIn ws)) space;
+    }
+
+-- there are copies
+pub copy : CopyOf file 7 2
+unfolding wires
+copy =
+    record {
+      accepted = rw reads;
+      made = as-read (λ ws. 7 < length ws) (omega arith);
+      gate = as-read (λ ws. wireAt ws 7 .gate ≡ Multiply (record { a = 2; b = 2 })) refl;
+      bit = as-read (λ ws. modulusAt ws 7 ≡ 2) refl;
     }
 
 promise : (round : ℕ) → Promise (shakePad round) file 2 1 contributions values meter lent

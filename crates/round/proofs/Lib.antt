@@ -1,8 +1,9 @@
 -- The claim: every call of a round accepts, and every party decodes the plain circuit's outputs that it may read. And equal masks of these give it equal
--- sheets.
+-- sheets; and a bit times itself is a copy.
 pub mod Claim
 pub mod Begun
 pub mod Contributions
+pub mod Copies
 pub mod Decoded
 pub mod DecodingPasses
 pub mod Example
@@ -16,11 +17,13 @@ pub mod InputKeysPass
 pub mod Inputs
 pub mod Keys
 pub mod Masks
+pub mod OpeningAccepted
 pub mod OpeningPasses
 pub mod Opens
 pub mod Own
 pub mod Parties
 pub mod RealPad
+pub mod Reduced
 pub mod RowBytes
 pub mod Shared
 pub mod Start

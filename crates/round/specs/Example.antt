@@ -1,4 +1,5 @@
--- A round that meets every condition of the claim: two parties, keys of one byte, and a circuit with a gate of each kind.
+-- A round that meets every condition of the claim: two parties, keys of one byte, and a circuit with a gate of each kind
+-- and a bit times itself.
 -- Assumes nothing.
 use mathlib.Core.List.{List, [], _∷_, _++_}
 use Prim.Native.Nat.{ℕ, _*_}
@@ -30,12 +31,14 @@ file =
     ∷ 0x7000_0001
     ∷ 0x7000_0001
     ∷ 0x7000_0002
-    -- wire 7: 4 or 5, as 2 chooses
-    ∷ 0x8000_0002
+    -- wire 7: the bit 2 times itself, a copy
+    ∷ 0x5000_0802
+    -- wire 8: 4 or 5, as 7 chooses
+    ∷ 0x8000_0007
     ∷ 0x9000_1005
-    -- outputs 6, which every party may read, and 7, which party 1 alone may
+    -- outputs 6, which every party may read, and 8, which party 1 alone may
     ∷ 0xA000_0006
-    ∷ 0xA000_0807
+    ∷ 0xA000_0808
     ∷ 0xB000_0000
     ∷ [])
 
@@ -49,17 +52,18 @@ wires =
     ∷ record { gate = Scale (record { constant = 3; a = 3 }); modulus = 5 }
     ∷ record { gate = Multiply (record { a = 0; b = 4 }); modulus = 5 }
     ∷ record { gate = Project (record { a = 5; table = 8 }); modulus = 3 }
-    ∷ record { gate = Select (record { bit = 2; a = 4; b = 5 }); modulus = 5 }
+    ∷ record { gate = Multiply (record { a = 2; b = 2 }); modulus = 2 }
+    ∷ record { gate = Select (record { bit = 7; a = 4; b = 5 }); modulus = 5 }
     ∷ []
 
 unfoldable pub outputs : List ℕ
-outputs = 6 ∷ 7 ∷ []
+outputs = 6 ∷ 8 ∷ []
 
 -- bit s is party s
 unfoldable pub named : List ℕ
 named = 0 ∷ 2 ∷ []
 
--- of each party: offsets of 2, 3 and 5; the records of wires 0, 1, 2, 5, 6 and 7
+-- of each party: offsets of 2, 3 and 5; the records of wires 0, 1, 2, 5, 6 and 8; the copy has none
 unfoldable pub contributions : List ℕ
 contributions =
     (1 ∷ 2 ∷ 3 ∷ 1 ∷ 4 ∷ 2 ∷ 3 ∷ 1 ∷ 0 ∷ 4 ∷ 3 ∷ 1 ∷ 2 ∷ 2 ∷ 1 ∷ 0 ∷ 1 ∷ 2 ∷ 3 ∷ 4 ∷ 0 ∷ [])

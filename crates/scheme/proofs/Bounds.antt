@@ -1,5 +1,5 @@
 -- What is true of every wire of an accepted circuit before anything is opened: its modulus is a prime, its zero keys have n times K entries,
--- and its mask and its plain value are below its modulus.
+-- and its mask and its plain value are below its modulus; so are its zero keys where what was drawn is.
 -- Assumes nothing.
 use mathlib.Core.Path.{_≡_, refl, sym, ap, _∙_}
 use mathlib.Core.List.{List}
@@ -8,8 +8,9 @@ use native.Mathlib.Omega.{arith}
 use lib.ListN.{length, getD}
 use borrow.Author.Tests.{ltb-true}
 use Rattle.residue.specs.Prime.{Prime}
+use Rattle.residue.specs.Vector.{AllBelow}
 use Rattle.residue.proofs.Moduli.{isPrime→Prime}
-use Rattle.residue.proofs.Vectors.{add-below, mul-below, addV-length, mulV-length}
+use Rattle.residue.proofs.Vectors.{add-below, mul-below, addV-below, mulV-below, addV-length, mulV-length}
 use Rattle.words.specs.declared.gate.Owned.{Owned}
 use Rattle.words.specs.declared.gate.Gate.the-variants.{Input}
 use Rattle.words.specs.declared.gate.Wire.{Wire}
@@ -17,7 +18,7 @@ use Rattle.circuit.specs.Wires.{wireAt, modulusAt, isInput, inputsIn}
 use Rattle.circuit.specs.Accepted.{AcceptedCircuit}
 use Rattle.counts.specs.declared.recipe.Recipe.{Recipe}
 use Rattle.counts.specs.Recipe.{recipe}
-use Rattle.counts.specs.Counts.{recordKeysBy}
+use Rattle.counts.specs.Counts.{recordKeysBy, recordKeysOf}
 use Rattle.counts.proofs.Recipes.{RecipeFits, recipe-fits}
 use Rattle.counts.proofs.Recipes.RecipeFits.{entered, sum, multiple, table, product, choice}
 use Rattle.plain.specs.Plain.{plainValues}
@@ -77,6 +78,22 @@ module _ {file : List ℕ} {wires : List Wire} {outputs : List ℕ} (accepted : 
     zeroKey-size = by-lower (λ w. w < length wires → length (zeroKey wires draw w) ≡ n * K) (λ w lower made.
         ap length (zeroKey-step accepted w made draw)
         ∙ zeroKey-sized w made (recipe-fits accepted w made) refl (λ a l. lower a l (omega arith)))
+
+  -- a sum or multiple is a residue by itself; what stands in a record is one where contributions pass the checks
+  module _ (draw : Draw) (drawnBelow : (w : ℕ) → w < length wires → 0 < recordKeysOf wires w → AllBelow (modulusAt wires w) (draw .key w 0))
+      (w : ℕ) (made : w < length wires) where
+    zeroKey-reduced : {r : Recipe} → RecipeFits file wires w r → recipe (wireAt wires w) ≡ r
+        → AllBelow (modulusAt wires w) (zeroKeyBy (draw .key w 0) (modulusAt wires w) (zeroKey wires draw) r)
+    unfolding zeroKeyBy
+    zeroKey-reduced (entered fits) is = drawnBelow w made (rw is (omega arith))
+    zeroKey-reduced (sum fits) is = addV-below (positive w made) _ _
+    zeroKey-reduced (multiple fits) is = mulV-below (positive w made) _ _
+    zeroKey-reduced (table fits) is = drawnBelow w made (rw is (omega arith))
+    zeroKey-reduced (product fits) is = drawnBelow w made (rw is (omega arith))
+    zeroKey-reduced (choice fits) is = addV-below (positive w made) _ _
+
+    pub zeroKey-below : AllBelow (modulusAt wires w) (zeroKey wires draw w)
+    zeroKey-below = rw (zeroKey-step accepted w made draw) (zeroKey-reduced (recipe-fits accepted w made) refl)
 
 -- a plain value is below its wire's modulus
 pub value-below : {file : List ℕ} {wires : List Wire} {outputs values : List ℕ} → Fed file wires outputs values → (w : ℕ) → w < length wires

@@ -1,4 +1,4 @@
--- Contributions that have their length and their bytes below their moduli: what that says of each party's offsets.
+-- Contributions that have their length and their bytes below their moduli: what that says of each party's offsets and keys.
 -- Assumes nothing.
 use mathlib.Core.Path.{_≡_, sym, ap, _∙_}
 use mathlib.Core.Bool.{true}
@@ -12,10 +12,12 @@ use Rattle.lists.proofs.Parts.{length-part, part-whole}
 use Rattle.lists.proofs.Sums.{times-fits}
 use Rattle.residue.specs.Vector.{AllBelow}
 use Rattle.words.specs.declared.gate.Wire.{Wire}
+use Rattle.circuit.specs.Wires.{modulusAt}
+use Rattle.counts.specs.Counts.{recordKeysOf}
 use Rattle.counts.specs.Moduli.{used}
-use Rattle.scheme.specs.Contribution.{offsetAt, contributionSize, contributionModuli}
-use Rattle.scheme.proofs.Places.{offset-fits}
-use Rattle.scheme.proofs.ByteModuli.{offset-modulus}
+use Rattle.scheme.specs.Contribution.{offsetAt, keyAt, contributionSize, contributionModuli}
+use Rattle.scheme.proofs.Places.{offset-fits, key-fits}
+use Rattle.scheme.proofs.ByteModuli.{offset-modulus, key-modulus}
 use Rattle.scheme.proofs.EachBelow.{EachBelow, below-part}
 
 -- n contributions, one after another, each as long as it must be and with its bytes below their moduli
@@ -38,6 +40,12 @@ module _ (K : ℕ) (wires : List Wire) (c : List ℕ) (u : EachBelow c (contribu
       let fits = offset-fits K wires p t h in
       below-part p c (offsetAt K wires p) K (omega arith)
       (λ i l. rw (offset-modulus K wires p i 0 t h l) at (u .entry (offsetAt K wires p + i) (omega arith)))
+
+  pub key-bytes : (w j : ℕ) → w < length wires → j < recordKeysOf wires w → AllBelow (modulusAt wires w) (part c (keyAt K wires w j) K)
+  key-bytes w j made h =
+      let fits = key-fits K wires w j h made in
+      below-part (modulusAt wires w) c (keyAt K wires w j) K (omega arith)
+      (λ i l. rw (key-modulus K wires w j i 0 made h l) at (u .entry (keyAt K wires w j + i) (omega arith)))
 
 -- a party's contribution is one by itself
 pub contributed-own : {n K : ℕ} {wires : List Wire} {contributions : List ℕ} → Contributed n K wires contributions → (s : ℕ) → s < n

@@ -19,7 +19,7 @@ use Rattle.scheme.specs.Contribution.{offsetAt, keyAt, contributionSize}
 use Rattle.scheme.specs.Draw.{drawn}
 use Rattle.scheme.proofs.Places.{offset-fits, key-fits}
 use Rattle.scheme.proofs.EachBelow.{below-blocks}
-use Rattle.scheme.proofs.Contributed.{Contributed, length-nth, nth-whole, offset-bytes}
+use Rattle.scheme.proofs.Contributed.{Contributed, length-nth, nth-whole, offset-bytes, key-bytes}
 
 -- ---- any part of K bytes, one of each party: where it is read is left open, so that offsets and keys go by the same laws
 
@@ -84,6 +84,13 @@ module _ {n K : ℕ} {wires : List Wire} {contributions : List ℕ} (r : Contrib
       below-blocks p n (λ s. part (nthPiece contributions (contributionSize K wires) s) (offsetAt K wires p) K)
       (λ s h. offset-bytes K wires (nthPiece contributions (contributionSize K wires) s) (r .party s h)
       (length-nth n (contributionSize K wires) contributions (r .size) s h) p inUse byte)
+
+  pub key-below : (w j : ℕ) → w < length wires → j < recordKeysOf wires w → AllBelow (modulusAt wires w) (drawn n K wires contributions .key w j)
+  unfolding drawn
+  key-below w j made inside =
+      below-blocks (modulusAt wires w) n (λ s. part (nthPiece contributions (contributionSize K wires) s) (keyAt K wires w j) K)
+      (λ s h. key-bytes K wires (nthPiece contributions (contributionSize K wires) s) (r .party s h)
+      (length-nth n (contributionSize K wires) contributions (r .size) s h) w j made inside)
 
 -- masks are sums modulo the wire's prime, whatever was contributed
 pub mask-below : (n K : ℕ) (wires : List Wire) (contributions : List ℕ) (w j : ℕ) → 0 < modulusAt wires w → drawn n K wires contributions .mask w j < modulusAt wires w

@@ -38,7 +38,7 @@ module _ (K : ℕ) (wires : List Wire) where
       omega (arith, mul-add (K + 1) (sumTo w (recordKeysOf wires)) (recordKeysOf wires w))
 
   -- within a record of m keys: key j of them ends before the shares, and share j is inside
-  key-inside : (m j : ℕ) → j < m → K * j + K ≤ (K + 1) * m
+  pub key-inside : (m j : ℕ) → j < m → K * j + K ≤ (K + 1) * m
   key-inside m j h =
       let most : K * (j + 1) ≤ K * m = mul-le-mul-left K (omega arith) in
       omega (arith, mul-add K j 1, add-mul K 1 m)
