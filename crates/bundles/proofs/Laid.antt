@@ -26,7 +26,7 @@ use Rattle.bundles.specs.declared.operation.Operation.{Operation}
 use Rattle.bundles.specs.Primes.{prime}
 use Rattle.bundles.specs.Part.{PartGate, items_of, words_of, scaled, gate_at, part_words}
 use Rattle.bundles.specs.Laying.{scaled_item, first_item, zeros_after, gate_words, Counts, Placed}
-use Rattle.bundles.proofs.Joined.{prime-most, prime-positive}
+use Rattle.bundles.proofs.JoinedLaws.{prime-most, prime-positive}
 
 -- ---- gate by gate
 

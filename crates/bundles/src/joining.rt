@@ -93,7 +93,7 @@ fn join_checked(r: u32, residues: &[u8]) -> Answer
 }
 
 // An answer and, where it accepts, the integer; else 0.
-#[derive(Drop)]
+#[derive(Clone, Copy)]
 pub struct Joined {
     pub answer: Answer,
     pub integer: u64,

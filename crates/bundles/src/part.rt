@@ -11,7 +11,7 @@ use checks::Answer;
 use lists::{index_number, number_index};
 
 // An answer and, where it accepts, the number of words; else 0.
-#[derive(Drop)]
+#[derive(Clone, Copy)]
 pub struct Part {
     pub answer: Answer,
     pub words: u32,

@@ -8,7 +8,7 @@ ghost use Rattle.checks.specs.Answer.{number_of, number_in, place_in};
 pub use combined::{followed, named};
 
 // Why a call refuses. `number_of` gives the documents' number of each.
-#[derive(Drop)]
+#[derive(Clone, Copy)]
 pub enum Refusal {
     NoHead,
     UnknownWord,
@@ -40,7 +40,7 @@ pub enum Refusal {
     NamedAbsent,
 }
 
-#[derive(Drop)]
+#[derive(Clone, Copy)]
 pub enum Answer {
     Accepted,
     Refused(Refusal, usize),

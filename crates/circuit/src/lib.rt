@@ -12,7 +12,7 @@ pub use reader::read;
 use words::Wire;
 
 // A circuit that was read: `made` wires, the first `inputs` of them inputs, and `given` outputs, each with the parties that it names.
-#[derive(Drop)]
+#[derive(Clone, Copy)]
 pub struct Circuit {
     pub wires: [Wire; 1024],
     pub outputs: [u16; 256],
@@ -23,7 +23,7 @@ pub struct Circuit {
 }
 
 // What reading a file comes to. The circuit is empty where the file is refused.
-#[derive(Drop)]
+#[derive(Clone, Copy)]
 pub struct Reading {
     pub answer: Answer,
     pub circuit: Circuit,

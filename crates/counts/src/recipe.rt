@@ -6,14 +6,14 @@ use words::{Choice, Gate, Pair, Scaling, Wire};
 
 // The images of a table. `File`: in the words of the circuit file, from the index of the image of 0 on. `Squares`: each value's
 // square, in no file.
-#[derive(Drop)]
+#[derive(Clone, Copy)]
 pub enum Images {
     File(u32),
     Squares,
 }
 
 // A table of the values of wire `a`.
-#[derive(Drop)]
+#[derive(Clone, Copy)]
 pub struct Lookup {
     pub a: u16,
     pub images: Images,
@@ -21,7 +21,7 @@ pub struct Lookup {
 
 // `Entered`: an input. `Sum` and `Multiple`: of the keys of lower wires, with no rows. `Table`: a row for each value of a wire.
 // `Product`: two rows for each value. `Choice`: a product with a bit, and the rows of the bit.
-#[derive(Drop)]
+#[derive(Clone, Copy)]
 pub enum Recipe {
     Entered,
     Sum(Pair),

@@ -6,7 +6,7 @@ use checks::{Answer, answer_number, answer_place};
 
 // Number and place, 0 and 0 where the call was accepted: `lupiknam_answer` of the header.
 #[repr(C)]
-#[derive(Drop)]
+#[derive(Clone, Copy)]
 pub struct Reported {
     pub number: u32,
     pub place: usize,

@@ -1,6 +1,6 @@
 // One turn of the pass: `n` parties, key length `k`, the round, the wire at hand and its modulus; and where the wire's record lies: at place `at` of each contribution of
 // `size` bytes, with so many keys.
-#[derive(Drop)]
+#[derive(Clone, Copy)]
 pub struct Turn {
     pub n: usize,
     pub k: usize,

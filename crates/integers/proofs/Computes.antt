@@ -28,7 +28,7 @@ use Rattle.bundles.specs.Primes.{prime}
 use Rattle.bundles.specs.Part.{PartGate, Sum, items_of, words_of, scaled, gate_at, part_of, part_words}
 use Rattle.bundles.specs.Call.{are_below}
 use Rattle.bundles.proofs.Verdicts.{PartPassed, part_passed}
-use Rattle.bundles.proofs.Joined.{prime-small, prime-positive, prime_is}
+use Rattle.bundles.proofs.JoinedLaws.{prime-small, prime-positive, prime_is}
 use Rattle.integers.specs.Reach.{Reach, Has}
 use Rattle.integers.specs.Bundle.{Bundle, Carries, Given, Carried, result}
 use Rattle.integers.specs.Promise.{PartComputes}

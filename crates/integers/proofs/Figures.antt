@@ -22,7 +22,7 @@ use Rattle.plain.specs.Plain.{plain_by, plain_values, plain_outputs}
 use Rattle.plain.proofs.ByRecipe.{plain_value}
 use Rattle.bundles.specs.Primes.{prime}
 use Rattle.bundles.specs.Integers.{split, join}
-use Rattle.bundles.proofs.Joined.{join_any}
+use Rattle.bundles.proofs.JoinedLaws.{join_any}
 use Rattle.bundles.proofs.Verdicts.{part_passed}
 use Rattle.round.specs.Round.{Lent}
 use Rattle.round.specs.Claim.{Conditions}

@@ -22,7 +22,7 @@ use Rattle.bundles.specs.Primes.{prime, product}
 use Rattle.bundles.specs.Integers.{split, join, all_below}
 use Rattle.bundles.specs.Part.{part_words}
 use Rattle.bundles.specs.Call.{range_checked, split_checked, join_checked, SplitCall, PartCall, JoinCall}
-use Rattle.bundles.proofs.Joined.{prime-positive, products_positive, join_any, split-join}
+use Rattle.bundles.proofs.JoinedLaws.{prime-positive, products_positive, join_any, split-join}
 use Rattle.bundles.proofs.Verdicts.{InRange, split_passed, join_passed, part_passed}
 use Rattle.integers.specs.Reach.{Has}
 use Rattle.integers.specs.Bundle.{result}

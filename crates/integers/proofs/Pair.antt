@@ -4,7 +4,7 @@ use mathlib.Core.Path.{refl, ap, ◌∙◌}
 use Rattle.checks.proofs.Passed.{and_then-left}
 use Rattle.circuit.specs.File.{read_file}
 use Rattle.bundles.specs.Integers.{join}
-use Rattle.bundles.proofs.Joined.{join_any}
+use Rattle.bundles.proofs.JoinedLaws.{join_any}
 use Rattle.bundles.proofs.Verdicts.{part_passed}
 use Rattle.pair.specs.Bytes.{selects_checked}
 use Rattle.pair_round.specs.Played.{Kept}

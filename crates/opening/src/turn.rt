@@ -1,6 +1,6 @@
 // One turn of the pass: `n` parties, key length `k`, the party that opens, the round, the wire at hand and its modulus; `over` is the modulus of the wire that a table is over; where in
 // the party's contribution the zero key of the wire's record and the offset of its modulus start.
-#[derive(Drop)]
+#[derive(Clone, Copy)]
 pub struct Turn {
     pub n: usize,
     pub k: usize,

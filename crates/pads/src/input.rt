@@ -9,7 +9,7 @@ ghost use Rattle.pads.specs.Binding.{bound_by, seven_fields};
 use shake::Sponge;
 
 // What a row's pads are bound to, besides receiver and key: the round, the modulus of the senders' keys, the output wire and the component.
-#[derive(Drop)]
+#[derive(Clone, Copy)]
 pub struct Bound {
     pub round: u32,
     pub modulus: u8,

@@ -5,7 +5,7 @@ ghost use Rattle.pads.specs.Factored.{FactorsOf, Folded};
 ghost use Rattle.pads.specs.Moved.{shifted};
 
 // What takes the place of a division by q: 2^32 and 2^24 modulo q, the multiple of q next above 2^25, and the reciprocal 2^34 / q + 1.
-#[derive(Drop)]
+#[derive(Clone, Copy)]
 pub struct Factors {
     pub high: u8,
     pub low: u8,

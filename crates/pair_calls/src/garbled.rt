@@ -18,7 +18,7 @@ use pair_garbling::garble;
 use session::{Session, length_checked, owners_checked, session_checked};
 
 // How many bytes are lent for the rows and the output masks.
-#[derive(Drop)]
+#[derive(Clone, Copy)]
 struct Lengths {
     rows: usize,
     outputs: usize,

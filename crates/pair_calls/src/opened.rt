@@ -18,7 +18,7 @@ use pair_opening::open_wires;
 use session::{Session, length_checked, owners_checked, session_checked};
 
 // How many bytes are lent for the wires' keys and external values.
-#[derive(Drop)]
+#[derive(Clone, Copy)]
 struct Lengths {
     keys: usize,
     externals: usize,

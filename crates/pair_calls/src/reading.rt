@@ -10,7 +10,7 @@ use circuit::{Reading, read};
 use pair_checks::{rows, selects_checked};
 
 // The answer, and how many rows the circuit has.
-#[derive(Drop)]
+#[derive(Clone, Copy)]
 pub struct PairRead {
     pub answer: Answer,
     pub rows: u32,

@@ -8,7 +8,7 @@ use rows::{Row, put_row};
 
 // What a half is for: key length, round, the wire that its gate makes, which half of the gate it is, the modulus of the keys that it is under and the one that it
 // gives.
-#[derive(Drop)]
+#[derive(Clone, Copy)]
 pub struct HalfAt {
     pub k: usize,
     pub round: u32,

@@ -1,6 +1,6 @@
 // One turn of the pass: key length, round, the wire at hand and its modulus; where its zero key stands in the draw, if it is an input, and its place among the zero
 // keys of all wires.
-#[derive(Drop)]
+#[derive(Clone, Copy)]
 pub struct Turn {
     pub k: usize,
     pub round: u32,

@@ -8,7 +8,7 @@ use lists::{byte_index, copy, fill, nth_piece};
 use pads::{Bound, sub_pad_row};
 
 // Where a half stands: the key length, the round, the wire that its gate makes and its component; the modulus `under` of the key that it is opened under, and the receiving one.
-#[derive(Drop)]
+#[derive(Clone, Copy)]
 pub struct HalfAt {
     pub k: usize,
     pub round: u32,

@@ -1,5 +1,5 @@
 // One turn of the pass: the key length, the round, the wire at hand and its modulus; `over` is the modulus of the wire that a projection is of.
-#[derive(Drop)]
+#[derive(Clone, Copy)]
 pub struct Turn {
     pub k: usize,
     pub round: u32,

@@ -8,7 +8,7 @@ use engine::{
 };
 
 // Key length, round, and the account that pays.
-#[derive(Drop)]
+#[derive(Clone, Copy)]
 pub struct Asked {
     pub k: u32,
     pub round: u32,

@@ -4,7 +4,7 @@ ghost use Rattle.prices.specs.Lines.{hex_value, hex_digits, line_ends, byte_at};
 ghost use Rattle.prices.specs.Line.{line_at};
 
 // The four bytes of a word, the least significant first.
-#[derive(Drop)]
+#[derive(Clone, Copy)]
 pub struct Word {
     pub a: u8,
     pub b: u8,
@@ -12,7 +12,7 @@ pub struct Word {
     pub d: u8,
 }
 
-#[derive(Drop)]
+#[derive(Clone, Copy)]
 pub enum Line {
     Good(Word),
     Bad,

@@ -8,7 +8,7 @@ ghost use Rattle.prices.specs.Found.{Finds};
 use super::line::{Line, Word, line_at};
 
 // What the lines come to: so many bytes of a circuit file, the number of a bad line, a line too many.
-#[derive(Drop)]
+#[derive(Clone, Copy)]
 pub enum Found {
     File(usize),
     BadLine(usize),

@@ -7,7 +7,7 @@ use checks::{Answer, followed};
 use circuit::{Reading, read};
 use session::{partakers_checked, parties_checked, party_checked};
 
-#[derive(Drop)]
+#[derive(Clone, Copy)]
 pub struct Counted {
     pub answer: Answer,
     pub count: u32,

@@ -7,7 +7,7 @@ use circuit::read;
 use counts::{marks_set, no_marks, no_moduli, record_count, row_count};
 use lists::{byte_index, index_number};
 
-#[derive(Drop)]
+#[derive(Clone, Copy)]
 pub struct Summary {
     pub answer: Answer,
     pub wires: u32,

@@ -7,7 +7,7 @@ use contribution::contribution_size;
 use party_calls::counted;
 
 // How many inputs, wires and outputs; and how many bytes a party's contribution, its input keys, and its keys of all wires have.
-#[derive(Drop)]
+#[derive(Clone, Copy)]
 pub struct Sizes {
     pub own: usize,
     pub made: usize,

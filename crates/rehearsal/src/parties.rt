@@ -41,7 +41,7 @@ pub fn keys_of_all(
 }
 
 // How many parties there are, how long their keys, and the round; how many bytes a party has of contributions, of wires' keys and of wires' external values.
-#[derive(Drop)]
+#[derive(Clone, Copy)]
 pub struct Shares {
     pub n: u32,
     pub k: u32,

@@ -14,7 +14,7 @@ use party_calls::counted;
 use session::{AskedSession, Session, length_checked, partakers_checked, session_checked};
 
 // How many bytes are lent for the rows, the input masks and the sheets of output masks.
-#[derive(Drop)]
+#[derive(Clone, Copy)]
 struct Lengths {
     rows: usize,
     inputs: usize,

@@ -12,7 +12,7 @@ use pads::Bound;
 use residue::{add, mul, sub};
 
 // The wire that a gate makes, for `n` parties and key length `k`, in a round.
-#[derive(Drop)]
+#[derive(Clone, Copy)]
 pub struct Made {
     pub n: usize,
     pub k: usize,

@@ -8,7 +8,7 @@ use crate::rows::scratch;
 use residue::{key_of, sub};
 
 // The keys of all parties on a wire, one after another at the front of the array, and the wire's mask; or such a pair of a record.
-#[derive(Drop)]
+#[derive(Clone, Copy)]
 pub struct Keyed {
     pub key: [u8; 1024],
     pub mask: u8,

@@ -8,7 +8,7 @@ use pads::Bound;
 use residue::key_of;
 
 // What rows are made for: `n` parties, key length `k`, receiving modulus `q`, and what the pads are bound to.
-#[derive(Drop)]
+#[derive(Clone, Copy)]
 pub struct Row {
     pub n: usize,
     pub k: usize,

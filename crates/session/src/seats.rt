@@ -1,7 +1,7 @@
 // Numbers that travel together, as structs by value.
 
 // How many parties there are, how long their keys, and the round.
-#[derive(Drop)]
+#[derive(Clone, Copy)]
 pub struct Session {
     pub n: usize,
     pub k: usize,
@@ -9,7 +9,7 @@ pub struct Session {
 }
 
 // Those, and one of the parties.
-#[derive(Drop)]
+#[derive(Clone, Copy)]
 pub struct Seat {
     pub n: usize,
     pub k: usize,
@@ -18,14 +18,14 @@ pub struct Seat {
 }
 
 // The same as a caller hands them over, before they are checked.
-#[derive(Drop)]
+#[derive(Clone, Copy)]
 pub struct AskedSession {
     pub n: u32,
     pub k: u32,
     pub round: u32,
 }
 
-#[derive(Drop)]
+#[derive(Clone, Copy)]
 pub struct AskedSeat {
     pub n: u32,
     pub k: u32,

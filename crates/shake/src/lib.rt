@@ -14,7 +14,7 @@ const RATE: usize = 136;
 const RATE_LANES: usize = 17;
 
 // The lanes of the state, and the place in the block, 0 to 135, of the next byte.
-#[derive(Drop)]
+#[derive(Clone, Copy)]
 pub struct Sponge {
     pub lanes: [u64; 25],
     pub at: usize,

@@ -2,34 +2,34 @@
 use checks::Refusal;
 
 // An input's owner.
-#[derive(Drop)]
+#[derive(Clone, Copy)]
 pub struct Owned {
     pub owner: u8,
 }
 
 // The wires of a sum or a product.
-#[derive(Drop)]
+#[derive(Clone, Copy)]
 pub struct Pair {
     pub a: u16,
     pub b: u16,
 }
 
 // A wire and the constant that it is multiplied by.
-#[derive(Drop)]
+#[derive(Clone, Copy)]
 pub struct Scaling {
     pub constant: u8,
     pub a: u16,
 }
 
 // A wire and the index in the file of the word with the image of 0.
-#[derive(Drop)]
+#[derive(Clone, Copy)]
 pub struct Projection {
     pub a: u16,
     pub table: u32,
 }
 
 // The bit that chooses, the wire taken at 0 and the wire taken at 1.
-#[derive(Drop)]
+#[derive(Clone, Copy)]
 pub struct Choice {
     pub bit: u16,
     pub a: u16,
@@ -37,7 +37,7 @@ pub struct Choice {
 }
 
 // Document 01: "Each gate is one of six kinds, and each kind carries its own fields (an input counts as one)".
-#[derive(Drop)]
+#[derive(Clone, Copy)]
 pub enum Gate {
     Input(Owned),
     Add(Pair),
@@ -48,7 +48,7 @@ pub enum Gate {
 }
 
 // A wire: the gate that makes it, and its modulus.
-#[derive(Drop)]
+#[derive(Clone, Copy)]
 pub struct Wire {
     pub gate: Gate,
     pub modulus: u8,
@@ -56,7 +56,7 @@ pub struct Wire {
 
 // What is due: an input or anything after the inputs; a gate or anything after the gates; an output or the end; so many entries
 // below a modulus; the branches of a selection by a bit.
-#[derive(Drop)]
+#[derive(Clone, Copy)]
 pub enum Due {
     Inputs,
     Gates,
@@ -66,7 +66,7 @@ pub enum Due {
 }
 
 // What a word does: it is refused; it makes a wire; it only changes what is due; it gives an output; it ends the circuit.
-#[derive(Drop)]
+#[derive(Clone, Copy)]
 pub enum Step {
     Refused(Refusal),
     Makes(Wire, Due),

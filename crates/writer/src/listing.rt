@@ -11,7 +11,7 @@ use circuit::{Reading, read};
 use session::length_checked;
 
 // The answer, and how many records are listed: none where the call is refused.
-#[derive(Drop)]
+#[derive(Clone, Copy)]
 pub struct Listed {
     pub answer: Answer,
     pub count: usize,

@@ -6,7 +6,7 @@ use checks::{Answer, Refusal};
 use words::Due;
 
 // `made` wires, `given` outputs, `taken` entries of the tables, and `at` words, the head counted. Once it refuses, nothing of it changes any more.
-#[derive(Drop)]
+#[derive(Clone, Copy)]
 pub struct Pen {
     pub answer: Answer,
     pub due: Due,

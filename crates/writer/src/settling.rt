@@ -10,7 +10,7 @@ use checks::{Answer, Refusal};
 use words::{Item, encode};
 
 // The answer, how many words the file has (0 where it is refused), and whether they are laid down.
-#[derive(Drop)]
+#[derive(Clone, Copy)]
 pub struct Settled {
     pub answer: Answer,
     pub words: u32,

@@ -7,7 +7,7 @@ use super::entry::Record;
 use words::Item;
 
 // What follows a record's first item: nothing; the entries of its table, which stand in the tables; the branches of a choice.
-#[derive(Drop)]
+#[derive(Clone, Copy)]
 pub enum Rest {
     Alone,
     Table,
@@ -15,7 +15,7 @@ pub enum Rest {
 }
 
 // Nothing, where its kind is none of a record's or a field is set that its kind does not use; else its first item and the rest.
-#[derive(Drop)]
+#[derive(Clone, Copy)]
 pub enum Speaks {
     Nothing,
     Says(Item, Rest),

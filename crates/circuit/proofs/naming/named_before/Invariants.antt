@@ -1,0 +1,15 @@
+-- `circuit::naming::named_before` meets its contract: a loop that fills the array word by word.
+-- Assumes nothing.
+use mathlib.Core.Path.{◌≡◌, refl, ◌∙◌, ap}
+use Prim.Native.Nat.{ℕ, ◌+◌, ◌-◌, ◌≤◌}
+use native.Mathlib.Omega.{arith}
+use borrow.Author.Rules.{rules}
+use Rattle.words.specs.Bits.{named}
+use Rattle.circuit.proofs.Lookback.{Naming, naming_start, naming_step, naming_whole}
+use Rattle.circuit.proofs.naming.named_before.Given as goal
+
+abbrev pub invariant-loop-i : goal.invariant-loop-i
+invariant-loop-i l = (l.i ≤ l.count) × Naming l.file l.first l.i l.named
+
+abbrev pub decreases-loop-i : goal.decreases-loop-i
+decreases-loop-i l = l.count - l.i

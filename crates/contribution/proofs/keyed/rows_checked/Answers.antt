@@ -1,0 +1,16 @@
+-- `contribution::rows_checked` meets its contract: the first that was found is named. Assumes nothing.
+use native.Mathlib.Omega.{arith}
+use Rattle.circuit.specs.Held.{wires_in}
+use Rattle.contribution.proofs.Sizes.{times-most}
+use Rattle.contribution.proofs.Large.{rows_met}
+use borrow.Author.Rules.{rules}
+use Rattle.contribution.proofs.keyed.rows_checked.Goals as goal
+
+pub overflow_mul-width : goal.overflow_mul-width
+overflow_mul-width c = omega (arith, times-most c.args.n c.args.k 8 128 c.requires.held.1.0 c.requires.held.1.1)
+
+pub first_in_rows-found-requires : goal.first_in_rows-found-requires
+first_in_rows-found-requires c = record { held = (c.requires.held.0, times-most c.args.n c.args.k 8 128 c.requires.held.1.0 c.requires.held.1.1); rows_len = c.requires.rows_len }
+
+pub returns : goal.returns
+returns c = rows_met c.args.n c.args.k (wires_in c.args.circuit) c.args.rows.now c.first_in_rows-found.ensures c.named.ensures

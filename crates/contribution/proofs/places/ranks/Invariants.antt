@@ -1,0 +1,14 @@
+-- `contribution::ranks` meets its contract: a loop in which each place is the one before it and its mark. Assumes nothing.
+use native.Mathlib.Omega.{arith}
+use Prim.Native.Nat.{◌+◌, ◌-◌}
+use Rattle.lists.proofs.Filled.{Filled}
+use Rattle.counts.specs.Moduli.{used}
+use Rattle.circuit.specs.Held.{wires_in}
+use Rattle.contribution.proofs.Sizes.{ranked, ranks_start, ranks_fit, ranks_step, ranks_done}
+use Rattle.contribution.proofs.places.ranks.Given as goal
+
+abbrev pub invariant-loop-p : goal.invariant-loop-p
+invariant-loop-p l = Filled l.initial.ranks (l.p + 1) 256 (ranked l.marks) l.ranks
+
+abbrev pub decreases-loop-p : goal.decreases-loop-p
+decreases-loop-p l = 255 - l.p

@@ -1,0 +1,20 @@
+-- `counts::rows` meets its contract: a loop that adds up the rows of the wires. Assumes nothing.
+use mathlib.Core.Path.{refl}
+use Prim.Native.Nat.{◌-◌}
+use native.Mathlib.Omega.{arith}
+use Rattle.circuit.specs.Held.{wires_in}
+use Rattle.counts.specs.Counts.{rows_of}
+use Rattle.counts.proofs.Counting.{Summed, summed_start, summed-step, summed-done, rows_at}
+use Rattle.counts.proofs.count.rows.Goals as goal
+
+pub moduli-table-requires : goal.moduli-table-requires
+moduli-table-requires c = c.requires
+
+pub loop-w-init : goal.loop-w-init
+loop-w-init c = summed_start
+
+pub loop-w-preserved : goal.loop-w-preserved
+loop-w-preserved c = summed-step c.loop-w.invariant c.loop-w-test.true c.row_count-total.ensures (rows_at c.args.t1.wires c.args.t1.made c.loop-w.w (1024 - c.args.t1.made) c.moduli-table.result c.loop-w-test.true c.moduli-table.ensures)
+
+pub returns : goal.returns
+returns c = summed-done 524288 c.requires c.loop-w.invariant c.loop-w-test.false refl

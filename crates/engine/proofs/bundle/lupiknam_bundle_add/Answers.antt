@@ -1,0 +1,7 @@
+-- `lupiknam_bundle_add` meets its contract: what the part promises, told to C. Assumes nothing.
+use borrow.Author.Rules.{rules}
+use Rattle.engine.proofs.Faces.{part_called}
+use Rattle.engine.proofs.bundle.lupiknam_bundle_add.Goals as goal
+
+pub returns : goal.returns
+returns c = part_called c.write_part-made.ensures c.tell_part.ensures

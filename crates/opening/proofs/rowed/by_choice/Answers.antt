@@ -1,0 +1,25 @@
+-- `opening::by_choice` meets its contract: with and without a multiplier; a local has room for the difference. Assumes nothing.
+use mathlib.Core.Path.{sym, ◌∙◌}
+use native.Mathlib.Omega.{arith}
+use Rattle.contribution.proofs.Sizes.{vector-fits, scratch_cut}
+use Rattle.opening.proofs.Turns.{made_choice, made_none}
+use borrow.Author.Rules.{rules}
+use Rattle.opening.proofs.rowed.by_choice.Goals as goal
+
+pub slice_bounds-d-end : goal.slice_bounds-d-end
+slice_bounds-d-end c = omega (arith, c.scratch-d.ensures, vector-fits c.requires.seated.0.sizes)
+
+pub slice_bounds-held_back-end : goal.slice_bounds-held_back-end
+slice_bounds-held_back-end c = sym (scratch_cut c.scratch-d.result c.requires.seated.0.sizes c.scratch-d.ensures)
+
+pub held_back-found-requires : goal.held_back-found-requires
+held_back-found-requires c = record { seated = (c.requires.seated.0, (record { size = scratch_cut c.scratch-d.result c.requires.seated.0.sizes c.scratch-d.ensures }, c.requires.seated.1)); choice_ready = c.requires.choice_ready }
+
+pub added-requires : goal.added-requires
+added-requires c = record { seated = (c.requires.seated.0, (record { size = c.held_back-found.auto.out ∙ c.requires.seated.1.size }, c.if-found-turn.true)); lower = c.requires.choice_ready.a }
+
+pub returns-then-found-turn : goal.returns-then-found-turn
+returns-then-found-turn c = made_choice c.args.turn c.args.contribution.now c.args.rows.now c.args.wkeys.now c.args.wexternals.now c.args.g c.held_back-found.ensures c.if-found-turn.true c.added.ensures
+
+pub returns-else-found-turn : goal.returns-else-found-turn
+returns-else-found-turn c = made_none c.args.turn c.args.contribution.now c.args.rows.now c.args.wkeys.now c.args.wexternals.now c.args.g c.held_back-found.ensures c.if-found-turn.false

@@ -1,0 +1,16 @@
+-- `opening::held_back` meets its contract: what the rows give and what is searched for is the definition. Assumes nothing.
+use mathlib.Core.Path.{◌∙◌}
+use native.Mathlib.Omega.{arith}
+use Rattle.residue.proofs.Vectors.{sub-below}
+use Rattle.opening.proofs.Turns.{below_as, made_held}
+use borrow.Author.Rules.{rules}
+use Rattle.opening.proofs.rowed.held_back.Goals as goal
+
+pub open_choice-requires : goal.open_choice-requires
+open_choice-requires c = record { seated = (c.requires.seated.0, (c.requires.choice_ready.lines, (c.requires.choice_ready.bit.below, below_as c.differing-alpha.ensures.0 (sub-below (omega (arith, c.requires.seated.0.modulus)) _ _)))); vector = (record { size = c.nth_piece-v.ensures.1 }, (record { size = c.differing-alpha.auto.d ∙ c.requires.seated.1.0.size }, c.requires.seated.1.1)) }
+
+pub own_multiplier-requires : goal.own_multiplier-requires
+own_multiplier-requires c = (c.requires.seated.0, (c.requires.choice_ready.own, record { size = c.open_choice.auto.out ∙ c.requires.seated.1.1.size }))
+
+pub returns : goal.returns
+returns c = made_held c.args.turn c.args.contribution.now c.args.rows.now c.args.wkeys.now c.args.wexternals.now c.args.g c.nth_piece-v.ensures.0 c.differing-alpha.ensures.0 c.differing-alpha.ensures.1 c.open_choice.ensures c.own_multiplier.ensures

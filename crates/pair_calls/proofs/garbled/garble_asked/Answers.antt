@@ -1,0 +1,16 @@
+-- `pair_calls::garble_asked` meets its contract: out of range, or what the checks after it answer. Assumes nothing.
+use mathlib.Core.Path.{sym, ◌∙◌}
+use Rattle.circuit.specs.Held.{wires_in, outputs_in}
+use Rattle.pair_calls.specs.Lent.{garble_owned}
+use Rattle.pair_calls.proofs.Shared.{ranged, asked_next, asked_stop}
+use borrow.Author.Rules.{rules}
+use Rattle.pair_calls.proofs.garbled.garble_asked.Goals as goal
+
+pub garble_owned-requires : goal.garble_owned-requires
+garble_owned-requires c = ranged c.args.k c.requires (sym c.session_checked-session.ensures ∙ c.in-Accepted.is) c.number_index-long.ensures
+
+pub returns-in-Accepted : goal.returns-in-Accepted
+returns-in-Accepted c = asked_next c.args.k c.session_checked-session.ensures c.number_index-long.ensures (λ k. garble_owned k (wires_in c.args.circuit) (outputs_in c.args.circuit) c.args.draw.now c.args.lent.rows c.args.lent.outputs c.args.account) c.in-Accepted.is c.garble_owned.ensures
+
+pub returns-in-Refused : goal.returns-in-Refused
+returns-in-Refused c = asked_stop c.args.k c.session_checked-session.ensures c.number_index-long.ensures (λ k. garble_owned k (wires_in c.args.circuit) (outputs_in c.args.circuit) c.args.draw.now c.args.lent.rows c.args.lent.outputs c.args.account) c.in-Refused.is

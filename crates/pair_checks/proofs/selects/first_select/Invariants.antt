@@ -1,0 +1,14 @@
+-- `pair_checks::first_select` meets its contract: a loop that looks for the first. Assumes nothing.
+use mathlib.Core.Path.{sym, ◌∙◌}
+use Prim.Native.Nat.{◌-◌}
+use native.Mathlib.Omega.{arith}
+use Rattle.lists.proofs.Search.{Looking, looking_start, looking_on, looking_found, looking_none}
+use Rattle.circuit.specs.File.{words_in}
+use Rattle.pair.specs.Bytes.{is_select_word}
+use Rattle.pair_checks.proofs.selects.first_select.Given as goal
+
+abbrev pub invariant-loop-i : goal.invariant-loop-i
+invariant-loop-i l = Looking (words_in l.file) (is_select_word l.file) l.i
+
+abbrev pub decreases-loop-i : goal.decreases-loop-i
+decreases-loop-i l = words_in l.file - l.i

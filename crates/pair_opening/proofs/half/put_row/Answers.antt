@@ -1,0 +1,13 @@
+-- `pair_opening::put_row` meets its contract: no row for 0, the row before for any other. Assumes nothing.
+use Rattle.pair_opening.proofs.Bared.{row_none, row_some, row_inside}
+use borrow.Author.Rules.{rules}
+use Rattle.pair_opening.proofs.half.put_row.Goals as goal
+
+pub returns-then-e-eq0 : goal.returns-then-e-eq0
+returns-then-e-eq0 c = row_none _ _ _ c.if-e-eq0.true c.requires.1 c.fill.ensures
+
+pub nth_piece-row-requires : goal.nth_piece-row-requires
+nth_piece-row-requires c = row_inside c.requires.0 c.if-e-eq0.false c.byte_index.ensures.0
+
+pub returns : goal.returns
+returns c = row_some _ c.args.rows.now _ c.if-e-eq0.false c.byte_index.ensures.0 c.nth_piece-row.ensures.0 c.copy.ensures

@@ -1,0 +1,18 @@
+-- `residue::keys::add_multiple` meets its contract: entry by entry, `out` turns into its sum with the multiple, which is a key of
+-- zero key `out` and offset `b`. Assumes nothing.
+use mathlib.Core.Path.{◌∙◌, ap}
+use Prim.Native.Nat.{ℕ, ◌+◌, ◌*◌, ◌-◌, ◌≤◌}
+use native.Mathlib.Nat.{le_refl}
+use native.Mathlib.Omega.{arith}
+use lib.ListN.{length, get_or}
+use borrow.Author.Rules.{rules}
+use Rattle.residue.specs.Vector.{key_v}
+use Rattle.residue.proofs.Vectors.{key_v-length, key-entry}
+use Rattle.residue.proofs.InPlace.{Turned, turned_none, turned_more, turned-all}
+use Rattle.residue.proofs.keys.add_multiple.Given as goal
+
+abbrev pub invariant-loop-i : goal.invariant-loop-i
+invariant-loop-i l = (l.i ≤ length l.b) × Turned (key_v l.p l.initial.out l.c l.b) l.initial.out l.i l.out
+
+abbrev pub decreases-loop-i : goal.decreases-loop-i
+decreases-loop-i l = length l.b - l.i

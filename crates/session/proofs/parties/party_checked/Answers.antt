@@ -1,0 +1,11 @@
+-- `session::party_checked` meets its contract: one law for each way. Assumes nothing.
+use mathlib.Core.Path.{sym}
+use Rattle.session.proofs.Searches.{party_absent}
+use Rattle.session.proofs.Sessions.{party_passed}
+use Rattle.session.proofs.parties.party_checked.Goals as goal
+
+pub returns-then-party-n : goal.returns-then-party-n
+returns-then-party-n c = sym (party_passed c.if-party-n.true)
+
+pub returns : goal.returns
+returns c = party_absent c.if-party-n.false c.number_index-place.ensures

@@ -1,0 +1,9 @@
+-- `words::bits::clear` meets its contract.
+-- Assumes nothing.
+use mathlib.Core.Path.{ap}
+use lib.Dec.{eqb}
+use borrow.Author.Rules.{rules}
+use Rattle.words.proofs.bits.clear.Goals as goal
+
+pub returns : goal.returns
+returns c = ap (λ k. eqb k 0) c.bits.ensures

@@ -1,0 +1,20 @@
+-- `writer::steps::spoken_on` meets its contract: each arm is told what is said.
+-- Assumes nothing.
+use native.Mathlib.Omega.{arith}
+use borrow.Author.Rules.{rules}
+use Rattle.writer.specs.Desk.{desk}
+use Rattle.writer.proofs.Desks.{at-laid, near_enough, steady-laid}
+use Rattle.writer.proofs.Speeches.{nothing-done, says-done}
+use Rattle.writer.proofs.steps.spoken_on.Goals as goal
+
+pub rest_on-requires : goal.rest_on-requires
+rest_on-requires c = let a = c.args in
+    (steady-laid a.lay a.place _ (desk a.pen a.moduli.now a.file.now) c.lay_item-begun.ensures c.requires.steady, omega (arith, near_enough c.requires, at-laid a.lay a.place _ (desk a.pen a.moduli.now a.file.now) c.lay_item-begun.ensures))
+
+pub returns-in-Nothing : goal.returns-in-Nothing
+returns-in-Nothing c = let a = c.args in
+    nothing-done a.lay a.tables.now a.place (desk a.pen a.moduli.now a.file.now) c.in-Nothing.is (c.refuse.ensures a.moduli.now a.file.now)
+
+pub returns-in-Says : goal.returns-in-Says
+returns-in-Says c = let a = c.args in
+    says-done a.lay a.tables.now a.place (desk a.pen a.moduli.now a.file.now) c.in-Says.is c.lay_item-begun.ensures c.rest_on.ensures

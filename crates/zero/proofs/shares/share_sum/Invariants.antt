@@ -1,0 +1,18 @@
+-- `zero::shares::share_sum` meets its contract: a sum with one share more each turn.
+-- Assumes nothing.
+use mathlib.Core.List.{List}
+use mathlib.Core.Path.{◌≡◌, ap, ◌∙◌}
+use Prim.Native.Nat.{ℕ, ◌-◌, ◌%◌}
+use native.Mathlib.Omega.{arith}
+use borrow.Author.Rules.{rules}
+use lib.ListN.{get_or}
+use Rattle.lists.proofs.Sums.{times-fits}
+use Rattle.lists.specs.Blocks.{sum_to, nth_piece}
+use Rattle.counts.proofs.Counting.{Summed, summed_start, summed-step}
+use Rattle.zero.proofs.shares.share_sum.Given as goal
+
+abbrev pub invariant-loop-party : goal.invariant-loop-party
+invariant-loop-party l = Summed 255 (λ i. get_or (nth_piece l.contributions l.size i) l.at 0) l.n l.party l.total
+
+abbrev pub decreases-loop-party : goal.decreases-loop-party
+decreases-loop-party l = l.n - l.party

@@ -1,0 +1,9 @@
+-- `zero::zero::multiple` meets its contract: the copy, multiplied.
+-- Assumes nothing.
+use mathlib.Core.Path.{ap, ◌∙◌}
+use borrow.Author.Rules.{rules}
+use Rattle.residue.specs.Vector.{mul_v}
+use Rattle.zero.proofs.zero.multiple.Goals as goal
+
+pub returns : goal.returns
+returns c = c.scale.ensures ∙ ap (mul_v c.args.p c.args.gate.constant) (c.copy.ensures ∙ c.nth_piece-a.ensures.0)
