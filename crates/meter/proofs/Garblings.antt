@@ -81,14 +81,14 @@ module _ {totals : List ℕ} (is : IsMeter totals) (garbling : Garbling) where
 pub after-meter : {totals : List ℕ} → IsMeter totals → (garblings : List Garbling) → IsMeter (totals_after totals garblings)
 unfolding totals_after
 after-meter is [] = is
-after-meter is (garbling ∷ later) = after-meter (back_meter is garbling) later
+after-meter {totals = totals} is (garbling ∷ later) = after-meter {totals = handed_back totals garbling} (back_meter is garbling) later
 
 pub totals_are : {totals : List ℕ} → IsMeter totals → (garblings : List Garbling) (account : ℕ) → account < accounts
     → get_or (totals_after totals garblings) account 0 ≡ get_or totals account 0 + rows_naming account totals garblings
 unfolding totals_after rows_naming
 totals_are is [] account h = omega arith
-totals_are {totals} is (garbling ∷ later) account h =
-    totals_are (back_meter is garbling) later account h
+totals_are {totals = totals} is (garbling ∷ later) account h =
+    totals_are {totals = handed_back totals garbling} (back_meter is garbling) later account h
     ∙ ap (λ (m : ℕ). m + rows_naming account (handed_back totals garbling) later) (back_is is garbling account h)
     ∙ omega arith
 

@@ -29,7 +29,7 @@ unfolding put_words
 kept_many true {before} {file} {ws} [] k e = subst (Kept true before file) (sym (append-nil ws)) k
 kept_many true {before} {file} {ws} (w ∷ es) {at} k e =
     subst (Kept true before _) (append_assoc ws (w ∷ []) es)
-    (kept_many true es (kept_more true w k e) (ap suc e ∙ next))
+    (kept_many true {file = put_word file at w} es (kept_more true w k e) (ap suc e ∙ next))
   where
     next : suc (length ws) ≡ length (ws ++ (w ∷ []))
     next = omega (arith, length-append ws (w ∷ []))

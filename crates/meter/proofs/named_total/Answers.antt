@@ -6,4 +6,4 @@ use borrow.Author.Rules.{rules}
 use Rattle.meter.proofs.named_total.Goals as goal
 
 pub returns-else-place-lt8 : goal.returns-else-place-lt8
-returns-else-place-lt8 c = let eight : length c.args.t1 ≡ 8 = search rules in sym (get_or-eq_default c.args.t1 0 (omega (arith, eight, c.if-place-lt8.false)))
+returns-else-place-lt8 c = let eight : length c.args.totals ≡ 8 = search rules in sym (get_or-eq_default c.args.totals 0 (omega (arith, eight, c.if-place-lt8.false)))

@@ -3,11 +3,16 @@
 -- Assumes nothing.
 use mathlib.Core.Path.{◌≡◌, refl, ◌∙◌, sym, ap, subst}
 use mathlib.Core.Bool.{Bool, true, false, cond}
-use Prim.Native.Nat.{ℕ, ◌-◌, ◌≤◌}
+use Prim.Native.Nat.{ℕ, ◌-◌, ◌≤◌, ◌<◌}
 use native.Mathlib.Omega.{arith}
 use borrow.Author.Rules.{rules}
 use lib.ListN.{take}
+use mathlib.Core.List.{List}
+use Rattle.words.specs.declared.gate.Due.{Due}
 use Rattle.words.specs.declared.gate.Step.{Step}
+use Rattle.words.specs.declared.gate.Wire.{Wire}
+use Rattle.words.specs.Bits.{word_at}
+use Rattle.words.specs.Reading.{read_word}
 use Rattle.words.proofs.Steps.{not_failed, not_passed}
 use Rattle.circuit.specs.declared.Circuit.{Circuit}
 use Rattle.circuit.specs.Wires.{is_input}
@@ -19,21 +24,11 @@ use Rattle.circuit.proofs.reader.read.Goals as goal
 
 -- what the word at hand does
 turned :
-    (c : tie.After-read-word invariant-loop decreases-loop) (step : Step)
-    → c.read_word.result ≡ step
-    → Turn
-    c.before.before.before.before.before.before.before.before.before.before.before.args.file.now
-    c.before.before.before.before.before.loop.at
-    (take c.before.before.before.before.before.loop.made c.before.before.before.before.before.loop.circuit.wires)
-    (take c.before.before.before.before.before.loop.given c.before.before.before.before.before.loop.circuit.outputs)
-    step
-turned c step e =
-    turn c.before.before.before.before.before.loop.invariant.1
-    (omega (arith, c.before.before.before.before.before.loop.invariant.0, c.before.before.before.before.loop-test.true))
-    c.before.before.word-at.result
-    c.before.before.word-at.ensures
-    step
-    (sym e ∙ c.read_word.ensures)
+    {file : List ℕ} {wires : List Wire} {moduli outputs : List ℕ} {made inputs given : ℕ} {due : Due} {at words w : ℕ} {r step : Step}
+    → Loop file wires moduli outputs made inputs given due at → words ≡ words_in file → at < words → w ≡ word_at file at
+    → r ≡ step → r ≡ read_word (take made moduli) given at due w
+    → Turn file at (take made wires) (take given outputs) step
+turned {step = step} l e h f g k = turn l (omega (arith, e, h)) _ f step (sym g ∙ k)
 
 small : (b : Bool) {n : ℕ} → n ≡ cond b 1 0 → n ≤ 1
 small true e = omega arith
@@ -80,7 +75,7 @@ read_word-requires c = let l = c.loop-at.invariant.1 in
 
 pub returns-in-Refused : goal.returns-in-Refused
 returns-in-Refused c = let l = c.loop-at.invariant.1 in
-    subst (Holds _) (stopped l (turned c _ c.in-Refused.is)) c.refused-in-Refused.ensures
+    subst (Holds _) (stopped l (turned c.loop-at.invariant.1 c.loop-at.invariant.0 c.loop-at-test.true c.word_at-w.ensures c.in-Refused.is c.read_word.ensures)) c.refused-in-Refused.ensures
 
 pub offset_bounds-circuit-made : goal.offset_bounds-circuit-made
 offset_bounds-circuit-made c = let l = c.loop-at.invariant.1 in
@@ -88,11 +83,11 @@ offset_bounds-circuit-made c = let l = c.loop-at.invariant.1 in
 
 pub bounds-circuit-made : goal.bounds-circuit-made
 bounds-circuit-made c = let l = c.loop-at.invariant.1 in
-    wire-room l (turned c _ c.in-Makes.is)
+    wire-room l (turned c.loop-at.invariant.1 c.loop-at.invariant.0 c.loop-at-test.true c.word_at-w.ensures c.in-Makes.is c.read_word.ensures)
 
 pub bounds-moduli-made : goal.bounds-moduli-made
 bounds-moduli-made c = let l = c.loop-at.invariant.1 in
-    wire-room l (turned c _ c.in-Makes.is)
+    wire-room l (turned c.loop-at.invariant.1 c.loop-at.invariant.0 c.loop-at-test.true c.word_at-w.ensures c.in-Makes.is c.read_word.ensures)
 
 pub overflow_add-inputs : goal.overflow_add-inputs
 overflow_add-inputs c = let l = c.loop-at.invariant.1 in
@@ -108,7 +103,7 @@ loop-at-smaller-in-Makes c = omega (arith, c.loop-at-test.true)
 pub loop-at-preserved-in-Makes : goal.loop-at-preserved-in-Makes
 loop-at-preserved-in-Makes c = let l = c.loop-at.invariant.1 in (
       c.loop-at.invariant.0,
-      rw c.inputs_of-inputs.ensures (made_one l (turned c _ c.in-Makes.is)),
+      rw c.inputs_of-inputs.ensures (made_one l (turned c.loop-at.invariant.1 c.loop-at.invariant.0 c.loop-at-test.true c.word_at-w.ensures c.in-Makes.is c.read_word.ensures)),
     )
 
 pub loop-at-smaller-in-Goes : goal.loop-at-smaller-in-Goes
@@ -117,7 +112,7 @@ loop-at-smaller-in-Goes c = omega (arith, c.loop-at-test.true)
 pub loop-at-preserved-in-Goes : goal.loop-at-preserved-in-Goes
 loop-at-preserved-in-Goes c = let l = c.loop-at.invariant.1 in (
       c.loop-at.invariant.0,
-      gone l (turned c _ c.in-Goes.is),
+      gone l (turned c.loop-at.invariant.1 c.loop-at.invariant.0 c.loop-at-test.true c.word_at-w.ensures c.in-Goes.is c.read_word.ensures),
     )
 
 pub offset_bounds-circuit-given : goal.offset_bounds-circuit-given
@@ -126,7 +121,7 @@ offset_bounds-circuit-given c = let l = c.loop-at.invariant.1 in
 
 pub bounds-circuit-given : goal.bounds-circuit-given
 bounds-circuit-given c = let l = c.loop-at.invariant.1 in
-    output_room l (turned c _ c.in-Gives.is)
+    output_room l (turned c.loop-at.invariant.1 c.loop-at.invariant.0 c.loop-at-test.true c.word_at-w.ensures c.in-Gives.is c.read_word.ensures)
 
 pub overflow_add-given : goal.overflow_add-given
 overflow_add-given c = let l = c.loop-at.invariant.1 in
@@ -138,7 +133,7 @@ loop-at-smaller c = omega (arith, c.loop-at-test.true)
 pub loop-at-preserved : goal.loop-at-preserved
 loop-at-preserved c = let l = c.loop-at.invariant.1 in (
       c.loop-at.invariant.0,
-      given_one l (turned c _ c.in-Gives.is),
+      given_one l (turned c.loop-at.invariant.1 c.loop-at.invariant.0 c.loop-at-test.true c.word_at-w.ensures c.in-Gives.is c.read_word.ensures),
     )
 
 pub overflow_mul-next : goal.overflow_mul-next
@@ -151,11 +146,11 @@ named_before-circuit-requires c = let l = c.loop-at.invariant.1 in
 pub returns-then-file-next : goal.returns-then-file-next
 returns-then-file-next c = let l = c.loop-at.invariant.1 in
     holds l c.named_before-circuit.ensures
-    (ended_well l (turned c _ c.in-Ends.is) c.if-file-next.true)
+    (ended_well l (turned c.loop-at.invariant.1 c.loop-at.invariant.0 c.loop-at-test.true c.word_at-w.ensures c.in-Ends.is c.read_word.ensures) c.if-file-next.true)
 
 pub returns-in-Ends : goal.returns-in-Ends
 returns-in-Ends c = let l = c.loop-at.invariant.1 in
-    subst (Holds _) (ended_early l (turned c _ c.in-Ends.is) c.if-file-next.false)
+    subst (Holds _) (ended_early l (turned c.loop-at.invariant.1 c.loop-at.invariant.0 c.loop-at-test.true c.word_at-w.ensures c.in-Ends.is c.read_word.ensures) c.if-file-next.false)
     c.refused-in-Ends.ensures
 
 pub returns : goal.returns

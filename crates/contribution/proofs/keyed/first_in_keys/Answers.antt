@@ -12,7 +12,7 @@ use Rattle.contribution.proofs.Runs.{Searched, searched_start, searched-fits, se
 use Rattle.contribution.proofs.keyed.first_in_keys.Goals as goal
 
 pub loop-w-init : goal.loop-w-init
-loop-w-init c = searched_start (sum_to_const (inputs_in (wires_in c.args.t1)) c.args.width ∙ sym c.requires.keys_len)
+loop-w-init c = searched_start (sum_to_const (inputs_in (wires_in c.args.circuit)) c.args.width ∙ sym c.requires.keys_len)
 
 pub offset_bounds-circuit-w : goal.offset_bounds-circuit-w
 offset_bounds-circuit-w c = omega (arith, inputs-made c.requires.held, c.requires.held.room.made)
@@ -36,13 +36,13 @@ pub overflow_add-result : goal.overflow_add-result
 overflow_add-result c = omega (arith, searched-fits c.loop-w.invariant (omega (arith, c.requires.held.inputs)))
 
 pub returns-then-found-width : goal.returns-then-found-width
-returns-then-found-width c = run_found (modulus_at (wires_in c.args.t1)) c.loop-w.invariant (omega (arith, c.requires.held.inputs)) (modulus_is c.args.t1 c.requires.held.room (omega (arith, inputs-made c.requires.held))) refl refl c.first_at_least-found.ensures c.if-found-width.true
+returns-then-found-width c = run_found (modulus_at (wires_in c.args.circuit)) c.loop-w.invariant (omega (arith, c.requires.held.inputs)) (modulus_is c.args.circuit c.requires.held.room (omega (arith, inputs-made c.requires.held))) refl refl c.first_at_least-found.ensures c.if-found-width.true
 
 pub loop-w-smaller : goal.loop-w-smaller
 loop-w-smaller c = omega (arith, c.requires.held.inputs)
 
 pub loop-w-preserved : goal.loop-w-preserved
-loop-w-preserved c = run_on (modulus_at (wires_in c.args.t1)) c.loop-w.invariant (omega (arith, c.requires.held.inputs)) (modulus_is c.args.t1 c.requires.held.room (omega (arith, inputs-made c.requires.held))) refl refl c.first_at_least-found.ensures c.if-found-width.false
+loop-w-preserved c = run_on (modulus_at (wires_in c.args.circuit)) c.loop-w.invariant (omega (arith, c.requires.held.inputs)) (modulus_is c.args.circuit c.requires.held.room (omega (arith, inputs-made c.requires.held))) refl refl c.first_at_least-found.ensures c.if-found-width.false
 
 pub returns : goal.returns
 returns c = searched-done c.loop-w.invariant (omega (arith, c.requires.held.inputs))

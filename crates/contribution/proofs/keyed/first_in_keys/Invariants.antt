@@ -12,7 +12,7 @@ use Rattle.contribution.proofs.Runs.{Searched, searched_start, searched-fits, se
 use Rattle.contribution.proofs.keyed.first_in_keys.Given as goal
 
 abbrev pub invariant-loop-w : goal.invariant-loop-w
-invariant-loop-w l = Searched l.keys (runs (inputs_in (wires_in l.circuit)) (λ l.w. l.width) (modulus_at (wires_in l.circuit))) (inputs_in (wires_in l.circuit)) (λ l.w. l.width) l.w l.at
+invariant-loop-w l = Searched l.keys (runs (inputs_in (wires_in l.circuit)) (λ w. l.width) (modulus_at (wires_in l.circuit))) (inputs_in (wires_in l.circuit)) (λ w. l.width) l.w l.at
 
 abbrev pub decreases-loop-w : goal.decreases-loop-w
 decreases-loop-w l = inputs_in (wires_in l.circuit) - l.w

@@ -14,7 +14,7 @@ pub loop-w-init : goal.loop-w-init
 loop-w-init c = summed_start
 
 pub loop-w-preserved : goal.loop-w-preserved
-loop-w-preserved c = summed-step c.loop-w.invariant c.loop-w-test.true c.owned-total.ensures (ap (λ (wire : Wire). mark (owned_by c.args.party wire.gate)) (sym (wire-at c.args.t1.wires c.args.t1.made c.loop-w.w c.loop-w-test.true)))
+loop-w-preserved c = summed-step c.loop-w.invariant c.loop-w-test.true c.owned-total.ensures (ap (λ (wire : Wire). mark (owned_by c.args.party wire.gate)) (sym (wire-at c.args.circuit.wires c.args.circuit.made c.loop-w.w c.loop-w-test.true)))
 
 pub returns : goal.returns
 returns c = summed-done 1024 c.requires c.loop-w.invariant c.loop-w-test.false refl

@@ -11,7 +11,7 @@ pub loop-w-init : goal.loop-w-init
 loop-w-init c = summed_start
 
 pub loop-w-preserved : goal.loop-w-preserved
-loop-w-preserved c = summed-step c.loop-w.invariant c.loop-w-test.true c.record_count-total.ensures (records-at c.args.t1.wires c.args.t1.made c.loop-w.w c.loop-w-test.true)
+loop-w-preserved c = summed-step c.loop-w.invariant c.loop-w-test.true c.record_count-total.ensures (records-at c.args.circuit.wires c.args.circuit.made c.loop-w.w c.loop-w-test.true)
 
 pub returns : goal.returns
 returns c = summed-done 3072 c.requires c.loop-w.invariant c.loop-w-test.false refl

@@ -14,7 +14,7 @@ pub loop-w-init : goal.loop-w-init
 loop-w-init c = summed_start
 
 pub loop-w-preserved : goal.loop-w-preserved
-loop-w-preserved c = summed-step c.loop-w.invariant c.loop-w-test.true c.row_count-total.ensures (rows_at c.args.t1.wires c.args.t1.made c.loop-w.w (1024 - c.args.t1.made) c.moduli-table.result c.loop-w-test.true c.moduli-table.ensures)
+loop-w-preserved c = summed-step c.loop-w.invariant c.loop-w-test.true c.row_count-total.ensures (rows_at c.args.circuit.wires c.args.circuit.made c.loop-w.w (1024 - c.args.circuit.made) c.moduli-table.result c.loop-w-test.true c.moduli-table.ensures)
 
 pub returns : goal.returns
 returns c = summed-done 524288 c.requires c.loop-w.invariant c.loop-w-test.false refl

@@ -8,7 +8,7 @@ use Rattle.counts.proofs.Wires.{moduli_start, moduli-step, moduli-done}
 use Rattle.counts.proofs.modulus.moduli.Goals as goal
 
 pub loop-w-init : goal.loop-w-init
-loop-w-init c = moduli_start c.args.t1 c.requires c.no_moduli-moduli.result c.no_moduli-moduli.ensures
+loop-w-init c = moduli_start c.args.circuit c.requires c.no_moduli-moduli.result c.no_moduli-moduli.ensures
 
 pub offset_bounds-circuit-w : goal.offset_bounds-circuit-w
 offset_bounds-circuit-w c = omega (arith, c.requires.made)
@@ -26,7 +26,7 @@ pub loop-w-smaller : goal.loop-w-smaller
 loop-w-smaller c = omega (arith, c.requires.made)
 
 pub loop-w-preserved : goal.loop-w-preserved
-loop-w-preserved c = moduli-step c.args.t1 c.requires c.loop-w.invariant c.loop-w-test.true
+loop-w-preserved c = moduli-step c.args.circuit c.requires c.loop-w.invariant c.loop-w-test.true
 
 pub returns : goal.returns
-returns c = moduli-done c.args.t1 c.requires c.no_moduli-moduli.ensures c.loop-w.invariant c.loop-w-test.false
+returns c = moduli-done c.args.circuit c.requires c.no_moduli-moduli.ensures c.loop-w.invariant c.loop-w-test.false

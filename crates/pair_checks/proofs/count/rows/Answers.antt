@@ -16,7 +16,7 @@ loop-w-init c = summed_start
 
 pub loop-w-preserved : goal.loop-w-preserved
 loop-w-preserved c = summed-step c.loop-w.invariant c.loop-w-test.true c.row_count-total.ensures
-    (pair_rows_at c.args.t1.wires c.args.t1.made c.loop-w.w (1024 - c.args.t1.made)
+    (pair_rows_at c.args.circuit.wires c.args.circuit.made c.loop-w.w (1024 - c.args.circuit.made)
     c.moduli-table.result c.loop-w-test.true
     c.moduli-table.ensures)
 

@@ -7,6 +7,6 @@ use Rattle.pair_garbling.proofs.halves.put_half.Goals as goal
 pub returns : goal.returns
 returns c = let f = c.requires.fits.0 in
     let v = c.requires.fits.1.0 in
-    let s = start_is f c.args.t2 v c.mul-minus.ensures c.key_of.ensures in
-    let k = half-key f c.args.t2 v s c.put_key.ensures in
-    (k, half-rows f c.args.t2 v s k c.put_rows.ensures)
+    let s = start_is f c.args.factors v c.mul-minus.ensures c.key_of.ensures in
+    let k = half-key f c.args.factors v s c.put_key.ensures in
+    (k, half-rows f c.args.factors v s k c.put_rows.ensures)

@@ -7,7 +7,7 @@ use Rattle.party_calls.proofs.TableLoops.{OwnTo, own_start, own-step, own-front}
 use Rattle.party_calls.proofs.tables.own_moduli.Goals as goal
 
 pub loop-w-init : goal.loop-w-init
-loop-w-init c = (omega arith, own_start c.args.party (wires_in c.args.t1) c.blank-out.ensures)
+loop-w-init c = (omega arith, own_start c.args.party (wires_in c.args.circuit) c.blank-out.ensures)
 
 pub offset_bounds-circuit-w : goal.offset_bounds-circuit-w
 offset_bounds-circuit-w c = omega (arith, c.requires.made, c.requires.wires)

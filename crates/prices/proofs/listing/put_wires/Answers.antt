@@ -18,10 +18,10 @@ pub put_wire-end-requires : goal.put_wire-end-requires
 put_wire-end-requires c = (omega (arith, c.loop-w-test.true, c.requires.0.made), (c.row_count-rows.ensures.most, omega (arith, c.loop-w.invariant.0.most, c.loop-w.invariant.0.wrote.kept, c.loop-w-test.true, c.requires.0.made, c.requires.1)))
 
 pub loop-w-preserved : goal.loop-w-preserved
-loop-w-preserved c = (lines_step c.args.t3.wires c.args.t3.made c.loop-w.invariant.0 c.loop-w-test.true c.put_wire-end.ensures (c.row_count-rows.ensures.is ∙ rows_at c.args.t3.wires c.args.t3.made c.loop-w.w (1024 - c.args.t3.made) c.moduli-moduli.result c.loop-w-test.true c.moduli-moduli.ensures), omega (arith, c.loop-w-test.true))
+loop-w-preserved c = (lines_step c.args.circuit.wires c.args.circuit.made c.loop-w.invariant.0 c.loop-w-test.true c.put_wire-end.ensures (c.row_count-rows.ensures.is ∙ rows_at c.args.circuit.wires c.args.circuit.made c.loop-w.w (1024 - c.args.circuit.made) c.moduli-moduli.result c.loop-w-test.true c.moduli-moduli.ensures), omega (arith, c.loop-w-test.true))
 
 pub shape_of-out : goal.shape_of-out
 shape_of-out c = c.loop-w.invariant.0.wrote.kept
 
 pub returns : goal.returns
-returns c = lines-done c.args.t3.wires c.args.t3.made c.loop-w.invariant.0 (omega (arith, c.loop-w-test.false, c.loop-w.invariant.1, length-take-le c.args.t3.made c.args.t3.wires (omega (arith, c.requires.0.made, c.requires.0.wires)))) (omega (arith, c.loop-w.invariant.1, c.requires.0.made))
+returns c = lines-done c.args.circuit.wires c.args.circuit.made c.loop-w.invariant.0 (omega (arith, c.loop-w-test.false, c.loop-w.invariant.1, length-take-le c.args.circuit.made c.args.circuit.wires (omega (arith, c.requires.0.made, c.requires.0.wires)))) (omega (arith, c.loop-w.invariant.1, c.requires.0.made))

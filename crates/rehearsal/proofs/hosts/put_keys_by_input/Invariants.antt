@@ -9,7 +9,7 @@ use Rattle.rehearsal.proofs.Interleaved.{key_fits, key-next, key-there}
 use Rattle.rehearsal.proofs.hosts.put_keys_by_input.Given as goal
 
 abbrev pub invariant-loop-party : goal.invariant-loop-party
-invariant-loop-party l = (l.from ≡ l.w * l.k + l.party * l.each) × Level l.initial.keys l.initial.at l.party l.n l.k (λ each-l.party. nth_piece (nth_piece l.mine l.each each-l.party) l.k l.w) l.at l.keys
+invariant-loop-party l = (l.from ≡ l.w * l.k + l.party * l.each) × Level l.initial.keys l.initial.at l.party l.n l.k (λ each_party. nth_piece (nth_piece l.mine l.each each_party) l.k l.w) l.at l.keys
 
 abbrev pub decreases-loop-party : goal.decreases-loop-party
 decreases-loop-party l = l.n - l.party

@@ -10,10 +10,10 @@ pub loop-w-init : goal.loop-w-init
 loop-w-init c = looking_start
 
 pub returns-then-owner_absent : goal.returns-then-owner_absent
-returns-then-owner_absent c = looking_found c.loop-w.invariant c.loop-w-test.true (absent_is c.args.t1 c.loop-w-test.true c.args.n c.owner_absent.ensures ∙ c.if-owner_absent.true)
+returns-then-owner_absent c = looking_found c.loop-w.invariant c.loop-w-test.true (absent_is c.args.circuit c.loop-w-test.true c.args.n c.owner_absent.ensures ∙ c.if-owner_absent.true)
 
 pub loop-w-preserved : goal.loop-w-preserved
-loop-w-preserved c = looking_on c.loop-w.invariant c.loop-w-test.true (absent_is c.args.t1 c.loop-w-test.true c.args.n c.owner_absent.ensures ∙ c.if-owner_absent.false)
+loop-w-preserved c = looking_on c.loop-w.invariant c.loop-w-test.true (absent_is c.args.circuit c.loop-w-test.true c.args.n c.owner_absent.ensures ∙ c.if-owner_absent.false)
 
 pub returns : goal.returns
 returns c = looking_none c.loop-w.invariant c.loop-w-test.false

@@ -27,4 +27,4 @@ loop-i-preserved c = (
     )
 
 pub returns : goal.returns
-returns c = c.loop-i.invariant.1 e k (omega (arith, h, c.loop-i-test.false))
+returns c e k h = c.loop-i.invariant.1 e k (omega (arith, h, c.loop-i-test.false))

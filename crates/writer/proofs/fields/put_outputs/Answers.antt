@@ -39,7 +39,7 @@ pub loop-i-smaller : goal.loop-i-smaller
 loop-i-smaller c = omega (arith, c.loop-i-test.true)
 
 pub loop-i-preserved : goal.loop-i-preserved
-loop-i-preserved c = steps_call c.loop-i.invariant c.loop-i-test.true refl c.put_record.auto.out (c.put_record.ensures ∙ ap numbers_of (c.record_with-entry.ensures ∙ ap (λ (a : ℕ). output_record a (get_or c.args.t1.named c.loop-i.i 0)) c.wire_number-wire.ensures))
+loop-i-preserved c = steps_call c.loop-i.invariant c.loop-i-test.true refl c.put_record.auto.out (c.put_record.ensures ∙ ap numbers_of (c.record_with-entry.ensures ∙ ap (λ (a : ℕ). output_record a (get_or c.args.circuit.named c.loop-i.i 0)) c.wire_number-wire.ensures))
 
 pub shape_of-fields : goal.shape_of-fields
 shape_of-fields c = c.loop-i.invariant.kept

@@ -30,7 +30,7 @@ pub loop-w-smaller : goal.loop-w-smaller
 loop-w-smaller c = omega (arith, c.loop-w-test.true)
 
 pub loop-w-preserved : goal.loop-w-preserved
-loop-w-preserved c = let all = c.args.t1 in
+loop-w-preserved c = let all = c.args.circuit in
     let t = c.loop-w-test.true in
     summed-step c.loop-w.invariant t c.entry_count-total.ensures (entries_at all.wires all.made c.loop-w.w (1024 - all.made) c.moduli-table.result t c.moduli-table.ensures)
 

@@ -7,27 +7,27 @@ use Rattle.writer.proofs.Tables.{all_ahead, all_there, none_ahead, out_of_range,
 use Rattle.writer.proofs.table.table_due.Goals as goal
 
 pub returns-then-n-taken : goal.returns-then-n-taken
-returns-then-n-taken c = let a = c.args in
+returns-then-n-taken c moduli = let a = c.args in
     too_few a.lay a.place a.tables.now a.pen moduli a.file.now a.left a.modulus
     (none_ahead a.modulus a.tables.now a.pen.taken a.left c.if-n-taken.true) (omega arith) c.stop.ensures
 
 pub returns-then-all_below : goal.returns-then-all_below
-returns-then-all_below c = let a = c.args in
+returns-then-all_below c moduli = let a = c.args in
     too_few a.lay a.place a.tables.now a.pen moduli a.file.now a.left a.modulus
     (all_ahead a.modulus a.tables.now a.pen.taken a.left c.all_below.ensures c.if-n-taken-2.true c.if-all_below.true) (omega arith) c.stop-then-all_below.ensures
 
 pub returns-then-n-taken-2 : goal.returns-then-n-taken-2
-returns-then-n-taken-2 c = let a = c.args in
+returns-then-n-taken-2 c moduli = let a = c.args in
     out_of_range a.lay a.place a.tables.now a.pen moduli a.file.now a.left a.modulus
     (all_ahead a.modulus a.tables.now a.pen.taken a.left c.all_below.ensures c.if-n-taken-2.true c.if-all_below.false) c.stop-then-n-taken-2.ensures
 
 pub returns-then-not-all_below : goal.returns-then-not-all_below
-returns-then-not-all_below c = let a = c.args in
+returns-then-not-all_below c moduli = let a = c.args in
     out_of_range a.lay a.place a.tables.now a.pen moduli a.file.now a.left a.modulus
     (some_ahead a.modulus a.tables.now a.pen.taken a.left c.all_below-2.ensures (not-true c.all_below-2.result c.if-not-all_below.true-raw)) c.stop-then-not-all_below.ensures
 
 pub returns : goal.returns
-returns c = let a = c.args in
+returns c moduli = let a = c.args in
     all_there a.lay a.place a.tables.now a.pen moduli a.file.now a.left a.modulus
     (some_ahead a.modulus a.tables.now a.pen.taken a.left c.all_below-2.ensures (not-false c.all_below-2.result c.if-not-all_below.false-raw))
     (omega arith) c.pen_of.ensures c.lay_entries.ensures
