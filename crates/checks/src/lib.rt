@@ -1,5 +1,8 @@
 // How a call answers: accepted, or refused for one of the documents' reasons at a place. One answer serves the reader, the checks
 // and the calls. specs/Checked.antt says what an ordered chain of checks comes to. Rests on `lists`.
+
+#![tactic(auto)]
+
 mod combined;
 
 ghost use Rattle.std.specs.Prelude.{◌≡◌};

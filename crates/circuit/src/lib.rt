@@ -1,6 +1,9 @@
 // The circuit file: bytes read into a circuit, or refused with the reason and the word. Rests on `words` for what a single word
 // does where it stands. What is true of every accepted circuit is `AcceptedCircuit` of specs/Accepted.antt, proved from the
 // definition in proofs/Accepted.antt.
+
+#![tactic(auto)]
+
 mod blank;
 mod naming;
 mod reader;

@@ -1,5 +1,8 @@
 // A party's contribution on lent bytes: its size, the places of its offsets and records, and the checks of contributions, keys and rows, 16 to 18.
 // Rests on `scheme` for what is laid out and checked, on `counts` for what a circuit counts, on `checks` for answers.
+
+#![tactic(auto)]
+
 mod contributed;
 mod keyed;
 mod offset;

@@ -1,6 +1,9 @@
 // What a circuit counts: the rows that garbling writes, the records that a party contributes, the inputs of a party, the moduli in
 // use. Rows and records go by one definition, the recipe: how a wire's gate is garbled. Rests on `words` for wires, on `circuit`
 // for circuits, on `lists` for sums and on `residue` for squares.
+
+#![tactic(auto)]
+
 mod count;
 mod modulus;
 mod number;

@@ -3,6 +3,8 @@
 // and each reads a lane once into a local: the compiler then keeps the state in registers and on the stack, as it does for unrolled C.
 // Rests on nothing but the library's bit operations.
 
+#![tactic(auto)]
+
 ghost use Rattle.std.specs.Prelude.{◌≡◌};
 ghost use Rattle.keccak.specs.Steps.{theta as theta_step, rho as rho_step, pi as pi_step, chi as chi_step, iota as iota_step};
 ghost use Rattle.keccak.specs.Keccak.{round as round_step, keccak_f};

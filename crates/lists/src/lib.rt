@@ -4,6 +4,8 @@
 // and each says at its top how a loop that fills a buffer is proved with it. Here too stand the functions that widen a number (`numbers`), one set for
 // all crates. This crate rests on the kit alone.
 
+#![tactic(auto)]
+
 ghost use Rattle.std.specs.Prelude.{◌≡◌, ◌+◌, ◌*◌, ◌≤◌, length, replicate};
 ghost use Rattle.lists.specs.Blocks.{part, nth_piece, written};
 

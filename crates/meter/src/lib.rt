@@ -1,5 +1,8 @@
 // The row meter, which garbling is lent: eight totals, one for each account. The two checks that garbling asks of it, the named total charged, and an
 // old unit's total carried over. specs/Garblings.antt says what it holds after any number of garblings. Rests on `checks` for answers.
+
+#![tactic(auto)]
+
 ghost use Rattle.std.specs.Prelude.{◌≡◌, ◌<◌, get_or};
 ghost use Rattle.meter.specs.Meter.{accounts, carried, account_checked, HasSpace, meter_checked, charged};
 

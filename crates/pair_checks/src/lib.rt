@@ -1,6 +1,9 @@
 // The two-party form on lent bytes: how many rows a circuit has, and the checks that stand beside those of the n-party calls: selects in the file, the bytes and the
 // offsets of a draw, the bytes of the rows. Rests on `pair` for what is counted and checked, on `counts` and `contribution` for moduli and runs of bytes, on `checks`
 // for answers.
+
+#![tactic(auto)]
+
 mod count;
 mod draw;
 mod row_bytes;

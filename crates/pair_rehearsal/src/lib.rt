@@ -1,5 +1,8 @@
 // A round of two, rehearsed: one function makes every call of it by the C face, on lent memory, and has order 8's claim as its contract. Rests on `pair_round` for
 // the claim and on `engine` for the calls.
+
+#![tactic(auto)]
+
 mod whole;
 
 pub use whole::{Asked, rehearse};

@@ -1,6 +1,9 @@
 // A round, played: one function makes every call of document 01's round on lent memory, for all parties, and its contract is demand 3. The calls are the
 // exported functions of crate `engine`. What a host does between them is in `hosts`, how long its buffers are in `memory`, the calls that each party makes
 // in `masking` and `parties`, the whole in `whole`. That the calls' promises come to demand 3 is a law of `round`.
+
+#![tactic(auto)]
+
 mod hosts;
 mod masking;
 mod memory;

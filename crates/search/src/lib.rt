@@ -2,6 +2,9 @@
 // that the bit's external value names (`correctors`); beside them the comparison of two byte lists (`bytes`). Rests on `residue`,
 // for sums and products modulo p without a division, and on `lists`, for parts of a lent buffer and the lowest number of which a
 // test holds. What each function gives is defined in `specs/`; the laws of the comparison and of the search stand in `proofs/`.
+
+#![tactic(auto)]
+
 mod bytes;
 mod correctors;
 mod multipliers;

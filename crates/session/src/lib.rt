@@ -1,5 +1,8 @@
 // The checks that several calls share, 11 to 15 and 28: parties, the party asked for, owners of inputs, parties that outputs name, lengths, values. Rests on `circuit` for the
 // reader, on `counts` for what a circuit's arrays hold, on `checks` for answers and `lists` for searches.
+
+#![tactic(auto)]
+
 mod lengths;
 mod owners;
 mod partakers;

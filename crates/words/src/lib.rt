@@ -1,5 +1,8 @@
 // One word of a circuit file: what it says, a kind with its fields, and what that is refused for or stands for where it stands; and the word that
 // says it. Rests on `residue` for the primes and on `checks` for the reasons.
+
+#![tactic(auto)]
+
 mod bits;
 mod due;
 mod encoding;
