@@ -44,9 +44,9 @@ record Here (file : List ℕ) (at : ℕ) (x : Item) : Type 0 where
   stands : word_at file at ≡ word_of x
   fits : Fits x
 
-module _ (file : List ℕ) (wires : List Wire) {moduli outputs : List ℕ} {given at : ℕ} {due : Due} where
+module _ (file : List ℕ) (wires : List Wire) {moduli outputs : List ℕ} {given at : ℕ} where
   alone_records :
-      {x : Item} {r : Record} {s : Step}
+      {due : Due} {x : Item} {r : Record} {s : Step}
       → Alone x r
       → Judged moduli given at due x s
       → is_refused s ≡ false
@@ -55,7 +55,7 @@ module _ (file : List ℕ) (wires : List Wire) {moduli outputs : List ℕ} {give
       → Here file at x
       → records_before file (suc at) (wires_after s wires) (outputs_after s outputs) ≡ records_before file at wires outputs ++ (r ∷ [])
   alone_records Alone.input Judged.refused h y l w = absurd (true≢false h)
-  alone_records Alone.input (Judged.input room short party) h y l w = one-wire wires _ _ _ (none_yet y (inputs-gates due room.due))
+  alone_records {due = due} Alone.input (Judged.input room short party) h y l w = one-wire wires _ _ _ (none_yet y (inputs-gates due room.due))
   alone_records Alone.add Judged.refused h y l w = absurd (true≢false h)
   alone_records Alone.add (Judged.add room two) h y l w = one-wire wires _ _ _ (none_yet y room.due)
   alone_records Alone.scale Judged.refused h y l w = absurd (true≢false h)
@@ -67,14 +67,14 @@ module _ (file : List ℕ) (wires : List Wire) {moduli outputs : List ℕ} {give
       one_output file at wires outputs _ l (ap named w.stands ∙ names_of n a w.fits)
 
   alone_tables :
-      {x : Item} {r : Record} {s : Step}
+      {due : Due} {x : Item} {r : Record} {s : Step}
       → Alone x r
       → Judged moduli given at due x s
       → is_refused s ≡ false
       → State file at due wires outputs
       → tables_of file (wires_after s wires) ≡ tables_of file wires
   alone_tables Alone.input Judged.refused h st = absurd (true≢false h)
-  alone_tables Alone.input (Judged.input room short party) h st = no_table file wires _ (at-gates st (inputs-gates due room.due)) refl
+  alone_tables {due = due} Alone.input (Judged.input room short party) h st = no_table file wires _ (at-gates st (inputs-gates due room.due)) refl
   alone_tables Alone.add Judged.refused h st = absurd (true≢false h)
   alone_tables Alone.add (Judged.add room two) h st = no_table file wires _ (at-gates st room.due) refl
   alone_tables Alone.scale Judged.refused h st = absurd (true≢false h)

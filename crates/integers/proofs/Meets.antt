@@ -127,4 +127,4 @@ module _ (file values : List ℕ) where
         let f = suits_wires before e suit in
         Each.more (meets_one gates r f room s)
         (subst (λ (n : ℕ). Each n gates) (length_more before (part_wire at gate))
-        (meets (step_on gates r f room s) (moduli_on before at gate e) suits (room_on gates r f room s) (stands_on gates r f room s)))
+        (meets {at = at + length (map word_of (items_of gate))} {before = before ++ (part_wire at gate ∷ [])} (step_on gates r f room s) (moduli_on before at gate e) suits (room_on gates r f room s) (stands_on gates r f room s)))

@@ -260,7 +260,7 @@ advance {file} {at} {wires} {outputs} r e AllSuit.none room s =
 advance {file} {at} {wires} {outputs} r e (AllSuit.more {gate = gate} {gates = gates} suit suits) room s =
     let size : ℕ = length (map word_of (items_of gate)) in
     let f = suits_wires wires e suit in
-    let next = advance (step_on gates r f room s) (moduli_on wires at gate e) suits (room_on gates r f room s) (stands_on gates r f room s) in
+    let next = advance {at = at + size} {wires = wires ++ (part_wire at gate ∷ [])} (step_on gates r f room s) (moduli_on wires at gate e) suits (room_on gates r f room s) (stands_on gates r f room s) in
     let n : at + size + length (words_of gates) ≡ at + length (map word_of (items_of gate) ++ words_of gates) = omega (arith, length-append (map word_of (items_of gate)) (words_of gates)) in
     subst (λ (n : ℕ). Arrived file n (wires ++ (part_wire at gate ∷ part_wires (at + size) gates)) outputs) n
     (subst (λ (ws : List Wire). Arrived file (at + size + length (words_of gates)) ws outputs) (append_assoc wires (part_wire at gate ∷ []) (part_wires (at + size) gates)) next)

@@ -16,7 +16,7 @@ use Rattle.words.specs.declared.item.Item.TheVariants.{Entry}
 use Rattle.words.specs.Items.{check, after_entry}
 use Rattle.words.specs.Encode.{word_of}
 use Rattle.writer.specs.Written.{Draft, Drafted, stopped, drafted, after_item, laid, unless_stopped, laid_all, whole}
-use Rattle.writer.specs.Desk.{Desk, desk, stop, put_words, all_below, entry_words, table_on}
+use Rattle.writer.specs.Desk.{Desk, desk, stop, put_word, put_words, all_below, entry_words, table_on}
 use Rattle.writer.specs.Walked.{Steady, Sound, Holds}
 use Rattle.writer.proofs.HoldingFiles.{Kept, kept_more}
 use Rattle.writer.proofs.HoldingFacts.{no_choice, not-gates}

@@ -6,7 +6,7 @@ use Rattle.rehearsal.proofs.Own.{OwnTo, own_start, own-step, own-front}
 use Rattle.rehearsal.proofs.hosts.picked.Goals as goal
 
 pub loop-w-init : goal.loop-w-init
-loop-w-init c = let a = c.args in (omega arith, own_start a.party (wires_in a.t1) a.all.now c.blank-out.ensures)
+loop-w-init c = let a = c.args in (omega arith, own_start a.party (wires_in a.circuit) a.all.now c.blank-out.ensures)
 
 pub offset_bounds-circuit-w : goal.offset_bounds-circuit-w
 offset_bounds-circuit-w c = omega (arith, c.requires.made, c.requires.wires)

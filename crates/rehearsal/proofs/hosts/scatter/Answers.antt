@@ -8,7 +8,7 @@ use Rattle.rehearsal.proofs.Own.{ScatterTo, scatter_start, scatter_step}
 use Rattle.rehearsal.proofs.hosts.scatter.Goals as goal
 
 pub loop-w-init : goal.loop-w-init
-loop-w-init c = let a = c.args in scatter_start a.party (wires_in a.t1) a.mine.now a.externals.now
+loop-w-init c = let a = c.args in scatter_start a.party (wires_in a.circuit) a.mine.now a.externals.now
 
 pub offset_bounds-circuit-w : goal.offset_bounds-circuit-w
 offset_bounds-circuit-w c = omega (arith, inputs-made c.requires.0, c.requires.0.room.made, c.requires.0.room.wires)
