@@ -9,8 +9,8 @@ use native.Mathlib.Nat.{one-mul, div-eq_of_lt, le-div_iff_mul-le}
 use native.Mathlib.Decide.{dec_lt}
 use native.Mathlib.Omega.{arith}
 use borrow.Author.Tests.{lt-leb, leb-true, leb-false, eqb-true, eq-eqb}
-use lib.Dec.{eqb, leb, lit<}
-use lib.ListN.{length, get_or, take}
+use lib.Dec.{eqb, lit<}
+use lib.ListN.{length, get_or}
 use lib.Seq.{length-take-le, get_or-take}
 use lib.Pow.{pow_pos, pow_mono, shl_exact, shr-shr}
 use Rattle.lists.specs.First.{first}

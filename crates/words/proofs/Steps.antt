@@ -4,7 +4,7 @@ use mathlib.Core.Path.{◌≡◌, refl, sym, ap, ap₂, ◌∙◌}
 use mathlib.Core.Logic.{◌⊎◌, inl, inr, ⊎_elim}
 use mathlib.Core.Bool.{Bool, true, false, true≢false, not, ◌&&◌}
 use mathlib.Core.List.{List}
-use Prim.Native.Nat.{ℕ, zero, suc, ◌+◌, ◌-◌, ◌^◌, ◌≤◌, ◌<◌}
+use Prim.Native.Nat.{ℕ, zero, suc, ◌+◌, ◌-◌, ◌≤◌, ◌<◌}
 use native.Mathlib.Nat.{eq-or-lt_of_le, eq-zero-or-pos}
 use native.Mathlib.Omega.{arith}
 use lib.Dec.{eqb, leb, ltb}
@@ -14,7 +14,6 @@ use borrow.Author.Tests.{eqb-true, eq-eqb, ne_eqb, leb-true, le-leb, ltb-true, l
 use Rattle.residue.specs.Prime.{is_prime}
 use Rattle.residue.proofs.Table.{and_left, and_right}
 use Rattle.checks.specs.declared.Refusal.{Refusal}
-use Rattle.checks.specs.declared.Refusal.TheVariants.{UnknownWord}
 use Rattle.words.specs.declared.gate.Due.{Due}
 use Rattle.words.specs.declared.gate.Due.TheVariants.{Gates, Entries}
 use Rattle.words.specs.declared.gate.Step.{Step}
@@ -24,7 +23,7 @@ use Rattle.words.specs.Items.{check, judged, after_entry, is_modulus}
 use Rattle.words.specs.declared.item.Item.{Item}
 use Rattle.words.specs.declared.item.Item.TheVariants.{Head, Input, Add, Scale, Multiply, Project, Entry, Select, Branches, Output, End}
 use Rattle.words.specs.Clean.{clean_of_kind, clean}
-use Rattle.words.specs.Reading.{said, by_kind, said_by, does, read_word, Said, Nothing}
+use Rattle.words.specs.Reading.{said, by_kind, said_by, does, read_word, Nothing}
 use Rattle.words.specs.Entries.{good_entry}
 
 pub after_last : (left modulus : ℕ) → left ≤ 1 → Gates ≡ after_entry left modulus

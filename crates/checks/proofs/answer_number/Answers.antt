@@ -1,7 +1,6 @@
 -- `checks::answer_number` meets its contract: the arm that binds the reason is told which answer it is.
 -- Assumes nothing.
 use mathlib.Core.Path.{◌∙◌, sym, ap}
-use borrow.Author.Rules.{rules}
 use Rattle.checks.specs.Answer.{number_in}
 use Rattle.checks.proofs.answer_number.Goals as goal
 

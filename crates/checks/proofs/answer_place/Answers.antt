@@ -1,7 +1,6 @@
 -- `checks::answer_place` meets its contract: the arm that binds the place is told which answer it is.
 -- Assumes nothing.
 use mathlib.Core.Path.{sym, ap}
-use borrow.Author.Rules.{rules}
 use Rattle.checks.specs.Answer.{place_in}
 use Rattle.checks.proofs.answer_place.Goals as goal
 

@@ -2,11 +2,10 @@
 -- The measure is what is left of the 24 rounds. Assumes nothing.
 use mathlib.Core.Path.{◌≡◌, refl, ap, ap₂, ◌∙◌}
 use mathlib.Core.List.{List}
-use Prim.Native.Nat.{ℕ, ◌+◌, ◌-◌, ◌≤◌, ◌<◌}
+use Prim.Native.Nat.{ℕ, ◌+◌, ◌<◌}
 use native.Mathlib.Numerals.{add-one}
 use native.Mathlib.Omega.{arith}
 use lib.ListN.{get_or}
-use borrow.Author.Rules.{rules}
 use Rattle.keccak.specs.Keccak.{round, rounds, keccak_f}
 use Rattle.keccak.proofs.Tables.{constants, constant-at}
 use Rattle.keccak.proofs.keccak_f.Goals as goal

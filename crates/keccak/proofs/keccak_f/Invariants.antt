@@ -1,14 +1,8 @@
 -- `keccak::keccak_f` meets its contract. The loop's invariant: after i turns the state has gone through the rounds 0 to i − 1.
 -- The measure is what is left of the 24 rounds. Assumes nothing.
-use mathlib.Core.Path.{◌≡◌, refl, ap, ap₂, ◌∙◌}
-use mathlib.Core.List.{List}
-use Prim.Native.Nat.{ℕ, ◌+◌, ◌-◌, ◌≤◌, ◌<◌}
-use native.Mathlib.Numerals.{add-one}
-use native.Mathlib.Omega.{arith}
-use lib.ListN.{get_or}
-use borrow.Author.Rules.{rules}
-use Rattle.keccak.specs.Keccak.{round, rounds, keccak_f}
-use Rattle.keccak.proofs.Tables.{constants, constant-at}
+use mathlib.Core.Path.{◌≡◌}
+use Prim.Native.Nat.{◌-◌, ◌≤◌}
+use Rattle.keccak.specs.Keccak.{rounds}
 use Rattle.keccak.proofs.keccak_f.Given as goal
 
 abbrev pub invariant-loop-i : goal.invariant-loop-i

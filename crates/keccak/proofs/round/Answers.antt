@@ -1,6 +1,5 @@
 -- `keccak::round` meets its contract: what the four steps ensure, put together.
 -- Assumes nothing.
-use borrow.Author.Rules.{rules}
 use Rattle.keccak.specs.Keccak.{round}
 use Rattle.keccak.proofs.round.Goals as goal
 

@@ -1,6 +1,5 @@
 -- `keccak::theta` meets its contract: the definition computes to the 25 lanes that the code makes. The 25 places that it reads are below 25.
 -- Assumes nothing.
-use mathlib.Core.Path.{refl}
 use lib.Dec.{lit<}
 use Rattle.keccak.proofs.theta.Goals as goal
 

@@ -1,9 +1,8 @@
 -- `lists::copy` meets its contract: it fills out with from.
 -- Assumes nothing.
-use Prim.Native.Nat.{◌-◌}
 use mathlib.Core.Path.{refl}
 use native.Mathlib.Omega.{arith}
-use Rattle.lists.proofs.Filled.{Filled, filled_start, filled_step, filled_whole}
+use Rattle.lists.proofs.Filled.{filled_start, filled_step, filled_whole}
 use Rattle.lists.proofs.copy.Goals as goal
 
 pub loop-i-init : goal.loop-i-init

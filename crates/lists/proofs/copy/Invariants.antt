@@ -1,9 +1,7 @@
 -- `lists::copy` meets its contract: it fills out with from.
 -- Assumes nothing.
 use Prim.Native.Nat.{◌-◌}
-use mathlib.Core.Path.{refl}
-use native.Mathlib.Omega.{arith}
-use Rattle.lists.proofs.Filled.{Filled, filled_start, filled_step, filled_whole}
+use Rattle.lists.proofs.Filled.{Filled}
 use Rattle.lists.proofs.copy.Given as goal
 
 abbrev pub invariant-loop-i : goal.invariant-loop-i

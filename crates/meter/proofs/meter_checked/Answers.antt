@@ -1,6 +1,5 @@
 -- `meter::meter_checked` meets its contract: the rows fit in what the named total leaves, or they do not. Assumes nothing.
 use native.Mathlib.Omega.{arith}
-use borrow.Author.Rules.{rules}
 use Rattle.meter.proofs.Totals.{space_met, full_met}
 use Rattle.meter.proofs.meter_checked.Goals as goal
 

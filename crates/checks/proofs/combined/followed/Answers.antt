@@ -1,6 +1,5 @@
 -- `checks::followed` meets its contract: each arm is told which answer it is. Assumes nothing.
 use mathlib.Core.Path.{sym}
-use borrow.Author.Rules.{rules}
 use Rattle.checks.proofs.Answers.{and_then_stop, and_then-next}
 use Rattle.checks.proofs.combined.followed.Goals as goal
 

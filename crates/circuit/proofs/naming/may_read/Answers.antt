@@ -1,6 +1,5 @@
 -- `circuit::naming::may_read` meets its contract: the definition, case by case. Assumes nothing.
 use native.Mathlib.Omega.{arith}
-use borrow.Author.Rules.{rules}
 use Rattle.circuit.proofs.Allowed.{everyone_may, named-may, ninth_may_not}
 use Rattle.circuit.proofs.naming.may_read.Goals as goal
 

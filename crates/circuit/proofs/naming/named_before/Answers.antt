@@ -1,11 +1,9 @@
 -- `circuit::naming::named_before` meets its contract: a loop that fills the array word by word.
 -- Assumes nothing.
-use mathlib.Core.Path.{◌≡◌, refl, ◌∙◌, ap}
-use Prim.Native.Nat.{ℕ, ◌+◌, ◌-◌, ◌≤◌}
+use mathlib.Core.Path.{refl, ◌∙◌, ap}
 use native.Mathlib.Omega.{arith}
-use borrow.Author.Rules.{rules}
 use Rattle.words.specs.Bits.{named}
-use Rattle.circuit.proofs.Lookback.{Naming, naming_start, naming_step, naming_whole}
+use Rattle.circuit.proofs.Lookback.{naming_start, naming_step, naming_whole}
 use Rattle.circuit.proofs.naming.named_before.Goals as goal
 
 pub overflow_sub-first : goal.overflow_sub-first
@@ -31,11 +29,11 @@ loop-i-smaller c = omega (arith, c.loop-i-test.true)
 
 pub loop-i-preserved : goal.loop-i-preserved
 loop-i-preserved c = (
-      omega (arith, c.loop-i-test.true),
-      naming_step c.loop-i.invariant.1
-          (omega (arith, c.loop-i-test.true, c.requires.1.1))
-          (c.named_by.ensures ∙ ap named c.word_at.ensures),
-    )
+  omega (arith, c.loop-i-test.true),
+  naming_step c.loop-i.invariant.1
+      (omega (arith, c.loop-i-test.true, c.requires.1.1))
+      (c.named_by.ensures ∙ ap named c.word_at.ensures),
+)
 
 pub returns : goal.returns
 returns c = naming_whole c.loop-i.invariant.1 refl (omega (arith, c.loop-i.invariant.0, c.loop-i-test.false))

@@ -1,11 +1,7 @@
 -- `circuit::naming::named_before` meets its contract: a loop that fills the array word by word.
 -- Assumes nothing.
-use mathlib.Core.Path.{◌≡◌, refl, ◌∙◌, ap}
-use Prim.Native.Nat.{ℕ, ◌+◌, ◌-◌, ◌≤◌}
-use native.Mathlib.Omega.{arith}
-use borrow.Author.Rules.{rules}
-use Rattle.words.specs.Bits.{named}
-use Rattle.circuit.proofs.Lookback.{Naming, naming_start, naming_step, naming_whole}
+use Prim.Native.Nat.{◌-◌, ◌≤◌}
+use Rattle.circuit.proofs.Lookback.{Naming}
 use Rattle.circuit.proofs.naming.named_before.Given as goal
 
 abbrev pub invariant-loop-i : goal.invariant-loop-i

@@ -1,6 +1,5 @@
 -- `circuit::reader::has_head` meets its contract: no word, or the first one.
 -- Assumes nothing.
-use borrow.Author.Rules.{rules}
 use Rattle.circuit.proofs.Turn.{no_word, first_word}
 use Rattle.circuit.proofs.reader.has_head.Goals as goal
 

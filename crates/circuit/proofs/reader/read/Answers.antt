@@ -3,9 +3,8 @@
 -- Assumes nothing.
 use mathlib.Core.Path.{◌≡◌, refl, ◌∙◌, sym, ap, subst}
 use mathlib.Core.Bool.{Bool, true, false, cond}
-use Prim.Native.Nat.{ℕ, ◌-◌, ◌≤◌, ◌<◌}
+use Prim.Native.Nat.{ℕ, ◌≤◌, ◌<◌}
 use native.Mathlib.Omega.{arith}
-use borrow.Author.Rules.{rules}
 use lib.ListN.{take}
 use mathlib.Core.List.{List}
 use Rattle.words.specs.declared.gate.Due.{Due}
@@ -52,10 +51,10 @@ loop-at-smaller-then-run-gt0 c = omega (arith, c.loop-at-test.true, c.if-run-gt0
 
 pub loop-at-preserved-then-run-gt0 : goal.loop-at-preserved-then-run-gt0
 loop-at-preserved-then-run-gt0 c = let l = c.loop-at.invariant.1 in (
-      c.loop-at.invariant.0,
-      rw c.after_run-due.ensures (ran l _ _ c.entries_here-run.result
-          c.in-Entries.is c.if-run-gt0.true c.entries_here-run.ensures),
-    )
+  c.loop-at.invariant.0,
+  rw c.after_run-due.ensures (ran l _ _ c.entries_here-run.result
+      c.in-Entries.is c.if-run-gt0.true c.entries_here-run.ensures),
+)
 
 pub overflow_add-next : goal.overflow_add-next
 overflow_add-next c = omega (arith, near c.loop-at.invariant.1)
@@ -102,18 +101,18 @@ loop-at-smaller-in-Makes c = omega (arith, c.loop-at-test.true)
 
 pub loop-at-preserved-in-Makes : goal.loop-at-preserved-in-Makes
 loop-at-preserved-in-Makes c = let l = c.loop-at.invariant.1 in (
-      c.loop-at.invariant.0,
-      rw c.inputs_of-inputs.ensures (made_one l (turned c.loop-at.invariant.1 c.loop-at.invariant.0 c.loop-at-test.true c.word_at-w.ensures c.in-Makes.is c.read_word.ensures)),
-    )
+  c.loop-at.invariant.0,
+  rw c.inputs_of-inputs.ensures (made_one l (turned c.loop-at.invariant.1 c.loop-at.invariant.0 c.loop-at-test.true c.word_at-w.ensures c.in-Makes.is c.read_word.ensures)),
+)
 
 pub loop-at-smaller-in-Goes : goal.loop-at-smaller-in-Goes
 loop-at-smaller-in-Goes c = omega (arith, c.loop-at-test.true)
 
 pub loop-at-preserved-in-Goes : goal.loop-at-preserved-in-Goes
 loop-at-preserved-in-Goes c = let l = c.loop-at.invariant.1 in (
-      c.loop-at.invariant.0,
-      gone l (turned c.loop-at.invariant.1 c.loop-at.invariant.0 c.loop-at-test.true c.word_at-w.ensures c.in-Goes.is c.read_word.ensures),
-    )
+  c.loop-at.invariant.0,
+  gone l (turned c.loop-at.invariant.1 c.loop-at.invariant.0 c.loop-at-test.true c.word_at-w.ensures c.in-Goes.is c.read_word.ensures),
+)
 
 pub offset_bounds-circuit-given : goal.offset_bounds-circuit-given
 offset_bounds-circuit-given c = let l = c.loop-at.invariant.1 in
@@ -132,9 +131,9 @@ loop-at-smaller c = omega (arith, c.loop-at-test.true)
 
 pub loop-at-preserved : goal.loop-at-preserved
 loop-at-preserved c = let l = c.loop-at.invariant.1 in (
-      c.loop-at.invariant.0,
-      given_one l (turned c.loop-at.invariant.1 c.loop-at.invariant.0 c.loop-at-test.true c.word_at-w.ensures c.in-Gives.is c.read_word.ensures),
-    )
+  c.loop-at.invariant.0,
+  given_one l (turned c.loop-at.invariant.1 c.loop-at.invariant.0 c.loop-at-test.true c.word_at-w.ensures c.in-Gives.is c.read_word.ensures),
+)
 
 pub overflow_mul-next : goal.overflow_mul-next
 overflow_mul-next c = omega (arith, near c.loop-at.invariant.1)

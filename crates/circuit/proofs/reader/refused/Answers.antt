@@ -1,6 +1,5 @@
 -- `circuit::reader::refused` meets its contract: the circuit is empty.
 -- Assumes nothing.
-use borrow.Author.Rules.{rules}
 use Rattle.circuit.proofs.Turn.{holds-refused}
 use Rattle.circuit.proofs.reader.refused.Goals as goal
 

@@ -1,6 +1,5 @@
 -- `circuit::table::after_run` meets its contract: one case where no entry is left, one for the others.
 -- Assumes nothing.
-use borrow.Author.Rules.{rules}
 use Rattle.circuit.proofs.Entry.{after-all, after_some}
 use Rattle.circuit.proofs.table.after_run.Goals as goal
 

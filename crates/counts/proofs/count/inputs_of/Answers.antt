@@ -1,13 +1,9 @@
 -- `counts::inputs_of` meets its contract: a loop that adds up the marks of the inputs that the party owns. Assumes nothing.
 use mathlib.Core.Path.{refl, sym, ap}
-use Prim.Native.Nat.{◌-◌}
-use native.Mathlib.Omega.{arith}
-use Rattle.circuit.specs.Wires.{wire_at}
-use Rattle.circuit.specs.Held.{wires_in}
 use Rattle.counts.specs.Counts.{mark, owned_by}
 use Rattle.words.specs.declared.gate.Wire.{Wire}
 use Rattle.counts.proofs.Wires.{wire-at}
-use Rattle.counts.proofs.Counting.{Summed, summed_start, summed-step, summed-done}
+use Rattle.counts.proofs.Counting.{summed_start, summed-step, summed-done}
 use Rattle.counts.proofs.count.inputs_of.Goals as goal
 
 pub loop-w-init : goal.loop-w-init

@@ -4,7 +4,6 @@ use Prim.Native.Nat.{ℕ}
 use lib.Dec.{eqb}
 use Rattle.words.specs.declared.gate.Gate.{Gate}
 use Rattle.counts.specs.Counts.{mark, owned_by}
-use borrow.Author.Rules.{rules}
 use Rattle.counts.proofs.count.owned.Goals as goal
 
 pub returns-in-Input : goal.returns-in-Input

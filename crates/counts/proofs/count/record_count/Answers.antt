@@ -2,7 +2,6 @@
 use mathlib.Core.Path.{refl, sym, ◌∙◌}
 use native.Mathlib.Omega.{arith}
 use Rattle.counts.proofs.Counting.{keys-by}
-use borrow.Author.Rules.{rules}
 use Rattle.counts.proofs.count.record_count.Goals as goal
 
 pub returns-in-Entered : goal.returns-in-Entered

@@ -1,10 +1,8 @@
 -- `counts::records` meets its contract: a loop that adds up the records of the wires. Assumes nothing.
-use mathlib.Core.Path.{refl}
 use Prim.Native.Nat.{◌-◌}
-use native.Mathlib.Omega.{arith}
 use Rattle.circuit.specs.Held.{wires_in}
 use Rattle.counts.specs.Counts.{record_keys_of}
-use Rattle.counts.proofs.Counting.{Summed, summed_start, summed-step, summed-done, records-at}
+use Rattle.counts.proofs.Counting.{Summed}
 use Rattle.counts.proofs.count.records.Given as goal
 
 abbrev pub invariant-loop-w : goal.invariant-loop-w

@@ -4,7 +4,6 @@ use Prim.Native.Nat.{ℕ, ◌+◌, ◌*◌}
 use native.Mathlib.Omega.{arith}
 use lib.ListN.{get_or}
 use Rattle.counts.proofs.Counting.{rows-by}
-use borrow.Author.Rules.{rules}
 use Rattle.counts.proofs.count.row_count.Goals as goal
 
 pub returns-in-Entered : goal.returns-in-Entered

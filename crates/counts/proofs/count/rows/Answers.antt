@@ -1,10 +1,7 @@
 -- `counts::rows` meets its contract: a loop that adds up the rows of the wires. Assumes nothing.
 use mathlib.Core.Path.{refl}
 use Prim.Native.Nat.{◌-◌}
-use native.Mathlib.Omega.{arith}
-use Rattle.circuit.specs.Held.{wires_in}
-use Rattle.counts.specs.Counts.{rows_of}
-use Rattle.counts.proofs.Counting.{Summed, summed_start, summed-step, summed-done, rows_at}
+use Rattle.counts.proofs.Counting.{summed_start, summed-step, summed-done, rows_at}
 use Rattle.counts.proofs.count.rows.Goals as goal
 
 pub moduli-table-requires : goal.moduli-table-requires

@@ -1,10 +1,6 @@
 -- `counts::marks` meets its contract: a loop that marks the modulus of each wire. Assumes nothing.
-use mathlib.Core.Path.{◌≡◌}
-use Prim.Native.Nat.{◌≤◌, ◌-◌}
 use native.Mathlib.Omega.{arith}
-use Rattle.circuit.specs.Wires.{modulus_at}
-use Rattle.circuit.specs.Held.{wires_in}
-use Rattle.counts.proofs.Marked.{marked, marks_start, marks_step, marks_done}
+use Rattle.counts.proofs.Marked.{marks_start, marks_step, marks_done}
 use Rattle.counts.proofs.modulus.marks.Goals as goal
 
 pub loop-w-init : goal.loop-w-init

@@ -1,10 +1,9 @@
 -- `counts::marks` meets its contract: a loop that marks the modulus of each wire. Assumes nothing.
 use mathlib.Core.Path.{◌≡◌}
 use Prim.Native.Nat.{◌≤◌, ◌-◌}
-use native.Mathlib.Omega.{arith}
 use Rattle.circuit.specs.Wires.{modulus_at}
 use Rattle.circuit.specs.Held.{wires_in}
-use Rattle.counts.proofs.Marked.{marked, marks_start, marks_step, marks_done}
+use Rattle.counts.proofs.Marked.{marked}
 use Rattle.counts.proofs.modulus.marks.Given as goal
 
 abbrev pub invariant-loop-w : goal.invariant-loop-w

@@ -1,12 +1,9 @@
 -- `counts::marks_set` meets its contract: a loop that adds up the marks. Assumes nothing.
 use mathlib.Core.Path.{ap}
-use Prim.Native.Nat.{ℕ, ◌-◌}
-use native.Mathlib.Omega.{arith}
-use lib.ListN.{get_or}
+use Prim.Native.Nat.{ℕ}
 use lib.Dec.{eqb}
-use borrow.Author.Rules.{rules}
 use Rattle.counts.specs.Counts.{mark}
-use Rattle.counts.proofs.Counting.{Summed, summed_start, summed-step}
+use Rattle.counts.proofs.Counting.{summed_start, summed-step}
 use Rattle.counts.proofs.Marked.{all-summed}
 use Rattle.counts.proofs.modulus.marks_set.Goals as goal
 

@@ -1,10 +1,8 @@
 -- `counts::moduli` meets its contract: a loop that fills the table wire by wire. Assumes nothing.
 use Prim.Native.Nat.{◌-◌}
-use native.Mathlib.Omega.{arith}
 use Rattle.circuit.specs.Wires.{moduli_of}
 use Rattle.circuit.specs.Held.{wires_in}
 use Rattle.lists.proofs.Filled.{Filled}
-use Rattle.counts.proofs.Wires.{moduli_start, moduli-step, moduli-done}
 use Rattle.counts.proofs.modulus.moduli.Given as goal
 
 abbrev pub invariant-loop-w : goal.invariant-loop-w

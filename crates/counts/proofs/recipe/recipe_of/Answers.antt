@@ -1,6 +1,5 @@
 -- `counts::recipe_of` meets its contract: each arm has the gate that its pattern bound. Assumes nothing.
 use mathlib.Core.Path.{sym, ◌∙◌}
-use borrow.Author.Rules.{rules}
 use Rattle.counts.proofs.Recipes.{by-gate}
 use Rattle.counts.proofs.recipe.recipe_of.Goals as goal
 

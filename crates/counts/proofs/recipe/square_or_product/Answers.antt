@@ -1,6 +1,5 @@
 -- `counts::square_or_product` meets its contract: a square or a product, by the test of the `if`. Assumes nothing.
 use mathlib.Core.Path.{sym, ◌∙◌}
-use borrow.Author.Rules.{rules}
 use Rattle.counts.proofs.Recipes.{a_square, a-product}
 use Rattle.counts.proofs.recipe.square_or_product.Goals as goal
 

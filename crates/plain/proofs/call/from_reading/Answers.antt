@@ -1,7 +1,6 @@
 -- `plain::from_reading` meets its contract: accepted, what evaluation wrote; refused, nothing. Assumes nothing.
 use Rattle.plain.proofs.Ending.{feeds_of, ends-written, ends-refused}
 use Rattle.session.proofs.Circuits.{held_of}
-use borrow.Author.Rules.{rules}
 use Rattle.plain.proofs.call.from_reading.Goals as goal
 
 pub checked-requires : goal.checked-requires

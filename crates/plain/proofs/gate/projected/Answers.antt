@@ -3,7 +3,6 @@ use mathlib.Core.Path.{ap, ◌∙◌}
 use Prim.Native.Nat.{ℕ, ◌*◌}
 use Rattle.words.specs.Bits.{image, word_at}
 use Rattle.plain.proofs.Arms.{image-byte}
-use borrow.Author.Rules.{rules}
 use Rattle.plain.proofs.gate.projected.Goals as goal
 
 pub returns : goal.returns

@@ -1,6 +1,5 @@
 -- `plain::selected` meets its contract, by the test of the bit. Assumes nothing.
 use Rattle.plain.proofs.Arms.{choose_first, choose_second}
-use borrow.Author.Rules.{rules}
 use Rattle.plain.proofs.gate.selected.Goals as goal
 
 pub returns-then-done-bit-eq0 : goal.returns-then-done-bit-eq0

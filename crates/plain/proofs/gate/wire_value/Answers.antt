@@ -3,7 +3,6 @@ use mathlib.Core.Path.{refl}
 use lib.ListN.{get_or}
 use Rattle.plain.specs.Plain.{plain_by}
 use Rattle.plain.proofs.Arms.{at-input, at-add, at_scale, at_multiply, at_project, at-select, value_is}
-use borrow.Author.Rules.{rules}
 use Rattle.plain.proofs.gate.wire_value.Goals as goal
 
 pub bounds-values-w : goal.bounds-values-w

@@ -1,5 +1,4 @@
 -- `plain::checked` meets its contract: a wrong length, or what the check of the values answers. Assumes nothing.
-use borrow.Author.Rules.{rules}
 use Rattle.plain.proofs.Ending.{lent-stops, values_fit, values-left}
 use Rattle.plain.proofs.values.checked.Goals as goal
 

@@ -1,7 +1,6 @@
 -- `plain::evaluate` meets its contract, from what its two calls ensure. Assumes nothing.
 use mathlib.Core.Path.{◌∙◌}
 use Rattle.plain.proofs.Ending.{gives_of, outputs-plain}
-use borrow.Author.Rules.{rules}
 use Rattle.plain.proofs.wires.evaluate.Goals as goal
 
 pub put_outputs-requires : goal.put_outputs-requires

@@ -1,11 +1,8 @@
 -- `plain::put_outputs` meets its contract: a loop that fills the buffer output by output. Assumes nothing.
-use mathlib.Core.Path.{refl}
 use Prim.Native.Nat.{◌-◌}
-use native.Mathlib.Omega.{arith}
 use lib.ListN.{length, take, get_or}
 use Rattle.lists.specs.Blocks.{tab}
 use Rattle.lists.proofs.Filled.{Filled}
-use Rattle.plain.proofs.Arrays.{outputs_start, outputs-held, outputs-step, outputs-done}
 use Rattle.plain.proofs.wires.put_outputs.Given as goal
 
 abbrev pub invariant-loop-i : goal.invariant-loop-i

@@ -1,9 +1,7 @@
 -- `plain::wire_values` meets its contract: a loop that adds a value a turn, each from those before it. Assumes nothing.
 use Prim.Native.Nat.{◌≤◌, ◌-◌}
-use native.Mathlib.Omega.{arith}
 use lib.ListN.{take}
 use Rattle.plain.specs.Ready.{Done}
-use Rattle.plain.proofs.Arrays.{values_start, values-ready, values-step, values-done}
 use Rattle.plain.proofs.wires.wire_values.Given as goal
 
 abbrev pub invariant-loop-w : goal.invariant-loop-w

@@ -1,14 +1,13 @@
 -- `residue::keys::add_multiple` meets its contract: entry by entry, `out` turns into its sum with the multiple, which is a key of
 -- zero key `out` and offset `b`. Assumes nothing.
 use mathlib.Core.Path.{◌∙◌, ap}
-use Prim.Native.Nat.{ℕ, ◌+◌, ◌*◌, ◌-◌, ◌≤◌}
+use Prim.Native.Nat.{ℕ, ◌+◌, ◌*◌}
 use native.Mathlib.Nat.{le_refl}
 use native.Mathlib.Omega.{arith}
-use lib.ListN.{length, get_or}
-use borrow.Author.Rules.{rules}
+use lib.ListN.{get_or}
 use Rattle.residue.specs.Vector.{key_v}
 use Rattle.residue.proofs.Vectors.{key_v-length, key-entry}
-use Rattle.residue.proofs.InPlace.{Turned, turned_none, turned_more, turned-all}
+use Rattle.residue.proofs.InPlace.{turned_none, turned_more, turned-all}
 use Rattle.residue.proofs.keys.add_multiple.Goals as goal
 
 pub reciprocal-m-requires : goal.reciprocal-m-requires

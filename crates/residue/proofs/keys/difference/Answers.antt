@@ -1,6 +1,5 @@
 -- `residue::keys::difference` meets its contract: p - 1 times a vector is what takes it off.
 -- Assumes nothing.
-use native.Mathlib.Omega.{arith}
 use Rattle.residue.proofs.Differences.{difference_is}
 use Rattle.residue.proofs.keys.difference.Goals as goal
 

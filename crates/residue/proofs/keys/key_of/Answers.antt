@@ -1,12 +1,8 @@
 -- `residue::keys::key_of` meets its contract: entry by entry, `out` turns into the key. Assumes nothing.
 use mathlib.Core.Path.{◌∙◌, sym}
-use Prim.Native.Nat.{◌-◌, ◌≤◌}
 use native.Mathlib.Omega.{arith}
-use lib.ListN.{length}
-use borrow.Author.Rules.{rules}
-use Rattle.residue.specs.Vector.{key_v}
 use Rattle.residue.proofs.Vectors.{key_v-length, key-entry}
-use Rattle.residue.proofs.InPlace.{Turned, turned_none, turned_more, turned-all}
+use Rattle.residue.proofs.InPlace.{turned_none, turned_more, turned-all}
 use Rattle.residue.proofs.keys.key_of.Goals as goal
 
 pub reciprocal-m-requires : goal.reciprocal-m-requires

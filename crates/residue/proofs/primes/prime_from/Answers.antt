@@ -1,6 +1,5 @@
 -- `residue::primes::prime_from` meets its contract: the entry at the number's place is the smallest prime from it on. Assumes nothing.
 use Rattle.residue.proofs.Moduli.{entry_first, none_first}
-use borrow.Author.Rules.{rules}
 use Rattle.residue.proofs.primes.prime_from.Goals as goal
 
 pub returns-then-place-lt54 : goal.returns-then-place-lt54

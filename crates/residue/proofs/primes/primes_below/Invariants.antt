@@ -1,9 +1,6 @@
 -- `residue::primes::primes_below` meets its contract: the number of primes below `x` stays between `low` and `high`. Assumes nothing.
-use Prim.Native.Nat.{◌+◌, ◌-◌, ◌/◌, ◌≤◌}
-use native.Mathlib.Omega.{arith}
-use borrow.Author.Rules.{rules}
+use Prim.Native.Nat.{◌-◌, ◌≤◌}
 use Rattle.residue.specs.Prime.{primes_below}
-use Rattle.residue.proofs.Moduli.{entry-below, entry-from, byte-place}
 use Rattle.residue.proofs.primes.primes_below.Given as goal
 
 abbrev pub invariant-loop-low : goal.invariant-loop-low

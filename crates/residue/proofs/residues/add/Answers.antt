@@ -1,6 +1,5 @@
 -- `residue::residues::add` meets its contract: a sum of residues is below p, or p too large. Assumes nothing.
 use Rattle.residue.proofs.Reduced.{add-fits, add_passes}
-use borrow.Author.Rules.{rules}
 use Rattle.residue.proofs.residues.add.Goals as goal
 
 pub returns-then-a-gap : goal.returns-then-a-gap

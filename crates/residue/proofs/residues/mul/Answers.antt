@@ -5,7 +5,6 @@ use native.Mathlib.Nat.{mod-lt}
 use mathlib.Core.Path.{refl}
 use Rattle.residue.specs.Residue.{mul}
 use Rattle.residue.proofs.Reduced.{bytes_product}
-use borrow.Author.Rules.{rules}
 use Rattle.residue.proofs.residues.mul.Goals as goal
 
 pub overflow_mul-product : goal.overflow_mul-product

@@ -1,7 +1,6 @@
 -- `residue::residues::multiple_added` meets its contract: three bytes' sum and product fits 16 bits. Assumes nothing.
 use native.Mathlib.Omega.{arith}
 use Rattle.residue.proofs.Reduced.{bytes_product}
-use borrow.Author.Rules.{rules}
 use Rattle.residue.proofs.residues.multiple_added.Goals as goal
 
 pub overflow_mul-result : goal.overflow_mul-result

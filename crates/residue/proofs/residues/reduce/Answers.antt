@@ -1,7 +1,6 @@
 -- `residue::residues::reduce` meets its contract, by the laws of the reciprocal. Assumes nothing.
 use native.Mathlib.Omega.{arith}
 use Rattle.residue.proofs.Reduced.{product-fits, quotient_low, quotient_high, rest-fits, rest_passes}
-use borrow.Author.Rules.{rules}
 use Rattle.residue.proofs.residues.reduce.Goals as goal
 
 pub overflow_mul-quotient : goal.overflow_mul-quotient

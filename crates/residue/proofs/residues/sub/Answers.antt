@@ -1,6 +1,5 @@
 -- `residue::residues::sub` meets its contract: a difference of residues is right, or p too small. Assumes nothing.
 use Rattle.residue.proofs.Reduced.{sub-fits, sub_passes}
-use borrow.Author.Rules.{rules}
 use Rattle.residue.proofs.residues.sub.Goals as goal
 
 pub returns-then-b-a : goal.returns-then-b-a

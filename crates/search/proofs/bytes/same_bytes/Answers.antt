@@ -1,9 +1,8 @@
 -- `search::bytes::same_bytes` meets its contract: before place i the two lists agree.
 -- Assumes nothing.
-use Prim.Native.Nat.{◌-◌}
 use mathlib.Core.Path.{sym}
 use native.Mathlib.Omega.{arith}
-use Rattle.search.proofs.Same.{Agree, agree_none, agree_more, agree_all, same-sizes, same_differs}
+use Rattle.search.proofs.Same.{agree_none, agree_more, agree_all, same-sizes, same_differs}
 use Rattle.search.proofs.bytes.same_bytes.Goals as goal
 
 pub returns-then-b-n : goal.returns-then-b-n

@@ -1,9 +1,7 @@
 -- `search::bytes::same_bytes` meets its contract: before place i the two lists agree.
 -- Assumes nothing.
 use Prim.Native.Nat.{◌-◌}
-use mathlib.Core.Path.{sym}
-use native.Mathlib.Omega.{arith}
-use Rattle.search.proofs.Same.{Agree, agree_none, agree_more, agree_all, same-sizes, same_differs}
+use Rattle.search.proofs.Same.{Agree}
 use Rattle.search.proofs.bytes.same_bytes.Given as goal
 
 abbrev pub invariant-loop-i : goal.invariant-loop-i

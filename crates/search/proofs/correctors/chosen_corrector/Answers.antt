@@ -1,6 +1,5 @@
 -- `search::correctors::chosen_corrector` meets its contract: the piece is one of the corrector that the bit names.
 -- Assumes nothing.
-use borrow.Author.Rules.{rules}
 use mathlib.Core.Path.{sym, ◌∙◌}
 use Rattle.search.proofs.Named.{part-first, part-second}
 use Rattle.search.proofs.correctors.chosen_corrector.Goals as goal

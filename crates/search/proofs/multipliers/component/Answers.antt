@@ -1,6 +1,5 @@
 -- `search::multipliers::component` meets its contract: one reduction of the sum with the whole product.
 -- Assumes nothing.
-use borrow.Author.Rules.{rules}
 use mathlib.Core.Path.{ap, ◌∙◌}
 use Prim.Native.Nat.{ℕ, ◌%◌}
 use Rattle.residue.proofs.Reduced.{add_multiple}

@@ -1,12 +1,10 @@
 -- `search::multipliers::multiplier` meets its contract. Of the outer loop holds that no multiplier below alpha fits; of the inner one, that the key agrees with
 -- alpha's key before place i. The way out at i = n has the first that fits, the way out at alpha = p has none.
 -- Assumes nothing.
-use Prim.Native.Nat.{◌-◌}
 use mathlib.Core.Path.{sym}
 use native.Mathlib.Omega.{arith}
-use Rattle.residue.specs.Vector.{key_v}
-use Rattle.search.proofs.Same.{Agree, agree_none}
-use Rattle.search.proofs.Tried.{Tried, tried_none, tried_all, tried_more, tried_found, component-agrees}
+use Rattle.search.proofs.Same.{agree_none}
+use Rattle.search.proofs.Tried.{tried_none, tried_all, tried_more, tried_found, component-agrees}
 use Rattle.search.proofs.multipliers.multiplier.Goals as goal
 
 pub reciprocal-m-requires : goal.reciprocal-m-requires

@@ -2,11 +2,9 @@
 -- alpha's key before place i. The way out at i = n has the first that fits, the way out at alpha = p has none.
 -- Assumes nothing.
 use Prim.Native.Nat.{◌-◌}
-use mathlib.Core.Path.{sym}
-use native.Mathlib.Omega.{arith}
 use Rattle.residue.specs.Vector.{key_v}
-use Rattle.search.proofs.Same.{Agree, agree_none}
-use Rattle.search.proofs.Tried.{Tried, tried_none, tried_all, tried_more, tried_found, component-agrees}
+use Rattle.search.proofs.Same.{Agree}
+use Rattle.search.proofs.Tried.{Tried}
 use Rattle.search.proofs.multipliers.multiplier.Given as goal
 
 abbrev pub invariant-components : goal.invariant-components

@@ -1,9 +1,7 @@
 -- `session::first_absent` meets its contract: a loop that looks for the first. Assumes nothing.
-use mathlib.Core.Path.{◌∙◌}
 use Prim.Native.Nat.{◌-◌}
-use native.Mathlib.Omega.{arith}
-use Rattle.lists.proofs.Search.{Looking, looking_start, looking_on, looking_found, looking_none}
-use Rattle.session.proofs.Searches.{absent_at, absent_is}
+use Rattle.lists.proofs.Search.{Looking}
+use Rattle.session.proofs.Searches.{absent_at}
 use Rattle.session.proofs.owners.first_absent.Given as goal
 
 abbrev pub invariant-loop-w : goal.invariant-loop-w

@@ -1,6 +1,5 @@
 -- `session::owner_absent` meets its contract: the input's arm has the owner that its pattern bound. Assumes nothing.
 use mathlib.Core.Path.{sym, ap, ◌∙◌}
-use borrow.Author.Rules.{rules}
 use Rattle.session.specs.Session.{owner_absent}
 use Rattle.session.proofs.owners.owner_absent.Goals as goal
 

@@ -1,8 +1,7 @@
 -- `session::partakers::absent_named` meets its contract: the shifted 1 is the power of 2 of the definition. Assumes nothing.
-use mathlib.Core.Path.{sym, ap}
+use mathlib.Core.Path.{ap}
 use Prim.Native.Nat.{ℕ}
 use native.Mathlib.Omega.{arith}
-use borrow.Author.Rules.{rules}
 use lib.Dec.{leb}
 use Rattle.session.proofs.Named.{all_take_part, shifted_one}
 use Rattle.session.proofs.partakers.absent_named.Goals as goal

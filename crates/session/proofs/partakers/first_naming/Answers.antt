@@ -1,10 +1,8 @@
 -- `session::partakers::first_naming` meets its contract: a loop that looks for the first. Assumes nothing.
 use mathlib.Core.Path.{◌∙◌}
-use Prim.Native.Nat.{◌-◌}
 use native.Mathlib.Omega.{arith}
-use borrow.Author.Rules.{rules}
-use Rattle.lists.proofs.Search.{Looking, looking_start, looking_on, looking_found, looking_none}
-use Rattle.session.proofs.Named.{named_at, named_is}
+use Rattle.lists.proofs.Search.{looking_start, looking_on, looking_found, looking_none}
+use Rattle.session.proofs.Named.{named_is}
 use Rattle.session.proofs.partakers.first_naming.Goals as goal
 
 pub loop-i-init : goal.loop-i-init

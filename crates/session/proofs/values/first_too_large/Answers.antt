@@ -1,11 +1,6 @@
 -- `session::first_too_large` meets its contract: a loop that looks for the first. Assumes nothing.
-use Prim.Native.Nat.{◌-◌}
 use native.Mathlib.Omega.{arith}
-use lib.ListN.{length}
-use Rattle.lists.proofs.Search.{Looking, looking_start, looking_on, looking_found, looking_none}
-use Rattle.circuit.specs.Wires.{modulus_at}
-use Rattle.circuit.specs.Held.{wires_in}
-use Rattle.session.specs.Session.{too_large}
+use Rattle.lists.proofs.Search.{looking_start, looking_on, looking_found, looking_none}
 use Rattle.session.proofs.Searches.{value_large, value-small}
 use Rattle.session.proofs.values.first_too_large.Goals as goal
 

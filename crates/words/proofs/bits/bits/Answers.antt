@@ -2,7 +2,6 @@
 -- Assumes nothing.
 use mathlib.Core.Path.{ap}
 use Prim.Native.Nat.{◌/◌, ◌%◌, ◌^◌}
-use borrow.Author.Rules.{rules}
 use Rattle.words.proofs.Fields.{shifted, shifted_pos}
 use Rattle.words.proofs.bits.bits.Goals as goal
 

@@ -1,6 +1,5 @@
 -- `words::bits::byte_from` meets its contract: the field's size in bits.
 -- Assumes nothing.
-use borrow.Author.Rules.{rules}
 use Rattle.words.proofs.Fields.{bits-from}
 use Rattle.words.proofs.bits.byte_from.Goals as goal
 

@@ -1,6 +1,5 @@
 -- `words::bits::wire_from` meets its contract: the field's size in bits.
 -- Assumes nothing.
-use borrow.Author.Rules.{rules}
 use Rattle.words.proofs.Fields.{bits-from}
 use Rattle.words.proofs.bits.wire_from.Goals as goal
 

@@ -1,6 +1,5 @@
 -- `words::due::after_entry` meets its contract: one case for the last entry, one for the others.
 -- Assumes nothing.
-use borrow.Author.Rules.{rules}
 use Rattle.words.proofs.Steps.{after_last, after_other}
 use Rattle.words.proofs.due.after_entry.Goals as goal
 

@@ -1,7 +1,6 @@
 -- `words::encoding::encode` meets its contract: each arm is told the item.
 -- Assumes nothing.
 use mathlib.Core.Path.{ap, sym, ◌∙◌}
-use borrow.Author.Rules.{rules}
 use Rattle.words.specs.Cut.{cut_word}
 use Rattle.words.proofs.encoding.encode.Goals as goal
 

@@ -1,15 +1,9 @@
 -- `words::entries::all_good` meets its contract: while the flag holds, all entries passed are good.
 -- Assumes nothing.
-use mathlib.Core.Path.{◌≡◌, sym, ◌∙◌}
+use mathlib.Core.Path.{◌≡◌}
 use mathlib.Core.Bool.{true}
-use Prim.Native.Nat.{◌+◌, ◌-◌, ◌≤◌}
-use native.Mathlib.Omega.{arith}
-use borrow.Author.Rules.{rules}
-use borrow.Author.Count.{below_more}
-use Rattle.residue.proofs.Table.{and_left, and_right}
-use Rattle.words.specs.Bits.{word_at}
-use Rattle.words.specs.Entries.{good_entry, GoodTo}
-use Rattle.words.proofs.Steps.{tested}
+use Prim.Native.Nat.{◌-◌, ◌≤◌}
+use Rattle.words.specs.Entries.{GoodTo}
 use Rattle.words.proofs.entries.all_good.Given as goal
 
 abbrev pub invariant-loop-i : goal.invariant-loop-i

@@ -2,10 +2,9 @@
 -- Assumes nothing.
 use mathlib.Core.Path.{◌≡◌}
 use mathlib.Core.Bool.{true}
-use Prim.Native.Nat.{ℕ, ◌+◌, ◌-◌, ◌≤◌, ◌<◌}
+use Prim.Native.Nat.{◌+◌}
 use native.Mathlib.Nat.{le_refl}
 use native.Mathlib.Omega.{arith}
-use borrow.Author.Rules.{rules}
 use borrow.Author.Count.{below_more}
 use Rattle.words.specs.Bits.{word_at}
 use Rattle.words.specs.Entries.{good_entry}
@@ -20,20 +19,20 @@ loop-i-init c = (omega arith, λ k h. absurd (omega (arith, h)))
 
 pub loop-i-preserved : goal.loop-i-preserved
 loop-i-preserved c = (
-      omega arith,
-      below_more
-          (λ k. good_entry c.args.modulus (word_at c.args.file.now (c.args.from + k)) ≡ true)
-          c.loop-i.i
-          c.loop-i.invariant.1
-          (tested c.args.modulus c.word_at-w.ensures c.good_entry.ensures c.if-good_entry.true),
-    )
+  omega arith,
+  below_more
+      (λ k. good_entry c.args.modulus (word_at c.args.file.now (c.args.from + k)) ≡ true)
+      c.loop-i.i
+      c.loop-i.invariant.1
+      (tested c.args.modulus c.word_at-w.ensures c.good_entry.ensures c.if-good_entry.true),
+)
 
 pub returns-else-good_entry : goal.returns-else-good_entry
 returns-else-good_entry c = record {
-      most = omega arith;
-      good = c.loop-i.invariant.1;
-      stops = λ _. tested c.args.modulus c.word_at-w.ensures c.good_entry.ensures c.if-good_entry.false;
-    }
+  most = omega arith;
+  good = c.loop-i.invariant.1;
+  stops = λ _. tested c.args.modulus c.word_at-w.ensures c.good_entry.ensures c.if-good_entry.false;
+}
 
 pub returns : goal.returns
 returns c = record { most = omega arith; good = c.loop-i.invariant.1; stops = λ h. absurd (omega (arith, h)) }

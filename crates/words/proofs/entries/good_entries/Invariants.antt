@@ -3,13 +3,8 @@
 use mathlib.Core.Path.{◌≡◌}
 use mathlib.Core.Bool.{true}
 use Prim.Native.Nat.{ℕ, ◌+◌, ◌-◌, ◌≤◌, ◌<◌}
-use native.Mathlib.Nat.{le_refl}
-use native.Mathlib.Omega.{arith}
-use borrow.Author.Rules.{rules}
-use borrow.Author.Count.{below_more}
 use Rattle.words.specs.Bits.{word_at}
 use Rattle.words.specs.Entries.{good_entry}
-use Rattle.words.proofs.Steps.{tested}
 use Rattle.words.proofs.entries.good_entries.Given as goal
 
 abbrev pub invariant-loop-i : goal.invariant-loop-i

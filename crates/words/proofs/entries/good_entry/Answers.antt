@@ -1,7 +1,6 @@
 -- `words::entries::good_entry` meets its contract.
 -- Assumes nothing.
 use mathlib.Core.Path.{◌∙◌}
-use borrow.Author.Rules.{rules}
 use Rattle.words.proofs.Steps.{in_range}
 use Rattle.words.proofs.entries.good_entry.Goals as goal
 

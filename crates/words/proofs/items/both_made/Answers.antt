@@ -1,7 +1,6 @@
 -- `words::items::both_made` meets its contract.
 -- Assumes nothing.
 use mathlib.Core.Path.{sym}
-use borrow.Author.Rules.{rules}
 use Rattle.words.proofs.Steps.{two_tests}
 use Rattle.words.proofs.items.both_made.Goals as goal
 

@@ -2,7 +2,6 @@
 -- Assumes nothing.
 use mathlib.Core.Path.{ap, sym, ◌∙◌}
 use lib.ListN.{take}
-use borrow.Author.Rules.{rules}
 use Rattle.words.specs.declared.gate.Due.{Due}
 use Rattle.words.specs.Items.{branches_item}
 use Rattle.words.proofs.items.branches_item.Goals as goal

@@ -1,6 +1,5 @@
 -- `words::items::end_item` meets its contract: each check is the definition's, by what the callees ensure.
 -- Assumes nothing.
-use borrow.Author.Rules.{rules}
 use Rattle.words.proofs.items.end_item.Goals as goal
 
 pub returns : goal.returns

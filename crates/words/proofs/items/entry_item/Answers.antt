@@ -1,7 +1,6 @@
 -- `words::items::entry_item` meets its contract: each arm is told what is due.
 -- Assumes nothing.
 use mathlib.Core.Path.{ap, sym}
-use borrow.Author.Rules.{rules}
 use Rattle.words.specs.declared.gate.Due.{Due}
 use Rattle.words.specs.Items.{entry_item}
 use Rattle.words.proofs.items.entry_item.Goals as goal

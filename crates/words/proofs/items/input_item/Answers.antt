@@ -2,7 +2,6 @@
 -- Assumes nothing.
 use mathlib.Core.Path.{◌∙◌, refl, sym}
 use native.Mathlib.Omega.{arith}
-use borrow.Author.Rules.{rules}
 use Rattle.checks.specs.declared.Refusal.TheVariants.{NotDue, NotPrime, OutOfRange, TooMany}
 use Rattle.words.proofs.Steps.{below_limit, failed, modulus-byte, not_failed, not_passed, passed, past_limit}
 use Rattle.words.proofs.items.input_item.Goals as goal

@@ -1,7 +1,6 @@
 -- `words::items::is_modulus` meets its contract: too wide, and a byte.
 -- Assumes nothing.
 use mathlib.Core.Path.{◌∙◌}
-use borrow.Author.Rules.{rules}
 use Rattle.words.proofs.Steps.{modulus-small, modulus_wide}
 use Rattle.words.proofs.items.is_modulus.Goals as goal
 

@@ -4,7 +4,6 @@ use mathlib.Core.Path.{ap, sym, ◌∙◌}
 use Prim.Native.Nat.{ℕ}
 use lib.ListN.{take}
 use lib.Seq.{length-take-le}
-use borrow.Author.Rules.{rules}
 use Rattle.words.specs.declared.item.Item.{Item}
 use Rattle.words.specs.Items.{input_item, judged}
 use Rattle.words.proofs.items.judge.Goals as goal

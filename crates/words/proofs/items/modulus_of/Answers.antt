@@ -1,7 +1,6 @@
 -- `words::items::modulus_of` meets its contract: a wire that is made, and any other.
 -- Assumes nothing.
 use Rattle.words.proofs.Steps.{modulus-made, modulus_none}
-use borrow.Author.Rules.{rules}
 use Rattle.words.proofs.items.modulus_of.Goals as goal
 
 pub returns-then-number-made : goal.returns-then-number-made

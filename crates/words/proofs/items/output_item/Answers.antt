@@ -3,7 +3,6 @@
 use mathlib.Core.Path.{◌∙◌, refl, sym}
 use native.Mathlib.Omega.{arith}
 use lib.Seq.{length-take-le}
-use borrow.Author.Rules.{rules}
 use Rattle.checks.specs.declared.Refusal.TheVariants.{NotDue, NotMade, TooMany}
 use Rattle.words.proofs.Steps.{below_limit, failed, narrow, not_failed, not_passed, one_made, passed, past_limit}
 use Rattle.words.proofs.items.output_item.Goals as goal

@@ -4,7 +4,6 @@ use mathlib.Core.Path.{◌∙◌, refl, sym, ap}
 use Prim.Native.Nat.{ℕ, ◌+◌}
 use native.Mathlib.Omega.{arith}
 use lib.Seq.{length-take-le}
-use borrow.Author.Rules.{rules}
 use Rattle.checks.specs.declared.Refusal.TheVariants.{NotDue, NotPrime, NotMade, TooMany}
 use Rattle.words.specs.declared.gate.Gate.TheVariants.{Project}
 use Rattle.words.specs.declared.gate.Due.TheVariants.{Entries}

@@ -3,9 +3,7 @@
 use mathlib.Core.Path.{◌∙◌, refl, sym, ap}
 use Prim.Native.Nat.{ℕ}
 use native.Mathlib.Omega.{arith}
-use lib.ListN.{take}
 use lib.Seq.{length-take-le}
-use borrow.Author.Rules.{rules}
 use Rattle.checks.specs.declared.Refusal.TheVariants.{NotDue, NotMade, OutOfRange, TooMany}
 use Rattle.words.specs.declared.gate.Gate.TheVariants.{Scale}
 use Rattle.words.specs.declared.gate.Due.TheVariants.{Gates}

@@ -4,7 +4,6 @@ use mathlib.Core.Path.{◌∙◌, refl, sym}
 use native.Mathlib.Omega.{arith}
 use lib.ListN.{take}
 use lib.Seq.{length-take-le}
-use borrow.Author.Rules.{rules}
 use Rattle.checks.specs.declared.Refusal.TheVariants.{NotDue, NotMade, ModuliDiffer, TooMany}
 use Rattle.words.proofs.Steps.{at_most, failed, is-two, narrow, no_room, not_failed, not_passed, not-two, one_made, passed, room-left}
 use Rattle.words.proofs.items.select_item.Goals as goal

@@ -2,7 +2,6 @@
 -- Assumes nothing.
 use mathlib.Core.Path.{sym, ap₂, ◌∙◌}
 use mathlib.Core.Bool.{◌&&◌}
-use borrow.Author.Rules.{rules}
 use Rattle.words.proofs.Steps.{clean_none, clean-of-kind, no_known}
 use Rattle.words.proofs.reading.clean.Goals as goal
 

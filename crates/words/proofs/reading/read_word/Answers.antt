@@ -7,14 +7,12 @@ use mathlib.Core.List.{List}
 use Prim.Native.Nat.{ℕ, ◌≤◌}
 use lib.ListN.{take, get_or}
 use lib.Seq.{length-take-le}
-use borrow.Author.Rules.{rules}
 use Rattle.checks.specs.declared.Refusal.TheVariants.{UnknownWord}
 use Rattle.words.specs.declared.item.Item.{Item}
 use Rattle.words.specs.declared.item.Item.TheVariants.{Head, Input, Add, Scale, Multiply, Project, Entry, Select, Branches, Output, End}
 use Rattle.words.specs.declared.gate.Due.{Due}
 use Rattle.words.specs.Clean.{clean_of_kind, clean}
 use Rattle.words.specs.Reading.{Nothing, said, by_kind, does, read_word}
-use Rattle.words.specs.declared.gate.Step.{Step}
 use Rattle.words.specs.declared.gate.Step.TheVariants.{Refused}
 use Rattle.words.specs.Bits.{clear, kind, owner, input_modulus, wire_a, wire_b, named, one_wire, constant, output_modulus, image}
 use Rattle.words.specs.Items.{input_item, judged}
