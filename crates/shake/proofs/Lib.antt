@@ -7,5 +7,4 @@ pub mod Padded
 pub mod Streamed
 pub mod Numbers
 pub mod Whole
-pub mod Absorbing
 pub mod Known

@@ -57,9 +57,6 @@ module _ (block : ℕ) (reads : List ℕ → ℕ → ℕ) where
     pub lanes25 : length lanes ≡ 25
     pub whole : take i out ++ stream (n - i) lanes at ≡ stream n state 0
 
-  pub none_written : (state out : List ℕ) → length state ≡ 25 → Written state (length out) out state 0 0
-  none_written state out l = record { inside = omega arith; long = refl; place = omega arith; lanes25 = l; whole = ap (λ (k : ℕ). stream k state 0) (omega arith) }
-
   pub all-written : (state : List ℕ) (n : ℕ) (out lanes : List ℕ) (at i : ℕ) → Written state n out lanes at i → n ≤ i → out ≡ stream n state 0
   unfolding stream
   all-written state n out lanes at i w h =

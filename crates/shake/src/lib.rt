@@ -3,6 +3,8 @@
 // give the numbers. Each equals the definition on bits and blocks in specs/, for every message and every length of output.
 // Rests on the permutation of the crate keccak, and on lists.
 
+#![tactic(auto)]
+
 ghost use Rattle.std.specs.Prelude.{◌≡◌, ◌*◌, ◌<◌, length};
 ghost use Rattle.shake.specs.Numbers.{numbers};
 ghost use Rattle.shake.specs.Shake.{shake256, squeezed};

@@ -4,7 +4,6 @@ use mathlib.Core.Path.{refl, ap, ◌∙◌}
 use Rattle.shake.specs.Stream.{closed}
 use Rattle.keccak.specs.Keccak.{keccak_f}
 use Rattle.shake.proofs.Fields.{padded_lanes}
-use borrow.Author.Rules.{rules}
 use Rattle.shake.proofs.finished.Goals as goal
 
 pub returns : goal.returns

@@ -2,7 +2,6 @@
 -- Assumes nothing.
 use mathlib.Core.Path.{◌∙◌}
 use Rattle.shake.proofs.Whole.{first_field, start_place, field-place, is-shake256}
-use borrow.Author.Rules.{rules}
 use Rattle.shake.proofs.shake256.Goals as goal
 
 pub absorbed-requires : goal.absorbed-requires

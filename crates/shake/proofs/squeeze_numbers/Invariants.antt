@@ -1,14 +1,9 @@
 -- `shake::squeeze_numbers` meets its contract. The loop's invariant is that of `squeeze`, at lanes.
 -- Assumes nothing.
-use mathlib.Core.Path.{refl, ◌∙◌}
-use mathlib.Core.Logic.{⊎_elim}
-use Prim.Native.Nat.{◌<◌, ◌-◌}
-use native.Mathlib.Omega.{arith}
-use borrow.Author.Rules.{rules}
-use lib.Dec.{lit<}
+use Prim.Native.Nat.{◌-◌}
 use lib.ListN.{length}
-use Rattle.shake.proofs.Stream.{Written, none_written, all-written, more_full, more_within}
-use Rattle.shake.proofs.Squeezed.{lane_at, lanes_squeezed}
+use Rattle.shake.proofs.Stream.{Written}
+use Rattle.shake.proofs.Squeezed.{lane_at}
 use Rattle.shake.proofs.squeeze_numbers.Given as goal
 
 abbrev pub invariant-loop-i : goal.invariant-loop-i
