@@ -18,6 +18,7 @@ pub struct Bound {
 }
 
 // One sponge, lent for each of seven fields in turn.
+#[tactic(auto, using(shake::proofs::Whole::start_place, shake::proofs::Whole::next_place))]
 fn seven_fields(
     tag: &[u8],
     round: &[u8],

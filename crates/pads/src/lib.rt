@@ -2,6 +2,9 @@
 // 8-byte numbers, each reduced modulo the receiving modulus. The functions here put the pads of all senders for all receivers on a
 // row that is lent, or take them off: entry by entry, and each entry sender by sender. Rests on the sponge of the crate shake, on
 // residue and on lists.
+
+#![tactic(auto)]
+
 mod entries;
 mod input;
 mod remainder;

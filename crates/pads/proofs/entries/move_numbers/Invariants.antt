@@ -1,13 +1,9 @@
 -- `pads::entries::move_numbers` meets its contract: entry by entry, `out` turns into the sum or the difference.
 -- Assumes nothing.
-use mathlib.Core.Path.{sym, ◌∙◌}
 use Prim.Native.Nat.{◌-◌, ◌≤◌}
-use native.Mathlib.Omega.{arith}
 use lib.ListN.{length}
-use Rattle.residue.proofs.Vectors.{zip_length}
-use Rattle.residue.proofs.InPlace.{Turned, turned_none, turned-all}
-use Rattle.pads.specs.Moved.{shifted, reduced, moved}
-use Rattle.pads.proofs.Reduced.{reduced-length, number-turn}
+use Rattle.residue.proofs.InPlace.{Turned}
+use Rattle.pads.specs.Moved.{reduced, moved}
 use Rattle.pads.proofs.entries.move_numbers.Given as goal
 
 abbrev pub invariant-loop-i : goal.invariant-loop-i

@@ -1,11 +1,9 @@
 -- `pads::entries::move_pads` meets its contract: sender by sender, by the contract of the step alone.
 -- Assumes nothing.
-use mathlib.Core.Path.{◌≡◌, sym, ap, ◌∙◌}
+use mathlib.Core.Path.{◌≡◌}
 use Prim.Native.Nat.{◌-◌, ◌≤◌}
-use native.Mathlib.Omega.{arith}
 use lib.ListN.{length}
 use Rattle.pads.specs.Senders.{sums}
-use Rattle.pads.proofs.Senders.{sums_none, sums-length, sums-fits, sums_asked}
 use Rattle.pads.proofs.entries.move_pads.Given as goal
 
 abbrev pub invariant-loop-j : goal.invariant-loop-j

@@ -1,6 +1,5 @@
 -- `pads::entries::move_sender` meets its contract: sender j's pad on sums of the first j senders makes sums of the first j + 1.
 -- Assumes nothing.
-use borrow.Author.Rules.{rules}
 use Rattle.pads.proofs.Senders.{takes_sender}
 use Rattle.pads.proofs.entries.move_sender.Goals as goal
 

@@ -1,7 +1,6 @@
 -- `pads::input::number_bytes` meets its contract: digit by digit, as `bytes_of` has them.
 -- Assumes nothing.
 use mathlib.Core.Path.{refl}
-use borrow.Author.Rules.{rules}
 use Rattle.shake.specs.Numbers.{bytes_of}
 use Rattle.pads.proofs.input.number_bytes.Goals as goal
 

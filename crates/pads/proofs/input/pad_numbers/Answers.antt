@@ -3,7 +3,6 @@
 use mathlib.Core.Path.{ap, ◌∙◌}
 use Prim.Native.Nat.{◌<◌}
 use native.Mathlib.Omega.{arith}
-use borrow.Author.Rules.{rules}
 use Rattle.shake.specs.Numbers.{numbers}
 use Rattle.shake.proofs.Whole.{field-place, is-shake256}
 use Rattle.pads.proofs.Taken.{input-bytes}

@@ -2,7 +2,6 @@
 -- Assumes nothing.
 use native.Mathlib.Nat.{mod-lt, div-le_self, div-add-mod'}
 use native.Mathlib.Omega.{arith}
-use borrow.Author.Rules.{rules}
 use Rattle.pads.proofs.remainder.factors_of.Goals as goal
 
 pub overflow_cast-result : goal.overflow_cast-result

@@ -1,7 +1,6 @@
 -- `pads::remainder::folded` meets its contract, by the laws of the folds.
 -- Assumes nothing.
 use native.Mathlib.Omega.{arith}
-use borrow.Author.Rules.{rules}
 use Rattle.pads.proofs.Folded.{once_small, twice_small, twice_folded}
 use Rattle.pads.proofs.remainder.folded.Goals as goal
 

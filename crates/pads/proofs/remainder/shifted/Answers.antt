@@ -1,7 +1,6 @@
 -- `pads::remainder::shifted` meets its contract: the residue joins the folded number, or what is left when that is taken from a multiple of q.
 -- Assumes nothing.
 use native.Mathlib.Omega.{arith}
-use borrow.Author.Rules.{rules}
 use Rattle.pads.proofs.Folded.{put_on, top_above, taken_off}
 use Rattle.pads.proofs.remainder.shifted.Goals as goal
 

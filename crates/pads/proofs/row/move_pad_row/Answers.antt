@@ -1,12 +1,11 @@
 -- `pads::row::move_pad_row` meets its contract: receiver by receiver.
 -- Assumes nothing.
-use mathlib.Core.Path.{◌≡◌, refl, sym, ap, ◌∙◌}
-use Prim.Native.Nat.{◌-◌, ◌*◌}
+use mathlib.Core.Path.{refl, sym, ap, ◌∙◌}
+use Prim.Native.Nat.{◌*◌}
 use native.Mathlib.Omega.{arith}
-use lib.ListN.{length}
 use Rattle.lists.proofs.Steps.{level_start, steps_fits, steps_long}
 use Rattle.pads.specs.Binding.{under_of}
-use Rattle.pads.proofs.Moving.{Done, receiver_asked, receivers-more, receivers-all}
+use Rattle.pads.proofs.Moving.{receiver_asked, receivers-more, receivers-all}
 use Rattle.pads.proofs.row.move_pad_row.Goals as goal
 
 pub loop-i-init : goal.loop-i-init

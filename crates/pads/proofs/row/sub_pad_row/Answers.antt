@@ -1,7 +1,6 @@
 -- `pads::row::sub_pad_row` meets its contract: what `move_pad_row` does, on work memory of its own.
 -- Assumes nothing.
 use mathlib.Core.Path.{sym}
-use borrow.Author.Rules.{rules}
 use Rattle.residue.specs.Vector.{sub_v}
 use Rattle.pads.specs.Moved.{shifted, moved}
 use Rattle.pads.proofs.row.sub_pad_row.Goals as goal
