@@ -16,55 +16,44 @@ use Rattle.rows.proofs.choice_rows.Reads as choice-rows-reads
 use Rattle.rows.proofs.less.Reads as less-reads
 use Rattle.garbling.proofs.gate.put_choice.Goals as goal
 
--- src/gate.rt:106:9
 pub lower-bit-requires : goal.lower-bit-requires
 lower-bit-requires c = (omega (arith, vector-fits c.requires.drawn.0.own.gathers.sizes), c.requires.drawn.1.bit.there)
 
--- src/gate.rt:107:9
 pub lower-a-requires : goal.lower-a-requires
 lower-a-requires c = (omega (arith, vector-fits c.requires.drawn.0.own.gathers.sizes), c.requires.drawn.1.a.there)
 
--- src/gate.rt:108:9
 pub lower-b-requires : goal.lower-b-requires
 lower-b-requires c = (omega (arith, vector-fits c.requires.drawn.0.own.gathers.sizes), c.requires.drawn.1.b.there)
 
--- src/gate.rt:109:9
 pub less-d-requires : goal.less-d-requires
 less-d-requires c = (paired c.requires.drawn.1.b c.lower-b.ensures, (paired c.requires.drawn.1.a c.lower-a.ensures, omega (arith, vector-fits c.requires.drawn.0.own.gathers.sizes)))
 
--- src/gate.rt:110:9
 pub drawn-z-requires : goal.drawn-z-requires
 drawn-z-requires c = (c.requires.drawn.0.own, omega (arith, c.requires.drawn.0.count))
 
--- src/gate.rt:111:9
 pub drawn-first-requires : goal.drawn-first-requires
 drawn-first-requires c = (c.requires.drawn.0.own, omega (arith, c.requires.drawn.0.count))
 
--- src/gate.rt:112:9
 pub drawn-second-requires : goal.drawn-second-requires
 drawn-second-requires c = (c.requires.drawn.0.own, omega (arith, c.requires.drawn.0.count))
 
--- src/gate.rt:115:9
 pub slice_bounds-offset-end : goal.slice_bounds-offset-end
 slice_bounds-offset-end c = omega (arith, vector-fits c.requires.drawn.0.own.gathers.sizes, c.offsets-offset.ensures.kept)
 
--- src/gate.rt:115:9
 pub slice_bounds-choice_rows-end : goal.slice_bounds-choice_rows-end
 slice_bounds-choice_rows-end c = sym (front_long c.requires.drawn.0.own.gathers.sizes c.offsets-offset.ensures)
 
--- src/gate.rt:116:9
 pub slice_bounds-pair-end : goal.slice_bounds-pair-end
 slice_bounds-pair-end c = omega (arith, vector-fits c.requires.drawn.0.own.gathers.sizes, c.offsets-pair.ensures.kept)
 
--- src/gate.rt:116:9
 pub slice_bounds-choice_rows-end-2 : goal.slice_bounds-choice_rows-end-2
 slice_bounds-choice_rows-end-2 c = sym (front_long c.requires.drawn.0.own.gathers.sizes c.offsets-pair.ensures)
 
--- src/gate.rt:113:5
 pub choice_rows-requires : goal.choice_rows-requires
-choice_rows-requires c = let s = c.requires.drawn.0.own.gathers.sizes in
-    choice_asked c.args.turn c.made_of.ensures s c.requires.drawn.0.own.modulus c.requires.out_len (front-vector s c.offsets-offset.ensures) (front-vector s c.offsets-pair.ensures) (paired c.requires.drawn.1.bit c.lower-bit.ensures) c.less-d.ensures.0 c.drawn-z.ensures.whole c.drawn-first.ensures.whole c.drawn-second.ensures.whole
+choice_rows-requires c =
+    let s = c.requires.drawn.0.own.gathers.sizes in
+    let p = choice_asked c.args.turn c.made_of.ensures s c.requires.drawn.0.own.modulus c.requires.out_len (front-vector s c.offsets-offset.ensures) (front-vector s c.offsets-pair.ensures) (paired c.requires.drawn.1.bit c.lower-bit.ensures) c.less-d.ensures.0 c.drawn-z.ensures.whole c.drawn-first.ensures.whole c.drawn-second.ensures.whole in
+    record { room_for = p.0; operand = p.1.0; operand_2 = p.1.1 }
 
--- src/gate.rt:90:1
 pub returns : goal.returns
 returns c = choice_is c.args.turn c.made_of.ensures c.lower-bit.result c.less-d.result c.drawn-z.result c.drawn-first.result c.drawn-second.result c.choice_rows.ensures c.offsets-offset.ensures.front c.offsets-pair.ensures.front c.lower-bit.ensures.is (c.less-d.ensures.1 ∙ ap₂ (less c.args.turn.modulus) c.lower-b.ensures.is c.lower-a.ensures.is) c.drawn-z.ensures.is c.drawn-first.ensures.is c.drawn-second.ensures.is

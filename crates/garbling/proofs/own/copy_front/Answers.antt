@@ -10,14 +10,11 @@ use Rattle.garbling.proofs.own.copy_front.Lts as lts
 use Rattle.lists.proofs.copy.Reads as copy-reads
 use Rattle.garbling.proofs.own.copy_front.Goals as goal
 
--- src/own.rt:58:17
 pub slice_bounds-copy-end-2 : goal.slice_bounds-copy-end-2
 slice_bounds-copy-end-2 c = sym (length-take-le (length c.args.piece.now) c.args.out.now (omega (arith, c.requires.0, c.requires.1)))
 
--- src/own.rt:58:5
 pub copy-requires : goal.copy-requires
 copy-requires c = length-take-le (length c.args.piece.now) c.args.out.now (omega (arith, c.requires.0, c.requires.1))
 
--- src/own.rt:53:1
 pub returns : goal.returns
 returns c = copied_made (length c.args.piece.now) c.args.out.now refl c.requires.0 c.requires.1 c.copy.auto.out c.copy.ensures

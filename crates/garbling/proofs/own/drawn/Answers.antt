@@ -12,42 +12,34 @@ use Rattle.garbling.proofs.own.keys_at.Reads as keys-at-reads
 use Rattle.zero.proofs.share_sum.Reads as share-sum-reads
 use Rattle.garbling.proofs.own.drawn.Goals as goal
 
--- src/own.rt:47:54
 pub overflow_mul-turn : goal.overflow_mul-turn
 overflow_mul-turn c = let a = c.args in
     omega (arith, key-inside a.turn.k a.turn.at a.turn.count a.j c.requires.0.fits c.requires.1)
 
--- src/own.rt:47:44
 pub overflow_add-turn : goal.overflow_add-turn
 overflow_add-turn c = let a = c.args in
     omega (arith, key-inside a.turn.k a.turn.at a.turn.count a.j c.requires.0.fits c.requires.1)
 
--- src/own.rt:47:9
 pub keys_at-key-requires : goal.keys_at-key-requires
 keys_at-key-requires c = let a = c.args in
     (c.requires.0.gathers, key-inside a.turn.k a.turn.at a.turn.count a.j c.requires.0.fits c.requires.1)
 
--- src/own.rt:48:24
 pub overflow_mul-at : goal.overflow_mul-at
 overflow_mul-at c = let a = c.args in
     omega (arith, mask-inside a.turn.k a.turn.at a.turn.count a.j c.requires.0.fits c.requires.1)
 
--- src/own.rt:48:14
 pub overflow_add-at : goal.overflow_add-at
 overflow_add-at c = let a = c.args in
     omega (arith, mask-inside a.turn.k a.turn.at a.turn.count a.j c.requires.0.fits c.requires.1)
 
--- src/own.rt:48:14
 pub overflow_add-at-2 : goal.overflow_add-at-2
 overflow_add-at-2 c = let a = c.args in
     omega (arith, mask-inside a.turn.k a.turn.at a.turn.count a.j c.requires.0.fits c.requires.1)
 
--- src/own.rt:49:9
 pub share_sum-mask-requires : goal.share_sum-mask-requires
 share_sum-mask-requires c = let a = c.args in
     record { contributions_len = (c.requires.0.gathers.all, mask-inside a.turn.k a.turn.at a.turn.count a.j c.requires.0.fits c.requires.1); n_bound = (c.requires.0.gathers.sizes.parties, omega (arith, c.requires.0.modulus)) }
 
--- src/own.rt:43:1
 pub returns : goal.returns
 unfolding mask_at
 returns c = record {

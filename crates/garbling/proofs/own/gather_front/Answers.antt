@@ -12,25 +12,20 @@ use Rattle.garbling.proofs.own.gather_front.Lts as lts
 use Rattle.zero.proofs.gather.Reads as gather-reads
 use Rattle.garbling.proofs.own.gather_front.Goals as goal
 
--- src/own.rt:20:17
 pub overflow_mul-bytes : goal.overflow_mul-bytes
 overflow_mul-bytes c = omega (arith, vector-fits c.requires.gathers.0.sizes)
 
--- src/own.rt:21:58
 pub slice_bounds-gather-end : goal.slice_bounds-gather-end
 slice_bounds-gather-end c = omega (arith, vector-fits c.requires.gathers.0.sizes, c.requires.out_len)
 
--- src/own.rt:21:58
 pub slice_bounds-gather-end-2 : goal.slice_bounds-gather-end-2
 slice_bounds-gather-end-2 c = let a = c.args in
     sym (length-take-le (a.turn.n * a.turn.k) a.out.now (omega (arith, vector-fits c.requires.gathers.0.sizes, c.requires.out_len)))
 
--- src/own.rt:21:5
 pub gather-requires : goal.gather-requires
 gather-requires c = let a = c.args in
     record { contributions_len = (c.requires.gathers.0.all, c.requires.gathers.1); out_len = length-take-le (a.turn.n * a.turn.k) a.out.now (omega (arith, vector-fits c.requires.gathers.0.sizes, c.requires.out_len)) }
 
--- src/own.rt:15:1
 pub returns : goal.returns
 unfolding keys_at
 returns c = front-made c.args.turn c.requires.gathers.0.sizes c.args.out.now c.requires.out_len c.gather.auto.out c.gather.ensures

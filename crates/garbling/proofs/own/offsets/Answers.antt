@@ -10,7 +10,6 @@ use Rattle.contribution.proofs.offset_place.Reads as offset-place-reads
 use Rattle.garbling.proofs.own.keys_at.Reads as keys-at-reads
 use Rattle.garbling.proofs.own.offsets.Goals as goal
 
--- src/own.rt:35:1
 pub returns : goal.returns
 returns c = let a = c.args in
     subst (λ (m : ℕ). Front a.turn (keys_at a.turn.n a.turn.k a.turn.size a.contributions.now m) c.keys_at.result) c.offset_place.ensures c.keys_at.ensures

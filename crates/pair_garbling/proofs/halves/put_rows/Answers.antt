@@ -45,7 +45,9 @@ slice_bounds-put_row-end c = omega (arith, steps_fits c.loop-i.invariant.1 c.loo
 
 pub put_row-requires : goal.put_row-requires
 unfolding rows_under
-put_row-requires c = row_asked c.requires.fits.0 c.requires.fits.1 c.loop-i.invariant.1 c.loop-i-test.true c.loop-i.invariant.0 c.add_multiple.auto.out
+put_row-requires c =
+    let p = row_asked c.requires.fits.0 c.requires.fits.1 c.loop-i.invariant.1 c.loop-i-test.true c.loop-i.invariant.0 c.add_multiple.auto.out in
+    record { room = p.0; vector = p.1 }
 
 pub loop-i-smaller : goal.loop-i-smaller
 unfolding rows_under

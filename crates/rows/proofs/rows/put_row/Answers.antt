@@ -10,7 +10,7 @@ pub key_of-requires : goal.key_of-requires
 key_of-requires c = record { aligned = aligned (omega (arith, c.requires.room.modulus)) c.requires.vector.1.0 c.requires.vector.1.1; out_len = same_size (one_row c.requires.room) c.requires.vector.1.0 }
 
 pub add_pad_row-requires : goal.add_pad_row-requires
-add_pad_row-requires c = record { asked = row_asked _ _ _ c.requires.room the-key-of.ensures; row = row-sizes c.requires.room c.requires.vector.0 the-key-of.auto.1.1.1.1.0 }
+add_pad_row-requires c = record { asked = row_asked _ _ _ c.requires.room c.key_of.ensures; row = row-sizes c.requires.room c.requires.vector.0 c.key_of.auto.out }
 
 pub shape_of-out : goal.shape_of-out
 shape_of-out c = c.add_pad_row.auto.out ∙ c.key_of.auto.out
