@@ -12,7 +12,6 @@ use Rattle.words.specs.declared.gate.Choice.{Choice as Chosen}
 use Rattle.counts.specs.declared.recipe.Lookup.{Lookup}
 use Rattle.counts.specs.declared.recipe.Recipe.{Recipe}
 use Rattle.counts.specs.declared.recipe.Recipe.TheVariants.{Entered, Sum, Multiple, Table, Product, Choice}
-use Rattle.counts.specs.Counts.{record_keys_by, rows_by}
 use Rattle.scheme.specs.Gate.{rows_from}
 use Rattle.garbling.specs.declared.turn.Turn.{Turn}
 use Rattle.garbling.specs.Source.{table_here, product_here, choice_here, rows_here, Drawn, OverTable, OfPair, OfChoice, Listed, OfRecipe, Sourced}

@@ -12,10 +12,9 @@ use Rattle.session.specs.Sizes.{Sizes, Vector}
 use Rattle.contribution.proofs.Sizes.{vector-fits, scratch_cut}
 use Rattle.scheme.specs.Keyed.{Keyed}
 use Rattle.rows.specs.declared.keyed.Keyed.{Keyed as Held}
-use Rattle.rows.specs.Made.{keyed_of}
 use Rattle.rows.specs.Made.{Operand as Paired}
 use Rattle.garbling.specs.declared.turn.Turn.{Turn}
-use Rattle.garbling.specs.Source.{Front, CopiedFront, HeldOf, PairOf, Reduced, wire_here}
+use Rattle.garbling.specs.Source.{Front, CopiedFront, HeldOf, Reduced, wire_here}
 
 -- the front of an array, lent and filled
 pub front-made : (turn : Turn) → Sizes turn.n turn.k → (out : List ℕ) {ys xs : List ℕ} → length out ≡ 1024 → length ys ≡ length (take (turn.n * turn.k) out) → ys ≡ xs

@@ -16,8 +16,7 @@ use Rattle.circuit.specs.Wires.{wire_at, modulus_at, moduli_of}
 use Rattle.circuit.proofs.More.{made}
 use Rattle.circuit.specs.Held.{wires_in}
 use Rattle.counts.specs.declared.recipe.Recipe.{Recipe}
-use Rattle.counts.specs.declared.recipe.Recipe.TheVariants.{Entered, Sum, Multiple, Table, Product, Choice}
-use Rattle.counts.specs.Recipe.{recipe, image_of}
+use Rattle.counts.specs.Recipe.{recipe}
 use Rattle.counts.specs.Counts.{record_keys_by, record_keys_of, rows_by, rows_of}
 use Rattle.counts.specs.Images.{ImagesFit}
 use Rattle.counts.specs.Moduli.{used, used_below}
@@ -30,7 +29,7 @@ use Rattle.pads.specs.Pad.{Pad, shake_pad}
 use Rattle.scheme.specs.Contribution.{offset_at, record_at, key_at, share_at, contribution_size}
 use Rattle.scheme.specs.Draw.{Draw, drawn}
 use Rattle.scheme.specs.Keyed.{Keyed, less}
-use Rattle.scheme.specs.Zero.{zero_key, mask, zero_of}
+use Rattle.scheme.specs.Zero.{zero_key, mask}
 use Rattle.scheme.specs.Gate.{table_rows, product_rows, choice_rows, Source, rows_from}
 use Rattle.scheme.specs.Rows.{source_of, gate_rows}
 use Rattle.scheme.proofs.Bounds.{prime}
@@ -41,7 +40,7 @@ use Rattle.zero.specs.Turn.{keys_at, mask_at}
 use Rattle.contribution.proofs.Cursor.{within, cursor_fits}
 use Rattle.zero.proofs.Made.{zero_key_size, mask_below, zero_keys_at, masks-at, masks-kept}
 use Rattle.garbling.specs.declared.turn.Turn.{Turn}
-use Rattle.garbling.specs.Source.{source_here, rows_here, Offsets, Operand, Reduced, Listed, OfRecipe, Sourced}
+use Rattle.garbling.specs.Source.{source_here, rows_here, Offsets, Reduced, OfRecipe, Sourced}
 use Rattle.garbling.proofs.Fronts.{pair_is}
 
 -- ---- rows that are made of equal operands are equal

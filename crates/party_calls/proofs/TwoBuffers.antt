@@ -17,7 +17,7 @@ use Rattle.checks.specs.declared.Refusal.{Refusal}
 use Rattle.checks.specs.declared.Refusal.TheVariants.{ValueTooLarge}
 use Rattle.checks.specs.Checked.{none_bad, named}
 use Rattle.checks.proofs.Answers.{none_bad-found}
-use Rattle.circuit.specs.Named.{may_read, readable}
+use Rattle.circuit.specs.Named.{readable}
 use Rattle.circuit.proofs.Allowed.{everyone_may}
 use Rattle.session.specs.Session.{too_large}
 use Rattle.party_calls.specs.Either.{bad_at, bad_read, either_bad, either_checked}

@@ -1,7 +1,7 @@
 -- One gate, garbled and opened, from its operands alone: its rows have the length that is counted, each row opened under the keys that it was garbled
 -- under is its message, and the messages come to the gate's key. No circuit is in sight: the wires that the gate uses are known to be opened rightly.
 -- Assumes nothing.
-use mathlib.Core.Path.{◌≡◌, refl, sym, ap, ap₂, ◌∙◌}
+use mathlib.Core.Path.{◌≡◌, refl, ap, ap₂, ◌∙◌}
 use mathlib.Core.List.{List, ◌++◌}
 use Prim.Native.Nat.{ℕ, zero, suc, ◌+◌, ◌*◌, ◌≤◌, ◌<◌}
 use native.Mathlib.Omega.{arith}

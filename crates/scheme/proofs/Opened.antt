@@ -11,8 +11,8 @@ use borrow.Author.Tests.{lt-ltb}
 use Rattle.lists.specs.Blocks.{part, nth_piece, sum_to}
 use Rattle.lists.proofs.Sums.{sum_to_ext, sum_to_times}
 use Rattle.lists.proofs.Blocks.{part-blocks}
-use Rattle.residue.specs.Residue.{add, mul}
-use Rattle.residue.specs.Vector.{sub_v, key_v, AllBelow}
+use Rattle.residue.specs.Residue.{add}
+use Rattle.residue.specs.Vector.{key_v, AllBelow}
 use Rattle.residue.proofs.Vectors.{add-below, mul-below, sub_v-length}
 use Rattle.words.specs.declared.gate.Choice.{Choice as Chosen}
 use Rattle.words.specs.declared.gate.Wire.{Wire}

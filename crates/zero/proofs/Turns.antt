@@ -11,7 +11,7 @@ use Rattle.lists.proofs.Filled.{Filled, filled_start, filled_step, filled_done}
 use Rattle.lists.proofs.Steps.{Level, level_start, level_read, level_whole, level_place, steps_put, steps_fits}
 use Rattle.lists.proofs.Sums.{times-fits}
 use Rattle.lists.specs.Blocks.{blocks, part, nth_piece, written}
-use Rattle.residue.specs.Residue.{add, mul}
+use Rattle.residue.specs.Residue.{add}
 use Rattle.residue.specs.Vector.{add_v, mul_v}
 use Rattle.words.specs.declared.gate.Choice.{Choice as Chosen}
 use Rattle.words.specs.declared.gate.Pair.{Pair}

@@ -1,7 +1,6 @@
 -- `contribution::contributions_checked` meets its contract: the first that was found is named. Assumes nothing.
 use Rattle.circuit.specs.Held.{wires_in}
 use Rattle.contribution.proofs.Large.{contributions_met}
-use borrow.Author.Rules.{rules}
 use Rattle.contribution.proofs.contributed.contributions_checked.Goals as goal
 
 pub returns : goal.returns

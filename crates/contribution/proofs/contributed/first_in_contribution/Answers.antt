@@ -2,7 +2,6 @@
 use native.Mathlib.Omega.{arith}
 use Rattle.circuit.specs.Held.{wires_in}
 use Rattle.contribution.proofs.Joined.{split-fits, front-size, front_long, rest-long, rest-fits, in_offsets, in_records}
-use borrow.Author.Rules.{rules}
 use Rattle.contribution.proofs.contributed.first_in_contribution.Goals as goal
 
 pub overflow_mul-split : goal.overflow_mul-split

@@ -1,13 +1,9 @@
 -- `contribution::first_in_contributions` meets its contract: a loop over blocks, one for each party. Assumes nothing.
-use native.Mathlib.Omega.{arith}
-use mathlib.Core.Path.{refl, sym, ◌∙◌}
 use Prim.Native.Nat.{◌-◌}
 use Rattle.lists.specs.Blocks.{blocks}
-use Rattle.lists.proofs.Sums.{sum_to_const}
 use Rattle.circuit.specs.Held.{wires_in}
 use Rattle.scheme.specs.Contribution.{contribution_size, contribution_moduli}
-use Rattle.scheme.proofs.ByteModuli.{length-contribution_moduli}
-use Rattle.contribution.proofs.Runs.{Searched, searched_start, searched-fits, searched-long, searched-done, block_on, block_found}
+use Rattle.contribution.proofs.Runs.{Searched}
 use Rattle.contribution.proofs.contributed.first_in_contributions.Given as goal
 
 abbrev pub invariant-loop-party : goal.invariant-loop-party

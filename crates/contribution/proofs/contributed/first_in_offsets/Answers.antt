@@ -2,15 +2,14 @@
 use native.Mathlib.Omega.{arith}
 use mathlib.Core.Path.{refl, ap, ◌∙◌}
 use mathlib.Core.List.{List}
-use Prim.Native.Nat.{ℕ, ◌-◌, ◌*◌}
+use Prim.Native.Nat.{ℕ, ◌*◌}
 use lib.ListN.{get_or}
-use Rattle.lists.specs.Blocks.{runs}
 use Rattle.counts.specs.Moduli.{used}
 use Rattle.circuit.specs.Held.{wires_in}
 use Rattle.contribution.specs.Large.{first_large}
 use Rattle.contribution.proofs.Sizes.{times-most}
 use Rattle.contribution.proofs.Wired.{marks_room, marks_runs}
-use Rattle.contribution.proofs.Runs.{Searched, searched_start, searched-fits, searched-done, run_on, run_found}
+use Rattle.contribution.proofs.Runs.{searched_start, searched-fits, searched-done, run_on, run_found}
 use Rattle.contribution.proofs.contributed.first_in_offsets.Goals as goal
 
 pub marks-marks-requires : goal.marks-marks-requires

@@ -1,16 +1,11 @@
 -- `contribution::first_in_records` meets its contract: a loop over runs, one for each wire. Assumes nothing.
-use native.Mathlib.Omega.{arith}
-use mathlib.Core.Path.{refl, sym, ◌∙◌}
 use Prim.Native.Nat.{◌+◌, ◌-◌, ◌*◌}
 use lib.ListN.{length}
 use Rattle.lists.specs.Blocks.{runs}
-use Rattle.lists.proofs.Sums.{sum_to_times}
 use Rattle.circuit.specs.Wires.{modulus_at}
 use Rattle.circuit.specs.Held.{wires_in}
 use Rattle.counts.specs.Counts.{record_keys_of}
-use Rattle.contribution.proofs.Sizes.{times-most}
-use Rattle.contribution.proofs.Wired.{made_are, modulus_is, records-are}
-use Rattle.contribution.proofs.Runs.{Searched, searched_start, searched-fits, searched-done, run_on, run_found}
+use Rattle.contribution.proofs.Runs.{Searched}
 use Rattle.contribution.proofs.contributed.first_in_records.Given as goal
 
 abbrev pub invariant-loop-w : goal.invariant-loop-w

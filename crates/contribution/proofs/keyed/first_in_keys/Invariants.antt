@@ -1,14 +1,9 @@
 -- `contribution::first_in_keys` meets its contract: a loop over runs, one for each input. Assumes nothing.
-use native.Mathlib.Omega.{arith}
-use mathlib.Core.Path.{refl, sym, ◌∙◌}
 use Prim.Native.Nat.{◌-◌}
 use Rattle.lists.specs.Blocks.{runs}
-use Rattle.lists.proofs.Sums.{sum_to_const}
 use Rattle.circuit.specs.Wires.{inputs_in, modulus_at}
 use Rattle.circuit.specs.Held.{wires_in}
-use Rattle.session.proofs.Circuits.{inputs-made}
-use Rattle.contribution.proofs.Wired.{modulus_is}
-use Rattle.contribution.proofs.Runs.{Searched, searched_start, searched-fits, searched-done, run_on, run_found}
+use Rattle.contribution.proofs.Runs.{Searched}
 use Rattle.contribution.proofs.keyed.first_in_keys.Given as goal
 
 abbrev pub invariant-loop-w : goal.invariant-loop-w

@@ -3,7 +3,6 @@ use native.Mathlib.Omega.{arith}
 use Rattle.circuit.specs.Held.{wires_in}
 use Rattle.contribution.proofs.Sizes.{times-most}
 use Rattle.contribution.proofs.Large.{rows_met}
-use borrow.Author.Rules.{rules}
 use Rattle.contribution.proofs.keyed.rows_checked.Goals as goal
 
 pub overflow_mul-width : goal.overflow_mul-width

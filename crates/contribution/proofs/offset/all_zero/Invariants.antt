@@ -1,8 +1,7 @@
 -- `contribution::all_zero` meets its contract: a loop up to the first byte that is not zero. Assumes nothing.
-use native.Mathlib.Omega.{arith}
 use Prim.Native.Nat.{◌-◌}
 use lib.ListN.{length}
-use Rattle.contribution.proofs.Offsets.{ZeroTo, zero_start, zero-step, zero-all, zero-not}
+use Rattle.contribution.proofs.Offsets.{ZeroTo}
 use Rattle.contribution.proofs.offset.all_zero.Given as goal
 
 abbrev pub invariant-loop-i : goal.invariant-loop-i

@@ -1,11 +1,11 @@
 -- `contribution::first_zero` meets its contract: a loop that looks for the first modulus. Assumes nothing.
 use native.Mathlib.Omega.{arith}
 use mathlib.Core.Path.{sym, ap, ◌∙◌}
-use Prim.Native.Nat.{ℕ, ◌-◌, ◌*◌}
-use Rattle.lists.proofs.Search.{Looking, looking_start, looking_on, looking_found, looking_none}
+use Prim.Native.Nat.{ℕ, ◌*◌}
+use Rattle.lists.proofs.Search.{looking_start, looking_on, looking_found, looking_none}
 use Rattle.circuit.specs.Held.{wires_in}
 use Rattle.contribution.proofs.Sizes.{times-most}
-use Rattle.contribution.proofs.Offsets.{zero_marked, marked_is, marked_fits, zero_same, zero-found}
+use Rattle.contribution.proofs.Offsets.{marked_is, marked_fits, zero_same, zero-found}
 use Rattle.contribution.proofs.offset.first_zero.Goals as goal
 
 pub marks-marks-requires : goal.marks-marks-requires

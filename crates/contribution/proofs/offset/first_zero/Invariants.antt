@@ -1,11 +1,7 @@
 -- `contribution::first_zero` meets its contract: a loop that looks for the first modulus. Assumes nothing.
-use native.Mathlib.Omega.{arith}
-use mathlib.Core.Path.{sym, ap, ◌∙◌}
-use Prim.Native.Nat.{ℕ, ◌-◌, ◌*◌}
-use Rattle.lists.proofs.Search.{Looking, looking_start, looking_on, looking_found, looking_none}
-use Rattle.circuit.specs.Held.{wires_in}
-use Rattle.contribution.proofs.Sizes.{times-most}
-use Rattle.contribution.proofs.Offsets.{zero_marked, marked_is, marked_fits, zero_same, zero-found}
+use Prim.Native.Nat.{◌-◌}
+use Rattle.lists.proofs.Search.{Looking}
+use Rattle.contribution.proofs.Offsets.{zero_marked}
 use Rattle.contribution.proofs.offset.first_zero.Given as goal
 
 abbrev pub invariant-loop-p : goal.invariant-loop-p

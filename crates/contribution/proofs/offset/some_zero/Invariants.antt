@@ -1,12 +1,8 @@
 -- `contribution::some_zero` meets its contract: a loop that looks for the first party. Assumes nothing.
-use native.Mathlib.Omega.{arith}
-use mathlib.Core.Path.{refl, sym, ap, ◌∙◌}
 use Prim.Native.Nat.{◌-◌}
 use Rattle.lists.specs.Blocks.{part, nth_piece}
-use Rattle.lists.proofs.Search.{Looking, looking_start, looking_on}
-use Rattle.scheme.proofs.Used.{some_below-at, some_below_fails}
+use Rattle.lists.proofs.Search.{Looking}
 use Rattle.scheme.specs.Bytes.{all_zero}
-use Rattle.contribution.proofs.Offsets.{within_all, party-part}
 use Rattle.contribution.proofs.offset.some_zero.Given as goal
 
 abbrev pub invariant-loop-party : goal.invariant-loop-party

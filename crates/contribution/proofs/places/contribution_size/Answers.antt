@@ -2,7 +2,6 @@
 use native.Mathlib.Omega.{arith}
 use Rattle.circuit.specs.Held.{wires_in}
 use Rattle.contribution.proofs.Sizes.{offsets-most, records-most, size_counts}
-use borrow.Author.Rules.{rules}
 use Rattle.contribution.proofs.places.contribution_size.Goals as goal
 
 pub overflow_mul-result : goal.overflow_mul-result

@@ -2,7 +2,6 @@
 use mathlib.Core.Path.{ap}
 use Prim.Native.Nat.{ℕ, ◌*◌}
 use native.Mathlib.Omega.{arith}
-use borrow.Author.Rules.{rules}
 use Rattle.contribution.proofs.Sizes.{times-most}
 use Rattle.contribution.proofs.places.offset_place.Goals as goal
 

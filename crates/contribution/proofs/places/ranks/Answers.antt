@@ -1,10 +1,8 @@
 -- `contribution::ranks` meets its contract: a loop in which each place is the one before it and its mark. Assumes nothing.
 use native.Mathlib.Omega.{arith}
-use Prim.Native.Nat.{◌+◌, ◌-◌}
-use Rattle.lists.proofs.Filled.{Filled}
 use Rattle.counts.specs.Moduli.{used}
 use Rattle.circuit.specs.Held.{wires_in}
-use Rattle.contribution.proofs.Sizes.{ranked, ranks_start, ranks_fit, ranks_step, ranks_done}
+use Rattle.contribution.proofs.Sizes.{ranks_start, ranks_fit, ranks_step, ranks_done}
 use Rattle.contribution.proofs.places.ranks.Goals as goal
 
 pub marks-marks-requires : goal.marks-marks-requires

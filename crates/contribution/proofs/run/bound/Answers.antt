@@ -1,8 +1,5 @@
 -- `contribution::bound` meets its contract: a loop that keeps the largest byte so far. Assumes nothing.
-use native.Mathlib.Omega.{arith}
-use Prim.Native.Nat.{◌-◌}
-use lib.ListN.{length}
-use Rattle.contribution.proofs.Large.{BoundedTo, bounded_start, bounded_step, bounded_done}
+use Rattle.contribution.proofs.Large.{bounded_start, bounded_step, bounded_done}
 use Rattle.contribution.proofs.run.bound.Goals as goal
 
 pub loop-i-init : goal.loop-i-init

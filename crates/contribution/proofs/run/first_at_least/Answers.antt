@@ -1,6 +1,5 @@
 -- `contribution::first_at_least` meets its contract: where the bound is below p there is none, and else the search finds it. Assumes nothing.
 use Rattle.contribution.proofs.Large.{bounded_none}
-use borrow.Author.Rules.{rules}
 use Rattle.contribution.proofs.run.first_at_least.Goals as goal
 
 pub returns-then-most-p : goal.returns-then-most-p

@@ -1,10 +1,8 @@
 -- `contribution::searched` meets its contract: a loop that looks for the first. Assumes nothing.
 use native.Mathlib.Omega.{arith}
 use borrow.Author.Tests.{le-leb, lt-leb}
-use Prim.Native.Nat.{◌-◌}
-use lib.Dec.{leb}
-use lib.ListN.{length, get_or}
-use Rattle.lists.proofs.Search.{Looking, looking_start, looking_on, looking_found, looking_none}
+use lib.ListN.{get_or}
+use Rattle.lists.proofs.Search.{looking_start, looking_on, looking_found, looking_none}
 use Rattle.contribution.proofs.run.searched.Goals as goal
 
 pub loop-i-init : goal.loop-i-init

@@ -1,12 +1,5 @@
 
 use Rattle.garbling.proofs.Arms.{at-modulus, at_table, at-product, at_choice, entered-rows, sum_rows, multiple_rows, table-rows, product-rows, choice-rows}
-use borrow.Author.Rules.{rules}
-use Rattle.garbling.proofs.gate.gate_rows.Reads as reads
-use Rattle.garbling.proofs.gate.gate_rows.Lts as lts
-use Rattle.garbling.proofs.gate.put_choice.Reads as put-choice-reads
-use Rattle.garbling.proofs.gate.put_product.Reads as put-product-reads
-use Rattle.garbling.proofs.gate.put_table.Reads as put-table-reads
-use Rattle.lists.proofs.wire_index.Reads as wire-index-reads
 use Rattle.garbling.proofs.gate.gate_rows.Goals as goal
 
 pub bounds-moduli-a : goal.bounds-moduli-a

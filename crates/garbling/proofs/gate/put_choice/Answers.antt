@@ -1,19 +1,10 @@
 
-use mathlib.Core.Path.{sym, ap, ap₂, ◌∙◌}
+use mathlib.Core.Path.{sym, ap₂, ◌∙◌}
 use native.Mathlib.Omega.{arith}
 use Rattle.contribution.proofs.Sizes.{vector-fits}
 use Rattle.scheme.specs.Keyed.{less}
 use Rattle.garbling.proofs.Fronts.{front_long, front-vector, paired}
 use Rattle.garbling.proofs.Called.{choice_asked, choice_is}
-use borrow.Author.Rules.{rules}
-use Rattle.garbling.proofs.gate.put_choice.Reads as reads
-use Rattle.garbling.proofs.gate.put_choice.Lts as lts
-use Rattle.garbling.proofs.gate.made_of.Reads as made-of-reads
-use Rattle.garbling.proofs.own.drawn.Reads as drawn-reads
-use Rattle.garbling.proofs.own.lower.Reads as lower-reads
-use Rattle.garbling.proofs.own.offsets.Reads as offsets-reads
-use Rattle.rows.proofs.choice_rows.Reads as choice-rows-reads
-use Rattle.rows.proofs.less.Reads as less-reads
 use Rattle.garbling.proofs.gate.put_choice.Goals as goal
 
 pub lower-bit-requires : goal.lower-bit-requires

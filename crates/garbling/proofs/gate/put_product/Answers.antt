@@ -1,18 +1,9 @@
 
-use mathlib.Core.Path.{sym, ap, subst, ◌∙◌}
-use Prim.Native.Nat.{ℕ, ◌<◌}
+use mathlib.Core.Path.{sym}
 use native.Mathlib.Omega.{arith}
 use Rattle.contribution.proofs.Sizes.{vector-fits}
 use Rattle.garbling.proofs.Fronts.{front_long, front-vector, paired}
 use Rattle.garbling.proofs.Called.{product_asked, product_is}
-use borrow.Author.Rules.{rules}
-use Rattle.garbling.proofs.gate.put_product.Reads as reads
-use Rattle.garbling.proofs.gate.put_product.Lts as lts
-use Rattle.garbling.proofs.gate.made_of.Reads as made-of-reads
-use Rattle.garbling.proofs.own.drawn.Reads as drawn-reads
-use Rattle.garbling.proofs.own.lower.Reads as lower-reads
-use Rattle.garbling.proofs.own.offsets.Reads as offsets-reads
-use Rattle.rows.proofs.product_rows.Reads as product-rows-reads
 use Rattle.garbling.proofs.gate.put_product.Goals as goal
 
 pub lower-a-requires : goal.lower-a-requires

@@ -1,17 +1,9 @@
 
-use mathlib.Core.Path.{sym, ap, ◌∙◌}
+use mathlib.Core.Path.{sym}
 use native.Mathlib.Omega.{arith}
 use Rattle.contribution.proofs.Sizes.{vector-fits}
 use Rattle.garbling.proofs.Fronts.{front_long, front-vector, paired}
 use Rattle.garbling.proofs.Called.{table_asked, table_is}
-use borrow.Author.Rules.{rules}
-use Rattle.garbling.proofs.gate.put_table.Reads as reads
-use Rattle.garbling.proofs.gate.put_table.Lts as lts
-use Rattle.garbling.proofs.gate.made_of.Reads as made-of-reads
-use Rattle.garbling.proofs.own.drawn.Reads as drawn-reads
-use Rattle.garbling.proofs.own.lower.Reads as lower-reads
-use Rattle.garbling.proofs.own.offsets.Reads as offsets-reads
-use Rattle.rows.proofs.table_rows.Reads as table-rows-reads
 use Rattle.garbling.proofs.gate.put_table.Goals as goal
 
 pub lower-a-requires : goal.lower-a-requires

@@ -1,6 +1,5 @@
 -- `garbling::put_input_masks` meets its contract: as many masks as there are inputs. Assumes nothing.
 use mathlib.Core.Path.{sym}
-use borrow.Author.Rules.{rules}
 use lib.ListN.{length}
 use lib.Seq.{length-take-le}
 use Rattle.garbling.proofs.handed.put_input_masks.Goals as goal

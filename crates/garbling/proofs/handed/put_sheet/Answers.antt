@@ -1,8 +1,6 @@
 -- `garbling::put_sheet` meets its contract: a loop that fills the buffer output by output. Assumes nothing.
-use Prim.Native.Nat.{◌-◌}
 use native.Mathlib.Omega.{arith}
-use Rattle.lists.proofs.Filled.{Filled, filled_whole}
-use Rattle.garbling.specs.Sheets.{sheet_here}
+use Rattle.lists.proofs.Filled.{filled_whole}
 use Rattle.garbling.proofs.Sheets.{sheet_start, output_held, sheet-step}
 use Rattle.garbling.proofs.handed.put_sheet.Goals as goal
 

@@ -1,8 +1,6 @@
 -- `garbling::put_sheets` meets its contract: sheet by sheet, parties ascending. Assumes nothing.
-use mathlib.Core.Path.{refl, ap, ◌∙◌}
 use Prim.Native.Nat.{◌-◌}
-use native.Mathlib.Omega.{arith}
-use Rattle.lists.proofs.Steps.{Level, level_start, steps_fits, steps_long, steps_call, level_whole}
+use Rattle.lists.proofs.Steps.{Level}
 use Rattle.garbling.specs.Sheets.{sheet_here}
 use Rattle.garbling.proofs.handed.put_sheets.Given as goal
 

@@ -4,10 +4,6 @@ use native.Mathlib.Omega.{arith}
 use lib.ListN.{length}
 use lib.Seq.{length-take-le}
 use Rattle.garbling.proofs.Fronts.{copied_made}
-use borrow.Author.Rules.{rules}
-use Rattle.garbling.proofs.own.copy_front.Reads as reads
-use Rattle.garbling.proofs.own.copy_front.Lts as lts
-use Rattle.lists.proofs.copy.Reads as copy-reads
 use Rattle.garbling.proofs.own.copy_front.Goals as goal
 
 pub slice_bounds-copy-end-2 : goal.slice_bounds-copy-end-2

@@ -5,11 +5,6 @@ use native.Mathlib.Nat.{mod-lt}
 use native.Mathlib.Omega.{arith}
 use Rattle.zero.specs.Turn.{mask_at}
 use Rattle.garbling.proofs.Fronts.{key-inside, mask-inside, pair_is}
-use borrow.Author.Rules.{rules}
-use Rattle.garbling.proofs.own.drawn.Reads as reads
-use Rattle.garbling.proofs.own.drawn.Lts as lts
-use Rattle.garbling.proofs.own.keys_at.Reads as keys-at-reads
-use Rattle.zero.proofs.share_sum.Reads as share-sum-reads
 use Rattle.garbling.proofs.own.drawn.Goals as goal
 
 pub overflow_mul-turn : goal.overflow_mul-turn

@@ -6,10 +6,6 @@ use lib.Seq.{length-take-le}
 use Rattle.contribution.proofs.Sizes.{vector-fits}
 use Rattle.zero.specs.Turn.{keys_at}
 use Rattle.garbling.proofs.Fronts.{front-made}
-use borrow.Author.Rules.{rules}
-use Rattle.garbling.proofs.own.gather_front.Reads as reads
-use Rattle.garbling.proofs.own.gather_front.Lts as lts
-use Rattle.zero.proofs.gather.Reads as gather-reads
 use Rattle.garbling.proofs.own.gather_front.Goals as goal
 
 pub overflow_mul-bytes : goal.overflow_mul-bytes

@@ -3,13 +3,6 @@ use mathlib.Core.Path.{refl, sym, subst}
 use Prim.Native.Nat.{ℕ, ◌+◌, ◌*◌, ◌≤◌}
 use lib.ListN.{length}
 use Rattle.garbling.proofs.Fronts.{held_of}
-use borrow.Author.Rules.{rules}
-use Rattle.garbling.proofs.own.lower.Reads as reads
-use Rattle.garbling.proofs.own.lower.Lts as lts
-use Rattle.contribution.proofs.scratch.Reads as scratch-reads
-use Rattle.garbling.proofs.own.copy_front.Reads as copy-front-reads
-use Rattle.lists.proofs.nth_piece.Reads as nth-piece-reads
-use Rattle.lists.proofs.wire_index.Reads as wire-index-reads
 use Rattle.garbling.proofs.own.lower.Goals as goal
 
 pub nth_piece-requires : goal.nth_piece-requires

@@ -1,15 +1,7 @@
 
-use mathlib.Core.Path.{sym, ◌∙◌}
-use Rattle.zero.proofs.Made.{masks-kept}
+use mathlib.Core.Path.{◌∙◌}
 use Rattle.garbling.proofs.Garbled.{inputs_fit, inputs_are}
 use Rattle.garbling.proofs.Sheets.{sheets_hand, sheets_room, sheets_are}
-use borrow.Author.Rules.{rules}
-use Rattle.garbling.proofs.pass.garble_from.Reads as reads
-use Rattle.garbling.proofs.pass.garble_from.Lts as lts
-use Rattle.garbling.proofs.handed.put_input_masks.Reads as put-input-masks-reads
-use Rattle.garbling.proofs.handed.put_sheets.Reads as put-sheets-reads
-use Rattle.garbling.proofs.pass.put_rows.Reads as put-rows-reads
-use Rattle.zero.proofs.wire_masks.Reads as wire-masks-reads
 use Rattle.garbling.proofs.pass.garble_from.Goals as goal
 
 pub put_input_masks-requires : goal.put_input_masks-requires

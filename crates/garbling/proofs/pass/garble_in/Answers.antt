@@ -8,11 +8,6 @@ use Rattle.lists.proofs.Wrote.{wrote_front, wrote_take}
 use Rattle.contribution.proofs.Sizes.{vector-fits}
 use Rattle.zero.specs.Ready.{ZeroKeys}
 use Rattle.garbling.proofs.Garbled.{keys_fit}
-use borrow.Author.Rules.{rules}
-use Rattle.garbling.proofs.pass.garble_in.Reads as reads
-use Rattle.garbling.proofs.pass.garble_in.Lts as lts
-use Rattle.garbling.proofs.pass.garble_from.Reads as garble-from-reads
-use Rattle.zero.proofs.zero_keys.Reads as zero-keys-reads
 use Rattle.garbling.proofs.pass.garble_in.Goals as goal
 
 pub overflow_mul-bytes : goal.overflow_mul-bytes

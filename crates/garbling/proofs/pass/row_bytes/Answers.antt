@@ -3,11 +3,6 @@ use mathlib.Core.Path.{ap, ◌∙◌}
 use Prim.Native.Nat.{ℕ, ◌*◌}
 use native.Mathlib.Omega.{arith}
 use Rattle.contribution.proofs.Sizes.{times-most}
-use borrow.Author.Rules.{rules}
-use Rattle.garbling.proofs.pass.row_bytes.Reads as reads
-use Rattle.garbling.proofs.pass.row_bytes.Lts as lts
-use Rattle.counts.proofs.row_count.Reads as row-count-reads
-use Rattle.lists.proofs.number_index.Reads as number-index-reads
 use Rattle.garbling.proofs.pass.row_bytes.Goals as goal
 
 pub overflow_mul-result : goal.overflow_mul-result

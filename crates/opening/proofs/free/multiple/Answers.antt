@@ -1,6 +1,5 @@
 -- `opening::multiple` meets its contract: a copy, then a multiple. Assumes nothing.
 use Rattle.opening.proofs.Turns.{made_multiple}
-use borrow.Author.Rules.{rules}
 use Rattle.opening.proofs.free.multiple.Goals as goal
 
 pub returns : goal.returns

@@ -1,6 +1,5 @@
 -- `opening::sum` meets its contract: once the second vector is that vector. Assumes nothing.
 use Rattle.opening.proofs.Turns.{made_sum}
-use borrow.Author.Rules.{rules}
 use Rattle.opening.proofs.free.sum.Goals as goal
 
 pub returns : goal.returns

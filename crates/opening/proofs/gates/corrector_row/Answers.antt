@@ -1,7 +1,6 @@
 -- `opening::corrector_row` meets its contract: the rows of both correctors are cut out, and the named one gives its row. Assumes nothing.
 use native.Mathlib.Omega.{arith}
 use Rattle.opening.proofs.Correctors.{small, first-inside, second-inside, within, corrector-at}
-use borrow.Author.Rules.{rules}
 use Rattle.opening.proofs.gates.corrector_row.Goals as goal
 
 pub overflow_mul-width : goal.overflow_mul-width

@@ -1,7 +1,6 @@
 -- `opening::open_choice` meets its contract: the chooser's row, and the row of the corrector that is named. Assumes nothing.
 use Rattle.contribution.proofs.Sizes.{vector-fits}
 use Rattle.opening.proofs.Bared.{choice_is}
-use borrow.Author.Rules.{rules}
 use Rattle.opening.proofs.gates.open_choice.Goals as goal
 
 pub corrector_row-row-requires : goal.corrector_row-row-requires

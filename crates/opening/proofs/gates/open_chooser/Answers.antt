@@ -1,7 +1,6 @@
 -- `opening::open_chooser` meets its contract: the row without its pads, and for 1 the keys of the difference. Assumes nothing.
 use native.Mathlib.Omega.{arith}
 use Rattle.opening.proofs.Bared.{row_inside, row_below, chooser_zero, chooser_one}
-use borrow.Author.Rules.{rules}
 use Rattle.opening.proofs.gates.open_chooser.Goals as goal
 
 pub nth_piece-row-requires : goal.nth_piece-row-requires

@@ -3,7 +3,6 @@ use mathlib.Core.Path.{sym, ◌∙◌}
 use Prim.Native.Nat.{◌+◌}
 use native.Mathlib.Omega.{arith}
 use Rattle.opening.proofs.Bared.{row_inside, row_below, product_is}
-use borrow.Author.Rules.{rules}
 use Rattle.opening.proofs.gates.open_product.Goals as goal
 
 pub nth_piece-row-requires : goal.nth_piece-row-requires

@@ -1,6 +1,5 @@
 -- `opening::open_table` meets its contract: the row of the external value, without its pads. Assumes nothing.
 use Rattle.opening.proofs.Bared.{row_inside, row_below, table_is}
-use borrow.Author.Rules.{rules}
 use Rattle.opening.proofs.gates.open_table.Goals as goal
 
 pub nth_piece-row-requires : goal.nth_piece-row-requires

@@ -2,7 +2,6 @@
 use native.Mathlib.Omega.{arith}
 use Rattle.lists.proofs.Sums.{times-fits}
 use Rattle.opening.proofs.Turns.{made_shown}
-use borrow.Author.Rules.{rules}
 use Rattle.opening.proofs.own.own_multiplier.Goals as goal
 
 pub nth_piece-key-requires : goal.nth_piece-key-requires

@@ -1,6 +1,5 @@
 -- `opening::open_wires` meets its contract: from what the pass gives, and the two fills. Assumes nothing.
 use Rattle.opening.proofs.Loop.{opens-short, opens-all}
-use borrow.Author.Rules.{rules}
 use Rattle.opening.proofs.pass.open_wires.Goals as goal
 
 pub returns-then-reached-made : goal.returns-then-reached-made

@@ -2,7 +2,6 @@
 use mathlib.Core.Path.{sym, ◌∙◌}
 use lib.ListN.{get_or}
 use Rattle.opening.proofs.Opens.{over-at}
-use borrow.Author.Rules.{rules}
 use Rattle.opening.proofs.pass.over.Goals as goal
 
 pub returns-in-Table : goal.returns-in-Table

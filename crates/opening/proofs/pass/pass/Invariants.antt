@@ -1,9 +1,7 @@
 -- `opening::pass` meets its contract: a loop that opens a wire a turn, from those before it; what stands in the locals is what the definitions cut out for the wire. Assumes nothing.
 use Prim.Native.Nat.{◌-◌}
-use native.Mathlib.Omega.{arith}
 use lib.ListN.{take}
 use Rattle.opening.proofs.Reached.{Reached}
-use Rattle.opening.proofs.Loop.{loop_start, table-long, same_keys, same-externals, places_size, places_room, small, cursor_room, rows-room, turn-seated, turn-ready, turn-room, loop-keys, loop-externals, loop-next, loop-short, loop-all}
 use Rattle.opening.proofs.pass.pass.Given as goal
 
 abbrev pub invariant-loop-w : goal.invariant-loop-w

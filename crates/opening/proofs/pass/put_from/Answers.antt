@@ -5,7 +5,6 @@ use native.Mathlib.Omega.{arith}
 use lib.ListN.{length}
 use Rattle.contribution.proofs.Sizes.{vector-fits}
 use Rattle.opening.proofs.Turns.{place-fits, put_room, put_is}
-use borrow.Author.Rules.{rules}
 use Rattle.opening.proofs.pass.put_from.Goals as goal
 
 pub overflow_mul-turn : goal.overflow_mul-turn

@@ -2,7 +2,6 @@
 use mathlib.Core.Path.{sym}
 use native.Mathlib.Omega.{arith}
 use Rattle.contribution.proofs.Sizes.{vector-fits, scratch_cut}
-use borrow.Author.Rules.{rules}
 use Rattle.opening.proofs.pass.put_wire.Goals as goal
 
 pub slice_bounds-made-end : goal.slice_bounds-made-end

@@ -3,7 +3,6 @@ use mathlib.Core.Path.{◌∙◌}
 use native.Mathlib.Omega.{arith}
 use Rattle.residue.proofs.Vectors.{add_v-below}
 use Rattle.opening.proofs.Bared.{asked, rowed, bare_more}
-use borrow.Author.Rules.{rules}
 use Rattle.opening.proofs.row.add_bare.Goals as goal
 
 pub sub_pad_row-requires : goal.sub_pad_row-requires

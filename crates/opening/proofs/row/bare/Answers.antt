@@ -2,7 +2,6 @@
 use mathlib.Core.Path.{ap, ◌∙◌}
 use lib.ListN.{length}
 use Rattle.opening.proofs.Bared.{asked, rowed, bare-row}
-use borrow.Author.Rules.{rules}
 use Rattle.opening.proofs.row.bare.Goals as goal
 
 pub sub_pad_row-requires : goal.sub_pad_row-requires

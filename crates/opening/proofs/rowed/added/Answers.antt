@@ -1,6 +1,5 @@
 -- `opening::added` meets its contract: once a vector is that vector. Assumes nothing.
 use Rattle.opening.proofs.Turns.{made-added}
-use borrow.Author.Rules.{rules}
 use Rattle.opening.proofs.rowed.added.Goals as goal
 
 pub returns : goal.returns

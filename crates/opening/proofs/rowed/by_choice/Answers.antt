@@ -3,7 +3,6 @@ use mathlib.Core.Path.{sym, ◌∙◌}
 use native.Mathlib.Omega.{arith}
 use Rattle.contribution.proofs.Sizes.{vector-fits, scratch_cut}
 use Rattle.opening.proofs.Turns.{made_choice, made_none}
-use borrow.Author.Rules.{rules}
 use Rattle.opening.proofs.rowed.by_choice.Goals as goal
 
 pub slice_bounds-d-end : goal.slice_bounds-d-end

@@ -1,6 +1,5 @@
 -- `opening::by_product` meets its contract: what the rows give and what is searched for is the definition. Assumes nothing.
 use Rattle.opening.proofs.Turns.{made-product}
-use borrow.Author.Rules.{rules}
 use Rattle.opening.proofs.rowed.by_product.Goals as goal
 
 pub returns : goal.returns

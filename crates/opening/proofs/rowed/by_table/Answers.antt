@@ -1,6 +1,5 @@
 -- `opening::by_table` meets its contract: what the row gives and what is searched for is the definition. Assumes nothing.
 use Rattle.opening.proofs.Turns.{made_table}
-use borrow.Author.Rules.{rules}
 use Rattle.opening.proofs.rowed.by_table.Goals as goal
 
 pub returns : goal.returns

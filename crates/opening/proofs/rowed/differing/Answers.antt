@@ -1,7 +1,6 @@
 -- `opening::differing` meets its contract: both wires' keys are cut out of the buffer. Assumes nothing.
 use mathlib.Core.Path.{ap₂, ◌∙◌}
 use Rattle.residue.specs.Vector.{sub_v}
-use borrow.Author.Rules.{rules}
 use Rattle.opening.proofs.rowed.differing.Goals as goal
 
 pub returns : goal.returns

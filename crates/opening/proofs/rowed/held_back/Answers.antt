@@ -3,7 +3,6 @@ use mathlib.Core.Path.{◌∙◌}
 use native.Mathlib.Omega.{arith}
 use Rattle.residue.proofs.Vectors.{sub-below}
 use Rattle.opening.proofs.Turns.{below_as, made_held}
-use borrow.Author.Rules.{rules}
 use Rattle.opening.proofs.rowed.held_back.Goals as goal
 
 pub open_choice-requires : goal.open_choice-requires

@@ -1,6 +1,5 @@
 -- `opening::input` meets its contract: the keys are copied and the external value is read. Assumes nothing.
 use Rattle.opening.proofs.Turns.{made-given}
-use borrow.Author.Rules.{rules}
 use Rattle.opening.proofs.wire.input.Goals as goal
 
 pub returns : goal.returns

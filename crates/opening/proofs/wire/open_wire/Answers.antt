@@ -2,7 +2,6 @@
 use Rattle.scheme.specs.Opening.{open_from}
 use Rattle.opening.specs.Step.{open_by, open_at}
 use Rattle.opening.proofs.Turns.{ready_at, made_by}
-use borrow.Author.Rules.{rules}
 use Rattle.opening.proofs.wire.open_wire.Goals as goal
 
 pub input-requires : goal.input-requires

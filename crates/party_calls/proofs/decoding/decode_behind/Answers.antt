@@ -1,5 +1,4 @@
 -- `party_calls::decode_behind` meets its contract: accepted, what was written; refused, nothing. Assumes nothing.
-use borrow.Author.Rules.{rules}
 use Rattle.party_calls.proofs.Decodes.{decodes_of, behind_written, behind_refused}
 use Rattle.party_calls.proofs.decoding.decode_behind.Goals as goal
 

@@ -1,5 +1,4 @@
 -- `party_calls::decode_read` meets its contract: the checks in their order, and then decoding. Assumes nothing.
-use borrow.Author.Rules.{rules}
 use Rattle.session.proofs.Circuits.{held_of}
 use Rattle.party_calls.proofs.Decodes.{decode-ready, decode_call}
 use Rattle.party_calls.proofs.decoding.decode_read.Goals as goal

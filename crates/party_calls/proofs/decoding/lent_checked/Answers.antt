@@ -1,5 +1,4 @@
 -- `party_calls::lent_checked` meets its contract: a wrong length, or what the check of the bytes answers. Assumes nothing.
-use borrow.Author.Rules.{rules}
 use Rattle.session.proofs.LentLengths.{lengths_met}
 use Rattle.party_calls.proofs.Decodes.{lent-masked, lent-next, lent-refused}
 use Rattle.party_calls.proofs.decoding.lent_checked.Goals as goal

@@ -1,5 +1,4 @@
 -- `party_calls::masks_checked` meets its contract: the tables hold the moduli. Assumes nothing.
-use borrow.Author.Rules.{rules}
 use Rattle.party_calls.proofs.Decodes.{masks_met}
 use Rattle.party_calls.proofs.decoding.masks_checked.Goals as goal
 

@@ -1,9 +1,6 @@
 -- `party_calls::put_decoded` meets its contract: a loop that fills the buffer output by output. Assumes nothing.
 use mathlib.Core.Path.{refl}
-use Prim.Native.Nat.{◌-◌}
 use native.Mathlib.Omega.{arith}
-use Rattle.lists.proofs.Filled.{Filled}
-use Rattle.party_calls.specs.Decoding.{made_by}
 use Rattle.party_calls.proofs.Decodes.{decode_start, decode-held, decode-operands, decode-step, decode-done}
 use Rattle.party_calls.proofs.decoding.put_decoded.Goals as goal
 

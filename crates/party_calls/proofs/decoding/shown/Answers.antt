@@ -1,7 +1,6 @@
 -- `party_calls::shown` meets its contract: the value if it may be read. Assumes nothing.
 use mathlib.Core.Path.{sym, ap, ◌∙◌}
 use mathlib.Core.Bool.{Bool, cond}
-use borrow.Author.Rules.{rules}
 use Rattle.residue.specs.Residue.{sub}
 use Rattle.party_calls.proofs.decoding.shown.Goals as goal
 

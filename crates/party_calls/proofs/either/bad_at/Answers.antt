@@ -1,5 +1,4 @@
 -- `party_calls::bad_at` meets its contract: within the buffer the test itself, past it none. Assumes nothing.
-use borrow.Author.Rules.{rules}
 use Rattle.party_calls.proofs.TwoBuffers.{bad_inside, bad_past}
 use Rattle.party_calls.proofs.either.bad_at.Goals as goal
 

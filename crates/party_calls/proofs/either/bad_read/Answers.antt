@@ -1,5 +1,4 @@
 -- `party_calls::bad_read` meets its contract: within the buffer both tests, past it none. Assumes nothing.
-use borrow.Author.Rules.{rules}
 use Rattle.party_calls.proofs.TwoBuffers.{read_inside, read_past}
 use Rattle.party_calls.proofs.either.bad_read.Goals as goal
 

@@ -1,10 +1,8 @@
 -- `party_calls::first_bad` meets its contract: a loop that looks for the first. Assumes nothing.
 use mathlib.Core.Path.{sym, ◌∙◌}
-use Prim.Native.Nat.{◌-◌}
-use native.Mathlib.Omega.{arith}
-use Rattle.lists.proofs.Search.{Looking, looking_start, looking_on, looking_found, looking_none}
+use Rattle.lists.proofs.Search.{looking_start, looking_on, looking_found, looking_none}
 use Rattle.scheme.proofs.ByteChecks.{either_fine}
-use Rattle.party_calls.specs.Either.{bad_at, bad_read, either_bad}
+use Rattle.party_calls.specs.Either.{bad_at, bad_read}
 use Rattle.party_calls.proofs.TwoBuffers.{or_left, or_right}
 use Rattle.party_calls.proofs.either.first_bad.Goals as goal
 

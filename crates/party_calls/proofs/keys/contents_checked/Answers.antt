@@ -1,6 +1,5 @@
 -- `party_calls::contents_checked` meets its contract: the checks in their order. Assumes nothing.
 use native.Mathlib.Omega.{arith}
-use borrow.Author.Rules.{rules}
 use Rattle.session.proofs.Circuits.{inputs-made}
 use Rattle.circuit.specs.Held.{wires_in}
 use Rattle.party_calls.proofs.KeyPlaces.{contents_met}

@@ -1,6 +1,5 @@
 -- `party_calls::key_lengths_checked` meets its contract: a wrong length, or what the checks of the bytes answer. Assumes nothing.
 use native.Mathlib.Omega.{arith}
-use borrow.Author.Rules.{rules}
 use Rattle.session.proofs.Circuits.{inputs-made}
 use Rattle.session.proofs.LentLengths.{lengths_met}
 use Rattle.party_calls.proofs.KeyPlaces.{small_product, keys-lent, keys-next, keys_stop}

@@ -1,5 +1,4 @@
 -- `party_calls::keys_asked` meets its contract: out of range, or what the checks after it answer. Assumes nothing.
-use borrow.Author.Rules.{rules}
 use Rattle.circuit.specs.Held.{wires_in, named_in}
 use Rattle.party_calls.proofs.KeyPlaces.{session-most, session-next, session_stop}
 use Rattle.party_calls.proofs.keys.keys_asked.Goals as goal

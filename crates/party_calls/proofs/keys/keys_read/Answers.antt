@@ -1,5 +1,4 @@
 -- `party_calls::keys_read` meets its contract: accepted, what was written; refused, nothing. Assumes nothing.
-use borrow.Author.Rules.{rules}
 use Rattle.session.proofs.Circuits.{held_of}
 use Rattle.party_calls.proofs.KeyPlaces.{keys_fit, call_written, call_refused}
 use Rattle.party_calls.proofs.keys.keys_read.Goals as goal

@@ -1,5 +1,4 @@
 -- `party_calls::party_asked` meets its contract: the checks in their order. Assumes nothing.
-use borrow.Author.Rules.{rules}
 use Rattle.circuit.specs.Held.{wires_in, named_in}
 use Rattle.party_calls.proofs.KeyPlaces.{party_met}
 use Rattle.party_calls.proofs.keys.party_asked.Goals as goal

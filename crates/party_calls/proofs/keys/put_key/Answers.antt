@@ -3,7 +3,6 @@ use mathlib.Core.Path.{◌∙◌, sym, ap₂}
 use mathlib.Core.List.{List}
 use Prim.Native.Nat.{ℕ}
 use native.Mathlib.Omega.{arith}
-use borrow.Author.Rules.{rules}
 use Rattle.residue.specs.Vector.{key_v}
 use Rattle.party_calls.proofs.keys.put_key.Goals as goal
 

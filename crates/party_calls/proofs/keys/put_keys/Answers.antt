@@ -1,12 +1,8 @@
 -- `party_calls::put_keys` meets its contract: a loop that fills the buffer key by key. Assumes nothing.
 use mathlib.Core.Path.{refl, ◌∙◌}
-use Prim.Native.Nat.{◌-◌}
 use native.Mathlib.Omega.{arith}
-use Rattle.lists.proofs.Steps.{Level, steps_fits, steps_long, steps_call}
-use Rattle.scheme.specs.Draw.{drawn}
-use Rattle.circuit.specs.Held.{wires_in}
+use Rattle.lists.proofs.Steps.{steps_fits, steps_long, steps_call}
 use Rattle.session.proofs.Circuits.{inputs-made}
-use Rattle.calls.specs.InputKeys.{input_key}
 use Rattle.party_calls.proofs.KeyPlaces.{small_product, keys_start, keys-done, key-positive, rank_is, zero-inside, rank_inside, key_as}
 use Rattle.party_calls.proofs.keys.put_keys.Goals as goal
 

@@ -1,5 +1,4 @@
 -- `party_calls::asked_checked` meets its contract: the checks in their order. Assumes nothing.
-use borrow.Author.Rules.{rules}
 use Rattle.circuit.specs.Held.{wires_in, named_in}
 use Rattle.party_calls.proofs.OwnExternals.{asked_met}
 use Rattle.party_calls.proofs.masking.asked_checked.Goals as goal

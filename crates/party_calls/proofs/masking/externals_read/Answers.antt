@@ -1,5 +1,4 @@
 -- `party_calls::externals_read` meets its contract: accepted, what was written; refused, nothing. Assumes nothing.
-use borrow.Author.Rules.{rules}
 use Rattle.session.proofs.Circuits.{held_of}
 use Rattle.party_calls.proofs.OwnExternals.{own_fit, externals-written, externals-refused}
 use Rattle.party_calls.proofs.masking.externals_read.Goals as goal

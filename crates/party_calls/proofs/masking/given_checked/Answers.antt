@@ -1,5 +1,4 @@
 -- `party_calls::given_checked` meets its contract: a wrong length, or what the check of the bytes answers. Assumes nothing.
-use borrow.Author.Rules.{rules}
 use Rattle.session.proofs.LentLengths.{lengths_met}
 use Rattle.party_calls.proofs.OwnExternals.{own-lent, own-next, own-refused}
 use Rattle.party_calls.proofs.masking.given_checked.Goals as goal

@@ -2,7 +2,6 @@
 use mathlib.Core.Path.{ap, ◌∙◌}
 use Prim.Native.Nat.{ℕ}
 use native.Mathlib.Omega.{arith}
-use borrow.Author.Rules.{rules}
 use lib.ListN.{length, length-replicate}
 use Rattle.party_calls.proofs.OwnExternals.{own-most, own_met}
 use Rattle.party_calls.proofs.masking.own_checked.Goals as goal

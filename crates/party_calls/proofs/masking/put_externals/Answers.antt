@@ -1,10 +1,7 @@
 -- `party_calls::put_externals` meets its contract: a loop that fills the buffer input by input. Assumes nothing.
 use mathlib.Core.Path.{refl}
-use Prim.Native.Nat.{◌-◌}
 use native.Mathlib.Omega.{arith}
-use lib.ListN.{length}
-use Rattle.lists.proofs.Filled.{Filled}
-use Rattle.party_calls.proofs.OwnExternals.{own-most, by_table, own_start, own-operands, own-step, own-done}
+use Rattle.party_calls.proofs.OwnExternals.{own-most, own_start, own-operands, own-step, own-done}
 use Rattle.party_calls.proofs.masking.put_externals.Goals as goal
 
 pub own_moduli-table-requires : goal.own_moduli-table-requires

@@ -1,11 +1,5 @@
 -- `party_calls::output_moduli` meets its contract: a loop that fills the table output by output. Assumes nothing.
-use Prim.Native.Nat.{◌-◌}
 use native.Mathlib.Omega.{arith}
-use lib.ListN.{get_or}
-use Rattle.lists.specs.Blocks.{tab}
-use Rattle.lists.proofs.Filled.{Filled}
-use Rattle.circuit.specs.Wires.{modulus_at}
-use Rattle.circuit.specs.Held.{wires_in, outputs_in}
 use Rattle.party_calls.proofs.TableLoops.{outputs_start, outputs-step, outputs-front}
 use Rattle.party_calls.proofs.tables.output_moduli.Goals as goal
 

@@ -1,9 +1,8 @@
 -- `party_calls::own_moduli` meets its contract: a loop that fills the table with the inputs that the party owns. Assumes nothing.
 use mathlib.Core.Path.{◌∙◌}
-use Prim.Native.Nat.{◌-◌, ◌≤◌}
 use native.Mathlib.Omega.{arith}
 use Rattle.circuit.specs.Held.{wires_in}
-use Rattle.party_calls.proofs.TableLoops.{OwnTo, own_start, own-step, own-front}
+use Rattle.party_calls.proofs.TableLoops.{own_start, own-step, own-front}
 use Rattle.party_calls.proofs.tables.own_moduli.Goals as goal
 
 pub loop-w-init : goal.loop-w-init

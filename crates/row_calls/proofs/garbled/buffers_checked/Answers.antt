@@ -1,6 +1,5 @@
 -- `row_calls::buffers_checked` meets its contract: a wrong length, or what the checks of the bytes answer. Assumes nothing.
 use Rattle.row_calls.proofs.Garbles.{draws_lent, draws_next, draws_stop}
-use borrow.Author.Rules.{rules}
 use Rattle.row_calls.proofs.garbled.buffers_checked.Goals as goal
 
 pub lengths_checked-lengths-requires : goal.lengths_checked-lengths-requires

@@ -1,7 +1,6 @@
 -- `row_calls::garble_asked` meets its contract: out of range, or what the checks after it answer. Assumes nothing.
 use Rattle.circuit.specs.Held.{wires_in, outputs_in, named_in}
 use Rattle.row_calls.proofs.Garbles.{session_in_range, garble-next, garble_stop}
-use borrow.Author.Rules.{rules}
 use Rattle.row_calls.proofs.garbled.garble_asked.Goals as goal
 
 pub garble_owned-requires : goal.garble_owned-requires

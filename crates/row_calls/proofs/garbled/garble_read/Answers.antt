@@ -3,7 +3,6 @@ use native.Mathlib.Omega.{arith}
 use Rattle.meter.specs.Meter.{Charge}
 use Rattle.session.proofs.Circuits.{held_of}
 use Rattle.row_calls.proofs.Garbles.{garble-most, garble_contributed, garble-room, garble-account, garble-space, garble-written, garble-refused}
-use borrow.Author.Rules.{rules}
 use Rattle.row_calls.proofs.garbled.garble_read.Goals as goal
 
 pub garble_asked-checked-requires : goal.garble_asked-checked-requires

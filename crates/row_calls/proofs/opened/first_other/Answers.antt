@@ -1,10 +1,6 @@
 -- `row_calls::first_other` meets its contract: a search, input by input. Assumes nothing.
-use mathlib.Core.Bool.{not}
-use Prim.Native.Nat.{◌*◌, ◌+◌, ◌-◌}
 use native.Mathlib.Omega.{arith}
-use Rattle.lists.specs.Blocks.{nth_piece}
-use Rattle.lists.proofs.Search.{Looking, looking_start, looking_on, looking_found, looking_none}
-use Rattle.search.specs.Search.{same}
+use Rattle.lists.proofs.Search.{looking_start, looking_on, looking_found, looking_none}
 use Rattle.party_calls.proofs.KeyPlaces.{small_product}
 use Rattle.row_calls.proofs.Opens.{key-inside, own-inside, other_is}
 use Rattle.row_calls.proofs.opened.first_other.Goals as goal

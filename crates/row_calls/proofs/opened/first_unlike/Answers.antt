@@ -1,6 +1,5 @@
 -- `row_calls::first_unlike` meets its contract: the keys are made, then compared. Assumes nothing.
 use Rattle.row_calls.proofs.Opens.{own_fit, own_compared, wrong_is}
-use borrow.Author.Rules.{rules}
 use Rattle.row_calls.proofs.opened.first_unlike.Goals as goal
 
 pub put_keys-requires : goal.put_keys-requires

@@ -2,7 +2,6 @@
 use mathlib.Core.Path.{sym}
 use native.Mathlib.Omega.{arith}
 use Rattle.row_calls.proofs.Opens.{own_room, work_cut}
-use borrow.Author.Rules.{rules}
 use Rattle.row_calls.proofs.opened.first_wrong_in.Goals as goal
 
 pub overflow_mul-bytes : goal.overflow_mul-bytes

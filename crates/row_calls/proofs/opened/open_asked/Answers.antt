@@ -2,7 +2,6 @@
 use Rattle.circuit.specs.Held.{wires_in, named_in}
 use Rattle.row_calls.proofs.Garbles.{session_in_range}
 use Rattle.row_calls.proofs.Opens.{open_next, open_stop}
-use borrow.Author.Rules.{rules}
 use Rattle.row_calls.proofs.opened.open_asked.Goals as goal
 
 pub open_party-requires : goal.open_party-requires

@@ -1,6 +1,5 @@
 -- `row_calls::open_gates` meets its contract: the first wire on which no multiplier fits is named. Assumes nothing.
 use Rattle.row_calls.proofs.Opens.{gates_met}
-use borrow.Author.Rules.{rules}
 use Rattle.row_calls.proofs.opened.open_gates.Goals as goal
 
 pub open_wires-found-requires : goal.open_wires-found-requires

@@ -1,6 +1,5 @@
 -- `row_calls::open_inputs` meets its contract: the wrong key is named, or the gates are opened. Assumes nothing.
 use Rattle.row_calls.proofs.Opens.{own-next, own_stop}
-use borrow.Author.Rules.{rules}
 use Rattle.row_calls.proofs.opened.open_inputs.Goals as goal
 
 pub first_wrong-found-requires : goal.first_wrong-found-requires

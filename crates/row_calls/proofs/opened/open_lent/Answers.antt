@@ -5,7 +5,6 @@ use Rattle.session.proofs.Circuits.{inputs-made}
 use Rattle.party_calls.proofs.KeyPlaces.{small_product}
 use Rattle.session.proofs.LentLengths.{lengths_met}
 use Rattle.row_calls.proofs.Opens.{open_sizes, lent-next, lent_stop}
-use borrow.Author.Rules.{rules}
 use Rattle.row_calls.proofs.opened.open_lent.Goals as goal
 
 pub contribution_size-size-requires : goal.contribution_size-size-requires

@@ -1,7 +1,6 @@
 -- `row_calls::open_read` meets its contract: accepted, what was written; refused, nothing. Assumes nothing.
 use Rattle.session.proofs.Circuits.{held_of}
 use Rattle.row_calls.proofs.Opens.{open_given, open_room, open_done, open_refused}
-use borrow.Author.Rules.{rules}
 use Rattle.row_calls.proofs.opened.open_read.Goals as goal
 
 pub open_asked-checked-requires : goal.open_asked-checked-requires

@@ -7,7 +7,6 @@ use Rattle.plain.proofs.Arms.{image-byte}
 use Rattle.counts.specs.Recipe.{image_of}
 use Rattle.counts.specs.declared.recipe.Images.{Images}
 use Rattle.counts.proofs.Recipes.{in-file}
-use borrow.Author.Rules.{rules}
 use Rattle.rows.proofs.factors.image_of.Goals as goal
 
 pub bounds-file-at : goal.bounds-file-at

@@ -1,12 +1,8 @@
 -- `rows::factors::linear_factors` meets its contract: one factor after another.
 -- Assumes nothing.
-use mathlib.Core.Path.{ap, ◌∙◌}
 use Prim.Native.Nat.{◌-◌}
-use native.Mathlib.Omega.{arith}
 use Rattle.residue.specs.Residue.{add, mul}
-use Rattle.rows.proofs.Filling.{Standing, none-stand, one_more, all-stand}
-use Rattle.rows.proofs.Messages.{mul_small}
-use borrow.Author.Rules.{rules}
+use Rattle.rows.proofs.Filling.{Standing}
 use Rattle.rows.proofs.factors.linear_factors.Given as goal
 
 abbrev pub invariant-loop-alpha : goal.invariant-loop-alpha

@@ -1,7 +1,7 @@
 -- `rows::gates::choice_rows` meets its contract: the chooser's rows, then the correctors'.
 -- Assumes nothing.
 use mathlib.Core.Path.{◌∙◌}
-use Prim.Native.Nat.{◌+◌, ◌*◌}
+use Prim.Native.Nat.{◌*◌}
 use native.Mathlib.Omega.{arith}
 use Rattle.rows.proofs.Sizes.{small, room_as, front_fits, front_long, front-rows, rest-fits, rest-rows, both_length, both_parts}
 use Rattle.rows.proofs.Messages.{choice_is}

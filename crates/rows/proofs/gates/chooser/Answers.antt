@@ -3,7 +3,6 @@
 use native.Mathlib.Omega.{arith}
 use Prim.Native.Nat.{◌*◌}
 use Rattle.rows.proofs.Sizes.{front_fits, front_long, front-rows, rest-fits, rest-rows, both_length, both_parts}
-use borrow.Author.Rules.{rules}
 use Rattle.rows.proofs.gates.chooser.Goals as goal
 
 pub slice_bounds-chooser_row-end : goal.slice_bounds-chooser_row-end

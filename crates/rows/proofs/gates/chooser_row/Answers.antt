@@ -4,7 +4,6 @@ use mathlib.Core.Path.{refl}
 use native.Mathlib.Omega.{arith}
 use Rattle.rows.proofs.Sizes.{work-fits, work-long, work-vector}
 use Rattle.rows.proofs.Messages.{row_room, row-vector, row_four, row_is}
-use borrow.Author.Rules.{rules}
 use Rattle.rows.proofs.gates.chooser_row.Goals as goal
 
 pub slice_bounds-zero-end : goal.slice_bounds-zero-end

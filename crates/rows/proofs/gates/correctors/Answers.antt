@@ -1,6 +1,5 @@
 -- `rows::gates::correctors` meets its contract: two components, one behind the other.
 -- Assumes nothing.
-use mathlib.Core.Path.{◌∙◌}
 use Prim.Native.Nat.{◌/◌}
 use native.Mathlib.Omega.{arith}
 use lib.ListN.{length}

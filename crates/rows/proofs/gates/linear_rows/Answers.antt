@@ -4,7 +4,6 @@ use mathlib.Core.Path.{refl}
 use native.Mathlib.Omega.{arith}
 use Rattle.rows.proofs.Sizes.{work-fits, work-long, work-vector}
 use Rattle.rows.proofs.Messages.{component-room, row_four, component_is}
-use borrow.Author.Rules.{rules}
 use Rattle.rows.proofs.gates.linear_rows.Goals as goal
 
 pub slice_bounds-keys-end : goal.slice_bounds-keys-end

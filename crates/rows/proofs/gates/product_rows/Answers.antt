@@ -6,7 +6,6 @@ use native.Mathlib.Omega.{arith}
 use lib.ListN.{length}
 use Rattle.rows.proofs.Sizes.{small, twice, half_of, front_fits, front_long, front-rows, rest-fits, rest-rows, both_length, both_parts}
 use Rattle.rows.proofs.Messages.{mul_small, add_small, first_is, product_is}
-use borrow.Author.Rules.{rules}
 use Rattle.rows.proofs.gates.product_rows.Goals as goal
 
 pub mul-requires : goal.mul-requires

@@ -6,7 +6,6 @@ use Rattle.scheme.specs.Message.{product_message₁}
 use Rattle.rows.specs.Made.{held_in}
 use Rattle.rows.proofs.Sizes.{small, cut_long, work-fits, work-long, work-vector}
 use Rattle.rows.proofs.Messages.{component-room, row_four, component_is, second_is}
-use borrow.Author.Rules.{rules}
 use Rattle.rows.proofs.gates.second_rows.Goals as goal
 
 pub masked-base-requires : goal.masked-base-requires

@@ -7,7 +7,6 @@ use Rattle.scheme.specs.Message.{project_message}
 use Rattle.scheme.specs.Gate.{table_row, table_rows}
 use Rattle.rows.proofs.Sizes.{work-fits, work-long, work-vector}
 use Rattle.rows.proofs.Messages.{component-room, row_four, component_is}
-use borrow.Author.Rules.{rules}
 use Rattle.rows.proofs.gates.table_rows.Goals as goal
 
 pub table_factors-factors-requires : goal.table_factors-factors-requires

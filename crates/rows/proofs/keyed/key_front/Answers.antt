@@ -4,7 +4,6 @@ use mathlib.Core.Path.{sym, ◌∙◌}
 use lib.ListN.{length}
 use lib.Seq.{length-take-le}
 use Rattle.pads.proofs.Reduced.{front_back}
-use borrow.Author.Rules.{rules}
 use Rattle.rows.proofs.keyed.key_front.Goals as goal
 
 pub slice_bounds-key_of-end-2 : goal.slice_bounds-key_of-end-2

@@ -6,7 +6,6 @@ use lib.ListN.{take}
 use Rattle.residue.proofs.Differences.{difference_is}
 use Rattle.rows.proofs.Sizes.{cut_long}
 use Rattle.rows.proofs.Messages.{sub_small, keyed_same}
-use borrow.Author.Rules.{rules}
 use Rattle.rows.proofs.keyed.less.Goals as goal
 
 pub slice_bounds-keys_of-end : goal.slice_bounds-keys_of-end

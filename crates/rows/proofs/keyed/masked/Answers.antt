@@ -4,7 +4,6 @@ use mathlib.Core.Path.{sym, ap, ◌∙◌}
 use native.Mathlib.Omega.{arith}
 use lib.ListN.{take}
 use Rattle.rows.proofs.Sizes.{cut_long}
-use borrow.Author.Rules.{rules}
 use Rattle.rows.proofs.keyed.masked.Goals as goal
 
 pub slice_bounds-keys_of-end : goal.slice_bounds-keys_of-end

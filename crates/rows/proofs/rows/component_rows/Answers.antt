@@ -1,7 +1,6 @@
 -- `rows::rows::component_rows` meets its contract: what `put_component` does, on work memory of its own.
 -- Assumes nothing.
 use Rattle.rows.proofs.Sizes.{work-fits, work-long, work-vector}
-use borrow.Author.Rules.{rules}
 use Rattle.rows.proofs.rows.component_rows.Goals as goal
 
 pub slice_bounds-work-end : goal.slice_bounds-work-end

@@ -1,16 +1,11 @@
 -- `rows::rows::put_component` meets its contract: one row after another.
 -- Assumes nothing.
-use mathlib.Core.Path.{sym, ◌∙◌}
 use Prim.Native.Nat.{◌-◌, ◌*◌}
-use native.Mathlib.Omega.{arith}
 use lib.ListN.{get_or}
-use Rattle.lists.proofs.Steps.{Level, level_start, level_whole}
+use Rattle.lists.proofs.Steps.{Level}
 use Rattle.residue.specs.Vector.{key_v}
 use Rattle.session.specs.Sizes.{Vector}
 use Rattle.rows.specs.Made.{row_of}
-use Rattle.rows.proofs.Sizes.{vector-kept}
-use Rattle.rows.proofs.Rowwise.{next_fits, next-room, next-part, next_row}
-use borrow.Author.Rules.{rules}
 use Rattle.rows.proofs.rows.put_component.Given as goal
 
 abbrev pub invariant-loop-alpha : goal.invariant-loop-alpha

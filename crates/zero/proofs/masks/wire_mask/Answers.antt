@@ -5,7 +5,6 @@ use lib.ListN.{get_or}
 use Rattle.scheme.specs.Zero.{mask_by}
 use Rattle.zero.specs.Turn.{mask_at}
 use Rattle.zero.proofs.Turns.{mask_known, residue_below, mask-made, choice_mask_made}
-use borrow.Author.Rules.{rules}
 use Rattle.zero.proofs.masks.wire_mask.Goals as goal
 
 pub share_sum-requires : goal.share_sum-requires

@@ -1,15 +1,8 @@
 -- `zero::masks::wire_masks` meets its contract: element by element, a wire each, with the cursor over the records.
 -- Assumes nothing.
-use mathlib.Core.Path.{◌≡◌, ◌∙◌}
-use Prim.Native.Nat.{◌-◌}
+use mathlib.Core.Path.{◌∙◌}
 use native.Mathlib.Omega.{arith}
-use borrow.Author.Rules.{rules}
-use lib.ListN.{length, replicate, length-set}
-use Rattle.lists.proofs.Filled.{Filled}
-use Rattle.circuit.specs.Held.{wires_in}
-use Rattle.scheme.specs.Contribution.{record_at}
-use Rattle.scheme.specs.Zero.{masks_to}
-use Rattle.zero.specs.Ready.{drawn_in}
+use lib.ListN.{length-set}
 use Rattle.contribution.proofs.Cursor.{cursor_next, cursor_fits, shares_fit}
 use Rattle.zero.proofs.Turns.{masks_start, masks-long, mask_asked, masks-step, masks-done}
 use Rattle.zero.proofs.masks.wire_masks.Goals as goal

@@ -2,11 +2,11 @@
 -- Assumes nothing.
 use mathlib.Core.List.{List}
 use mathlib.Core.Path.{refl, sym, ap, ◌∙◌}
-use Prim.Native.Nat.{ℕ, ◌-◌}
+use Prim.Native.Nat.{ℕ}
 use native.Mathlib.Omega.{arith}
-use Rattle.lists.proofs.Steps.{Level, level_start, level_whole, steps_fits, steps_long, steps_call}
+use Rattle.lists.proofs.Steps.{level_start, level_whole, steps_fits, steps_long, steps_call}
 use Rattle.lists.proofs.Sums.{times-fits}
-use Rattle.lists.specs.Blocks.{part, nth_piece}
+use Rattle.lists.specs.Blocks.{part}
 use Rattle.zero.proofs.shares.gather.Goals as goal
 
 pub loop-party-init : goal.loop-party-init

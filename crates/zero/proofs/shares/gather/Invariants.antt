@@ -1,11 +1,7 @@
 -- `zero::shares::gather` meets its contract: block by block, one of each party.
 -- Assumes nothing.
-use mathlib.Core.List.{List}
-use mathlib.Core.Path.{refl, sym, ap, ◌∙◌}
-use Prim.Native.Nat.{ℕ, ◌-◌}
-use native.Mathlib.Omega.{arith}
-use Rattle.lists.proofs.Steps.{Level, level_start, level_whole, steps_fits, steps_long, steps_call}
-use Rattle.lists.proofs.Sums.{times-fits}
+use Prim.Native.Nat.{◌-◌}
+use Rattle.lists.proofs.Steps.{Level}
 use Rattle.lists.specs.Blocks.{part, nth_piece}
 use Rattle.zero.proofs.shares.gather.Given as goal
 

@@ -2,7 +2,6 @@
 -- Assumes nothing.
 use native.Mathlib.Nat.{mod-lt}
 use native.Mathlib.Omega.{arith}
-use borrow.Author.Rules.{rules}
 use Rattle.zero.proofs.shares.reduced.Goals as goal
 
 pub overflow_cast-result-2 : goal.overflow_cast-result-2

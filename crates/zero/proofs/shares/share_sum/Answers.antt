@@ -2,13 +2,12 @@
 -- Assumes nothing.
 use mathlib.Core.List.{List}
 use mathlib.Core.Path.{◌≡◌, ap, ◌∙◌}
-use Prim.Native.Nat.{ℕ, ◌-◌, ◌%◌}
+use Prim.Native.Nat.{ℕ, ◌%◌}
 use native.Mathlib.Omega.{arith}
-use borrow.Author.Rules.{rules}
 use lib.ListN.{get_or}
 use Rattle.lists.proofs.Sums.{times-fits}
 use Rattle.lists.specs.Blocks.{sum_to, nth_piece}
-use Rattle.counts.proofs.Counting.{Summed, summed_start, summed-step}
+use Rattle.counts.proofs.Counting.{summed_start, summed-step}
 use Rattle.zero.proofs.shares.share_sum.Goals as goal
 
 pub loop-party-init : goal.loop-party-init

@@ -1,14 +1,9 @@
 -- `zero::shares::share_sum` meets its contract: a sum with one share more each turn.
 -- Assumes nothing.
-use mathlib.Core.List.{List}
-use mathlib.Core.Path.{◌≡◌, ap, ◌∙◌}
-use Prim.Native.Nat.{ℕ, ◌-◌, ◌%◌}
-use native.Mathlib.Omega.{arith}
-use borrow.Author.Rules.{rules}
+use Prim.Native.Nat.{◌-◌}
 use lib.ListN.{get_or}
-use Rattle.lists.proofs.Sums.{times-fits}
-use Rattle.lists.specs.Blocks.{sum_to, nth_piece}
-use Rattle.counts.proofs.Counting.{Summed, summed_start, summed-step}
+use Rattle.lists.specs.Blocks.{nth_piece}
+use Rattle.counts.proofs.Counting.{Summed}
 use Rattle.zero.proofs.shares.share_sum.Given as goal
 
 abbrev pub invariant-loop-party : goal.invariant-loop-party

@@ -1,7 +1,6 @@
 -- `zero::zero::add_first` meets its contract: a multiple by 1, added.
 -- Assumes nothing.
 use mathlib.Core.Path.{ap, ◌∙◌}
-use borrow.Author.Rules.{rules}
 use Rattle.residue.specs.Vector.{add_v}
 use Rattle.contribution.proofs.Once.{add_once}
 use Rattle.zero.proofs.zero.add_first.Goals as goal

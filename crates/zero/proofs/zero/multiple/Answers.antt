@@ -1,7 +1,6 @@
 -- `zero::zero::multiple` meets its contract: the copy, multiplied.
 -- Assumes nothing.
 use mathlib.Core.Path.{ap, ◌∙◌}
-use borrow.Author.Rules.{rules}
 use Rattle.residue.specs.Vector.{mul_v}
 use Rattle.zero.proofs.zero.multiple.Goals as goal
 

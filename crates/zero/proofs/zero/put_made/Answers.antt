@@ -1,7 +1,6 @@
 -- `zero::zero::put_made` meets its contract: what was made is put in its place.
 -- Assumes nothing.
 use mathlib.Core.Path.{◌∙◌}
-use borrow.Author.Rules.{rules}
 use Rattle.zero.proofs.Turns.{put_made}
 use Rattle.zero.proofs.zero.put_made.Goals as goal
 

@@ -6,7 +6,6 @@ use Rattle.lists.specs.Blocks.{nth_piece}
 use Rattle.scheme.specs.Zero.{zero_key_by}
 use Rattle.zero.specs.Turn.{keys_at}
 use Rattle.zero.proofs.Turns.{keys_known, stands_as, key-made, sum_made, multiple_made, choice-made}
-use borrow.Author.Rules.{rules}
 use Rattle.zero.proofs.zero.put_zero_key.Goals as goal
 
 pub gather-requires : goal.gather-requires

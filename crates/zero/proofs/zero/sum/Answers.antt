@@ -1,7 +1,6 @@
 -- `zero::zero::sum` meets its contract: a key with multiplier 1 is a sum.
 -- Assumes nothing.
 use mathlib.Core.Path.{ap₂, ◌∙◌}
-use borrow.Author.Rules.{rules}
 use Rattle.residue.specs.Vector.{add_v}
 use Rattle.contribution.proofs.Once.{key_once}
 use Rattle.zero.proofs.zero.sum.Goals as goal

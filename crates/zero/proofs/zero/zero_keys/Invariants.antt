@@ -1,16 +1,12 @@
 -- `zero::zero::zero_keys` meets its contract: block by block, a wire each, with the cursor over the records.
 -- Assumes nothing.
-use mathlib.Core.Path.{◌≡◌, refl}
+use mathlib.Core.Path.{◌≡◌}
 use Prim.Native.Nat.{◌-◌, ◌*◌}
-use native.Mathlib.Omega.{arith}
-use Rattle.lists.proofs.Steps.{Level, steps_fits}
+use Rattle.lists.proofs.Steps.{Level}
 use Rattle.circuit.specs.Held.{wires_in}
 use Rattle.scheme.specs.Contribution.{record_at}
 use Rattle.scheme.specs.Zero.{zero_key}
 use Rattle.zero.specs.Ready.{drawn_in}
-use Rattle.contribution.proofs.Sizes.{vector-fits}
-use Rattle.contribution.proofs.Cursor.{cursor_next, cursor_fits}
-use Rattle.zero.proofs.Turns.{keys_start, keys_asked, keys_step, keys-done}
 use Rattle.zero.proofs.zero.zero_keys.Given as goal
 
 abbrev pub invariant-loop-w : goal.invariant-loop-w
