@@ -1,7 +1,7 @@
 -- Document 02, order 8: the zero key that a gate makes, its rows, and how it is opened, from the wires that it uses. The code that garbles and opens for two and
 -- the circuit's definitions cite these same ones.
 -- Assumes nothing.
-use Rattle.std.specs.Prelude.{List, [], ◌++◌, ℕ, ◌-◌, ◌+◌, ◌*◌, replicate}
+use Rattle.std.specs.Prelude.{List, [], ◌++◌, ℕ, ◌-◌, ◌*◌, replicate}
 use Rattle.lists.specs.Blocks.{part}
 use Rattle.residue.specs.Residue.{sub, mul}
 use Rattle.residue.specs.Vector.{add_v, mul_v}

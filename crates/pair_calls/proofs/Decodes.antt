@@ -1,7 +1,7 @@
 -- Decoding: a circuit whose outputs name nobody is one of which every output may be read, and how the call ends.
 -- Assumes nothing.
 use mathlib.Core.Path.{◌≡◌, refl, sym, ap, ap₂, fun_ext, ◌∙◌}
-use mathlib.Core.Bool.{Bool, true}
+use mathlib.Core.Bool.{Bool}
 use mathlib.Core.List.{List}
 use Prim.Native.Nat.{ℕ, zero, suc}
 use lib.ListN.{length, get_or, take, replicate, length-replicate}
@@ -16,7 +16,7 @@ use Rattle.circuit.specs.File.{read_file}
 use Rattle.circuit.specs.Held.{wires_in, outputs_in, circuit_of, Holds}
 use Rattle.circuit.proofs.Allowed.{everyone_may}
 use Rattle.calls.specs.Decode.{decode_lent, decode_made}
-use Rattle.party_calls.specs.Decoding.{lent_by, made_by, Ready, Decoded}
+use Rattle.party_calls.specs.Decoding.{lent_by, Ready, Decoded}
 use Rattle.party_calls.proofs.Decodes.{ready_of, behind_as}
 use Rattle.pair.specs.Decode.{any_output, pair_decode_checked, pair_decode_after, PairDecodeCall}
 

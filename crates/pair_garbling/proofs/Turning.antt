@@ -1,7 +1,6 @@
 -- The pass over the wires: what a turn may look up is what `pair` says, so what its gate makes is the wire's zero key and its rows.
 -- Assumes nothing.
 use mathlib.Core.Path.{◌≡◌, refl, sym, ap, subst, ◌∙◌, fun_ext}
-use mathlib.Core.Bool.{true}
 use mathlib.Core.List.{List, ◌++◌}
 use Prim.Native.Nat.{ℕ, ◌+◌, ◌-◌, ◌*◌, ◌≤◌, ◌<◌}
 use native.Mathlib.Nat.{le_trans, mul-add}
@@ -15,14 +14,14 @@ use Rattle.lists.proofs.Steps.{Steps, Level, steps_start, steps_fits, steps_put,
 use Rattle.words.specs.declared.gate.Gate.{Gate}
 use Rattle.words.specs.declared.gate.Wire.{Wire}
 use Rattle.circuit.specs.declared.Circuit.{Circuit}
-use Rattle.circuit.specs.Wires.{wire_at, modulus_at, moduli_of, inputs_in}
+use Rattle.circuit.specs.Wires.{wire_at, modulus_at, moduli_of}
 use Rattle.circuit.specs.Accepted.{GateFits}
 use Rattle.circuit.specs.Held.{wires_in}
 use Rattle.circuit.proofs.More.{made}
 use Rattle.counts.specs.declared.recipe.Images.TheVariants.{File}
 use Rattle.counts.specs.Images.{ImageHeld, ImagesFit}
 use Rattle.counts.specs.Recipe.{image_of}
-use Rattle.counts.specs.Moduli.{used, used_below, moduli_used}
+use Rattle.counts.specs.Moduli.{used_below, moduli_used}
 use Rattle.counts.proofs.Wires.{wire-at, padded-modulus}
 use Rattle.session.proofs.Circuits.{made-is}
 use Rattle.contribution.proofs.Cursor.{within}
@@ -33,7 +32,7 @@ use Rattle.pads.proofs.Sizes.{shake_pad-length}
 use Rattle.scheme.specs.Contribution.{offset_at}
 use Rattle.scheme.proofs.Bounds.{prime, input-first}
 use Rattle.scheme.proofs.Used.{used-modulus}
-use Rattle.pair.specs.Draw.{draw_size, input_at, offset_in, zero_in}
+use Rattle.pair.specs.Draw.{input_at, offset_in, zero_in}
 use Rattle.pair.specs.Gate.{zero_by, rows_by}
 use Rattle.pair.specs.Count.{pair_rows_by, pair_rows_of, pair_rows_in}
 use Rattle.pair.specs.Rows.{zero_key, gate_rows, pair_rows}

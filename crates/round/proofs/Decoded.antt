@@ -20,7 +20,7 @@ use Rattle.circuit.specs.Named.{readable}
 use Rattle.scheme.specs.Draw.{Draw, drawn}
 use Rattle.scheme.specs.Zero.{mask}
 use Rattle.pads.specs.Pad.{Pad}
-use Rattle.plain.specs.Plain.{plain_values, plain_outputs}
+use Rattle.plain.specs.Plain.{plain_outputs}
 use Rattle.plain.specs.Ready.{Fed}
 use Rattle.session.proofs.Sessions.{lengths-passed}
 use Rattle.scheme.proofs.ByteChecks.{values_passed}

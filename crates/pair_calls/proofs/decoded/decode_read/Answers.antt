@@ -1,5 +1,4 @@
 -- `pair_calls::decode_read` meets its contract: decoding of a circuit that names nobody. Assumes nothing.
-use borrow.Author.Rules.{rules}
 use Rattle.pair_calls.proofs.Decodes.{pair-ready, pair-decoded}
 use Rattle.pair_calls.proofs.decoded.decode_read.Goals as goal
 

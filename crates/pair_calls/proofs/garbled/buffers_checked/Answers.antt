@@ -1,6 +1,5 @@
 -- `pair_calls::buffers_checked` meets its contract: a wrong length, or what the checks after them answer. Assumes nothing.
 use Rattle.pair_calls.proofs.Garbles.{draw-lent, draw-next, draw_stop}
-use borrow.Author.Rules.{rules}
 use Rattle.pair_calls.proofs.garbled.buffers_checked.Goals as goal
 
 pub lengths_checked-lengths-requires : goal.lengths_checked-lengths-requires

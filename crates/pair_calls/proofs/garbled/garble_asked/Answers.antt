@@ -3,7 +3,6 @@ use mathlib.Core.Path.{sym, ◌∙◌}
 use Rattle.circuit.specs.Held.{wires_in, outputs_in}
 use Rattle.pair_calls.specs.Lent.{garble_owned}
 use Rattle.pair_calls.proofs.Shared.{ranged, asked_next, asked_stop}
-use borrow.Author.Rules.{rules}
 use Rattle.pair_calls.proofs.garbled.garble_asked.Goals as goal
 
 pub garble_owned-requires : goal.garble_owned-requires

@@ -2,7 +2,6 @@
 use Rattle.meter.specs.Meter.{Charge}
 use Rattle.session.proofs.Circuits.{held_of}
 use Rattle.pair_calls.proofs.Garbles.{garble-drawn, garble-room, garble-account, garble-space, garble-written, garble-refused}
-use borrow.Author.Rules.{rules}
 use Rattle.pair_calls.proofs.garbled.garble_read.Goals as goal
 
 pub file_checked-read-requires : goal.file_checked-read-requires

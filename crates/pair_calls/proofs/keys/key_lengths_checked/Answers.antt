@@ -4,7 +4,6 @@ use Rattle.session.proofs.Circuits.{inputs-made}
 use Rattle.session.proofs.LentLengths.{lengths_met}
 use Rattle.pair_calls.proofs.Shared.{small_product}
 use Rattle.pair_calls.proofs.Keying.{keys-lent, keys-next, keys_stop}
-use borrow.Author.Rules.{rules}
 use Rattle.pair_calls.proofs.keys.key_lengths_checked.Goals as goal
 
 pub draw_size-size-requires : goal.draw_size-size-requires

@@ -3,7 +3,6 @@ use mathlib.Core.Path.{sym, ◌∙◌}
 use Rattle.circuit.specs.Held.{wires_in}
 use Rattle.pair_calls.specs.Lent.{keys_owned}
 use Rattle.pair_calls.proofs.Shared.{ranged, asked_next, asked_stop}
-use borrow.Author.Rules.{rules}
 use Rattle.pair_calls.proofs.keys.keys_asked.Goals as goal
 
 pub keys_owned-requires : goal.keys_owned-requires

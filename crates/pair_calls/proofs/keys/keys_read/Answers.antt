@@ -1,7 +1,6 @@
 -- `pair_calls::keys_read` meets its contract: accepted, what was written; refused, nothing. Assumes nothing.
 use Rattle.session.proofs.Circuits.{held_of}
 use Rattle.pair_calls.proofs.Keying.{keys_fit, call_written, call_refused}
-use borrow.Author.Rules.{rules}
 use Rattle.pair_calls.proofs.keys.keys_read.Goals as goal
 
 pub file_checked-read-requires : goal.file_checked-read-requires

@@ -4,7 +4,6 @@ use mathlib.Core.List.{List}
 use Prim.Native.Nat.{ℕ}
 use native.Mathlib.Omega.{arith}
 use Rattle.residue.specs.Vector.{key_v}
-use borrow.Author.Rules.{rules}
 use Rattle.pair_calls.proofs.keys.put_key.Goals as goal
 
 pub piece-start-requires : goal.piece-start-requires

@@ -1,12 +1,8 @@
 -- `pair_calls::put_keys` meets its contract: a loop that fills the buffer key by key. Assumes nothing.
-use mathlib.Core.Path.{refl, ◌∙◌}
 use Prim.Native.Nat.{◌-◌}
-use native.Mathlib.Omega.{arith}
-use Rattle.lists.proofs.Steps.{Level, steps_fits, steps_long, steps_call}
+use Rattle.lists.proofs.Steps.{Level}
 use Rattle.circuit.specs.Held.{wires_in}
-use Rattle.session.proofs.Circuits.{inputs-made}
 use Rattle.pair.specs.InputKeys.{pair_input_key}
-use Rattle.pair_calls.proofs.Keying.{keys_start, keys-done, key-positive, key_ranked, offset_is, zero-inside, offset-inside, key_as}
 use Rattle.pair_calls.proofs.keys.put_keys.Given as goal
 
 abbrev pub invariant-loop-w : goal.invariant-loop-w

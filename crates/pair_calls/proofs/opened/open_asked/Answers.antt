@@ -3,7 +3,6 @@ use mathlib.Core.Path.{sym, ◌∙◌}
 use Rattle.circuit.specs.Held.{wires_in}
 use Rattle.pair_calls.specs.Lent.{open_owned}
 use Rattle.pair_calls.proofs.Shared.{ranged, asked_next, asked_stop}
-use borrow.Author.Rules.{rules}
 use Rattle.pair_calls.proofs.opened.open_asked.Goals as goal
 
 pub open_owned-requires : goal.open_owned-requires

@@ -1,6 +1,5 @@
 -- `pair_calls::open_lent` meets its contract: a wrong length, or what the checks of the bytes answer. Assumes nothing.
 use Rattle.pair_calls.proofs.Opens.{open_lent, lent-next, lent_stop}
-use borrow.Author.Rules.{rules}
 use Rattle.pair_calls.proofs.opened.open_lent.Goals as goal
 
 pub open_lengths-lengths-requires : goal.open_lengths-lengths-requires

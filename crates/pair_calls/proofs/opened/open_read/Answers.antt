@@ -1,7 +1,6 @@
 -- `pair_calls::open_read` meets its contract: accepted, what was written; refused, nothing. Assumes nothing.
 use Rattle.session.proofs.Circuits.{held_of}
 use Rattle.pair_calls.proofs.Opens.{open_given, open_room, open_written, open_refused}
-use borrow.Author.Rules.{rules}
 use Rattle.pair_calls.proofs.opened.open_read.Goals as goal
 
 pub file_checked-read-requires : goal.file_checked-read-requires

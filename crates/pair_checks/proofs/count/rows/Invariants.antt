@@ -1,11 +1,8 @@
 -- `pair_checks::rows` meets its contract: a loop that adds up the rows of the wires. Assumes nothing.
-use mathlib.Core.Path.{refl}
 use Prim.Native.Nat.{◌-◌}
-use native.Mathlib.Omega.{arith}
 use Rattle.circuit.specs.Held.{wires_in}
-use Rattle.counts.proofs.Counting.{Summed, summed_start, summed-step, summed-done}
+use Rattle.counts.proofs.Counting.{Summed}
 use Rattle.pair.specs.Count.{pair_rows_of}
-use Rattle.pair_checks.proofs.Counting.{pair_rows_at}
 use Rattle.pair_checks.proofs.count.rows.Given as goal
 
 abbrev pub invariant-loop-w : goal.invariant-loop-w

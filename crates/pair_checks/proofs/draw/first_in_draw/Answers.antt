@@ -2,7 +2,6 @@
 use native.Mathlib.Omega.{arith}
 use Rattle.circuit.specs.Held.{wires_in}
 use Rattle.pair_checks.proofs.Draws.{split-fits, front-size, front_long, rest-long, rest-fits, in_offsets, in_zeros}
-use borrow.Author.Rules.{rules}
 use Rattle.pair_checks.proofs.draw.first_in_draw.Goals as goal
 
 pub overflow_mul-split : goal.overflow_mul-split

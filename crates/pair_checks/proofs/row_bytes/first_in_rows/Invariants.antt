@@ -1,16 +1,11 @@
 -- `pair_checks::first_in_rows` meets its contract: a loop over runs, one for each wire. Assumes nothing.
-use native.Mathlib.Omega.{arith}
-use mathlib.Core.Path.{refl, sym, ◌∙◌}
 use Prim.Native.Nat.{◌-◌, ◌*◌}
 use lib.ListN.{length}
 use Rattle.lists.specs.Blocks.{runs}
 use Rattle.circuit.specs.Wires.{modulus_at}
 use Rattle.circuit.specs.Held.{wires_in}
 use Rattle.pair.specs.Count.{pair_rows_of}
-use Rattle.contribution.proofs.Sizes.{times-most}
-use Rattle.contribution.proofs.Wired.{sum_to_times_right, made_are, modulus_is}
-use Rattle.pair_checks.proofs.Counting.{rows_are}
-use Rattle.contribution.proofs.Runs.{Searched, searched_start, searched-fits, searched-done, run_on, run_found}
+use Rattle.contribution.proofs.Runs.{Searched}
 use Rattle.pair_checks.proofs.row_bytes.first_in_rows.Given as goal
 
 abbrev pub invariant-loop-w : goal.invariant-loop-w

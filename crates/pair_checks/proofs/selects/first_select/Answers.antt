@@ -1,10 +1,6 @@
 -- `pair_checks::first_select` meets its contract: a loop that looks for the first. Assumes nothing.
 use mathlib.Core.Path.{sym, ◌∙◌}
-use Prim.Native.Nat.{◌-◌}
-use native.Mathlib.Omega.{arith}
-use Rattle.lists.proofs.Search.{Looking, looking_start, looking_on, looking_found, looking_none}
-use Rattle.circuit.specs.File.{words_in}
-use Rattle.pair.specs.Bytes.{is_select_word}
+use Rattle.lists.proofs.Search.{looking_start, looking_on, looking_found, looking_none}
 use Rattle.pair_checks.proofs.selects.first_select.Goals as goal
 
 pub loop-i-init : goal.loop-i-init

@@ -1,11 +1,10 @@
 -- `pair_checks::first_not_one` meets its contract: a loop that looks for the first modulus. Assumes nothing.
 use mathlib.Core.Path.{sym, ◌∙◌}
-use Prim.Native.Nat.{◌-◌}
 use native.Mathlib.Omega.{arith}
-use Rattle.lists.proofs.Search.{Looking, looking_start, looking_on, looking_found, looking_none}
+use Rattle.lists.proofs.Search.{looking_start, looking_on, looking_found, looking_none}
 use Rattle.circuit.specs.Held.{wires_in}
 use Rattle.contribution.proofs.Sizes.{times-most}
-use Rattle.pair_checks.proofs.Marks.{marked_not_one, marked_is, marked_inside, marked_same, marked_found}
+use Rattle.pair_checks.proofs.Marks.{marked_is, marked_inside, marked_same, marked_found}
 use Rattle.pair_checks.proofs.units.first_not_one.Goals as goal
 
 pub marks-marks-requires : goal.marks-marks-requires

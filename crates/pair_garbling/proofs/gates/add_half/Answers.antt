@@ -1,7 +1,6 @@
 -- `pair_garbling::gates::add_half` meets its contract: the second zero key is added to the first.
 -- Assumes nothing.
 use Rattle.pair_garbling.proofs.Factored.{added}
-use borrow.Author.Rules.{rules}
 use Rattle.pair_garbling.proofs.gates.add_half.Goals as goal
 
 pub returns : goal.returns

@@ -2,7 +2,6 @@
 -- Assumes nothing.
 use mathlib.Core.Path.{sym}
 use Rattle.pair_garbling.proofs.Made.{room_cut, vectors_in}
-use borrow.Author.Rules.{rules}
 use Rattle.pair_garbling.proofs.gates.add_second.Goals as goal
 
 pub slice_bounds-add_half-end : goal.slice_bounds-add_half-end

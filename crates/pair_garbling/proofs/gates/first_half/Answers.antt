@@ -7,7 +7,6 @@ use Rattle.residue.specs.Residue.{mul as times}
 use Rattle.pair.specs.Key.{value_for}
 use Rattle.pair_garbling.specs.Halves.{keys_under}
 use Rattle.pair_garbling.proofs.Factored.{half_is, first-factor}
-use borrow.Author.Rules.{rules}
 use Rattle.pair_garbling.proofs.gates.first_half.Goals as goal
 
 pub linear_factors-factors-requires : goal.linear_factors-factors-requires

@@ -3,7 +3,6 @@
 use mathlib.Core.Path.{refl, sym}
 use lib.Seq.{length-take-le}
 use Rattle.pair_garbling.proofs.Factored.{half_fits, front_fits, front_long, both_rows, product_key_is, product_rows_is, product_vectors}
-use borrow.Author.Rules.{rules}
 use Rattle.pair_garbling.proofs.gates.product_halves.Goals as goal
 
 pub slice_bounds-first_half-end-2 : goal.slice_bounds-first_half-end-2

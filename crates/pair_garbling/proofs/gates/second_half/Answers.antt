@@ -2,7 +2,6 @@
 -- Assumes nothing.
 use Rattle.residue.specs.Residue.{sub}
 use Rattle.pair_garbling.proofs.Factored.{half_is, second-factor}
-use borrow.Author.Rules.{rules}
 use Rattle.pair_garbling.proofs.gates.second_half.Goals as goal
 
 pub returns : goal.returns

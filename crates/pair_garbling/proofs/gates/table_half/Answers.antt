@@ -7,7 +7,6 @@ use Rattle.counts.specs.declared.recipe.Images.TheVariants.{File}
 use Rattle.pair.specs.Key.{value_for}
 use Rattle.pair_garbling.specs.Halves.{keys_under}
 use Rattle.pair_garbling.proofs.Factored.{half_is, table-factor}
-use borrow.Author.Rules.{rules}
 use Rattle.pair_garbling.proofs.gates.table_half.Goals as goal
 
 pub table_factors-factors-requires : goal.table_factors-factors-requires

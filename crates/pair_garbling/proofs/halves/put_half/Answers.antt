@@ -1,7 +1,6 @@
 -- `pair_garbling::halves::put_half` meets its contract: the key of external value 0, the zero key by it, then the rows.
 -- Assumes nothing.
 use Rattle.pair_garbling.proofs.Made.{start_is, half-key, half-rows}
-use borrow.Author.Rules.{rules}
 use Rattle.pair_garbling.proofs.halves.put_half.Goals as goal
 
 pub returns : goal.returns

@@ -4,7 +4,6 @@ use mathlib.Core.Path.{ap, ◌∙◌}
 use Prim.Native.Nat.{ℕ}
 use lib.ListN.{replicate}
 use Rattle.pair_garbling.proofs.Made.{message_asked, message_sizes, key-is}
-use borrow.Author.Rules.{rules}
 use Rattle.pair_garbling.proofs.halves.put_key.Goals as goal
 
 pub add_pad_row-requires : goal.add_pad_row-requires

@@ -1,14 +1,10 @@
 -- `pair_garbling::halves::put_rows` meets its contract: one row after another, each under the key that is one offset further.
 -- Assumes nothing.
 use mathlib.Core.Path.{refl, sym, ◌∙◌}
-use Prim.Native.Nat.{suc, ◌-◌}
 use native.Mathlib.Omega.{arith}
-use lib.ListN.{get_or}
-use Rattle.lists.proofs.Steps.{Level, level_start, level_whole, steps_fits, steps_call}
-use Rattle.residue.specs.Vector.{key_v}
-use Rattle.pair_garbling.specs.Halves.{row_under, rows_under}
-use Rattle.pair_garbling.proofs.Made.{Stepping, stepping_start, stepping_on, offset_aligned, row_asked, row_under_lem}
-use borrow.Author.Rules.{rules}
+use Rattle.lists.proofs.Steps.{level_start, level_whole, steps_fits, steps_call}
+use Rattle.pair_garbling.specs.Halves.{rows_under}
+use Rattle.pair_garbling.proofs.Made.{stepping_start, stepping_on, offset_aligned, row_asked, row_under_lem}
 use Rattle.pair_garbling.proofs.halves.put_rows.Goals as goal
 
 pub overflow_sub-count : goal.overflow_sub-count

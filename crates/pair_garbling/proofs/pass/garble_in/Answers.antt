@@ -4,7 +4,6 @@ use mathlib.Core.Path.{sym, ◌∙◌}
 use native.Mathlib.Omega.{arith}
 use Rattle.pair_garbling.proofs.Turning.{keys_fit}
 use Rattle.pair_garbling.proofs.Masks.{work-fits, work-long, back_fits, back_long, back_keys, gives_keys, masks_are}
-use borrow.Author.Rules.{rules}
 use Rattle.pair_garbling.proofs.pass.garble_in.Goals as goal
 
 pub overflow_mul-bytes : goal.overflow_mul-bytes

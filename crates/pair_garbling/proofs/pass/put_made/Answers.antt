@@ -2,7 +2,6 @@
 -- Assumes nothing.
 use mathlib.Core.Path.{◌∙◌}
 use Rattle.pair_garbling.proofs.Looked.{put_is}
-use borrow.Author.Rules.{rules}
 use Rattle.pair_garbling.proofs.pass.put_made.Goals as goal
 
 pub returns : goal.returns

@@ -1,11 +1,7 @@
 -- `pair_garbling::pass::put_masks` meets its contract: one mask after another.
 -- Assumes nothing.
 use mathlib.Core.Path.{refl}
-use Prim.Native.Nat.{◌-◌, ◌*◌}
 use native.Mathlib.Omega.{arith}
-use lib.ListN.{length, take, get_or}
-use Rattle.lists.specs.Blocks.{tab}
-use Rattle.lists.proofs.Filled.{Filled}
 use Rattle.pair_garbling.proofs.Masks.{masks_start, masks-held, masks-step, masks-done}
 use Rattle.pair_garbling.proofs.pass.put_masks.Goals as goal
 

@@ -2,7 +2,6 @@
 -- Assumes nothing.
 use mathlib.Core.Path.{sym}
 use Rattle.pair_garbling.proofs.Made.{room_cut}
-use borrow.Author.Rules.{rules}
 use Rattle.pair_garbling.proofs.pass.put_wire.Goals as goal
 
 pub slice_bounds-put_made-end : goal.slice_bounds-put_made-end

@@ -1,16 +1,11 @@
 -- `pair_garbling::pass::put_wires` meets its contract: wire after wire, zero keys and rows in step.
 -- Assumes nothing.
 use mathlib.Core.Path.{ap, ◌∙◌}
-use Prim.Native.Nat.{ℕ, ◌-◌, ◌*◌}
+use Prim.Native.Nat.{ℕ, ◌*◌}
 use native.Mathlib.Omega.{arith}
-use Rattle.lists.proofs.Steps.{Steps, Level, steps_fits, steps_long, steps_call}
-use Rattle.circuit.specs.Held.{wires_in}
+use Rattle.lists.proofs.Steps.{steps_fits, steps_long, steps_call}
 use Rattle.contribution.proofs.Sizes.{times-most}
-use Rattle.pads.specs.Pad.{shake_pad}
-use Rattle.pair.specs.Count.{pair_rows_of}
-use Rattle.pair.specs.Rows.{zero_key, gate_rows}
 use Rattle.pair_garbling.proofs.Turning.{pass_start, pass_done, keys_fit, turn-bytes, sourced, keys_step, rows-here}
-use borrow.Author.Rules.{rules}
 use Rattle.pair_garbling.proofs.pass.put_wires.Goals as goal
 
 pub moduli-moduli-requires : goal.moduli-moduli-requires

@@ -4,7 +4,6 @@ use mathlib.Core.Path.{ap, ◌∙◌}
 use Prim.Native.Nat.{ℕ, ◌*◌}
 use native.Mathlib.Omega.{arith}
 use Rattle.contribution.proofs.Sizes.{times-most}
-use borrow.Author.Rules.{rules}
 use Rattle.pair_garbling.proofs.pass.row_bytes.Goals as goal
 
 pub overflow_mul-result : goal.overflow_mul-result

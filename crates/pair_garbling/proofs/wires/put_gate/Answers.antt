@@ -4,7 +4,6 @@ use mathlib.Core.Path.{ap, ◌∙◌}
 use Prim.Native.Nat.{ℕ}
 use lib.ListN.{replicate}
 use Rattle.pair_garbling.proofs.Arms.{above_0, at-input, at-add, at_scale, at-product, at-modulus, at_table, input-made, add-made, scale_made, product-made, table-made, select-made}
-use borrow.Author.Rules.{rules}
 use Rattle.pair_garbling.proofs.wires.put_gate.Goals as goal
 
 pub put_input-requires : goal.put_input-requires

@@ -2,7 +2,6 @@
 -- Assumes nothing.
 use mathlib.Core.Path.{ap, ◌∙◌}
 use Rattle.residue.specs.Vector.{mul_v}
-use borrow.Author.Rules.{rules}
 use Rattle.pair_garbling.proofs.wires.put_multiple.Goals as goal
 
 pub returns : goal.returns

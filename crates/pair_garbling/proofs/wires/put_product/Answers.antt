@@ -1,7 +1,6 @@
 -- `pair_garbling::wires::put_product` meets its contract: what is looked up is what the halves are made of.
 -- Assumes nothing.
 use Rattle.pair_garbling.proofs.Looked.{stands_at, zero-found, offset-found, product_looked}
-use borrow.Author.Rules.{rules}
 use Rattle.pair_garbling.proofs.wires.put_product.Goals as goal
 
 pub nth_piece-a-requires : goal.nth_piece-a-requires

@@ -3,7 +3,6 @@
 use mathlib.Core.Path.{ap₂, ◌∙◌}
 use Rattle.residue.specs.Vector.{add_v}
 use Rattle.contribution.proofs.Once.{key_once}
-use borrow.Author.Rules.{rules}
 use Rattle.pair_garbling.proofs.wires.put_sum.Goals as goal
 
 pub returns : goal.returns

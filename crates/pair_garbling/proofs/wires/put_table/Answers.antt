@@ -1,7 +1,6 @@
 -- `pair_garbling::wires::put_table` meets its contract: what is looked up is what the half is made of.
 -- Assumes nothing.
 use Rattle.pair_garbling.proofs.Looked.{stands_at, zero-found, offset-found, table_looked}
-use borrow.Author.Rules.{rules}
 use Rattle.pair_garbling.proofs.wires.put_table.Goals as goal
 
 pub nth_piece-zero-requires : goal.nth_piece-zero-requires

@@ -1,7 +1,6 @@
 -- `pair_opening::open_half` meets its contract: the row of the external value, and its pad taken off. Assumes nothing.
 use mathlib.Core.Path.{◌∙◌}
 use Rattle.pair_opening.proofs.Bared.{row-held, pads_asked, pads-row, half_is}
-use borrow.Author.Rules.{rules}
 use Rattle.pair_opening.proofs.half.open_half.Goals as goal
 
 pub put_row-requires : goal.put_row-requires

@@ -1,6 +1,5 @@
 -- `pair_opening::put_row` meets its contract: no row for 0, the row before for any other. Assumes nothing.
 use Rattle.pair_opening.proofs.Bared.{row_none, row_some, row_inside}
-use borrow.Author.Rules.{rules}
 use Rattle.pair_opening.proofs.half.put_row.Goals as goal
 
 pub returns-then-e-eq0 : goal.returns-then-e-eq0

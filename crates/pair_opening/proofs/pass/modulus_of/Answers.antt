@@ -1,7 +1,6 @@
 -- `pair_opening::modulus_of` meets its contract: past the end a look-up gives 0. Assumes nothing.
 use mathlib.Core.Path.{sym}
 use lib.ListN.{get_or-eq_default}
-use borrow.Author.Rules.{rules}
 use Rattle.pair_opening.proofs.pass.modulus_of.Goals as goal
 
 pub returns-else-at-moduli : goal.returns-else-at-moduli

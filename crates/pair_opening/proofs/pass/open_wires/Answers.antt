@@ -1,8 +1,5 @@
 -- `pair_opening::open_wires` meets its contract: a loop that opens a wire a turn, from those before it; what stands in the locals is what the definitions cut out for the wire. Assumes nothing.
-use Prim.Native.Nat.{◌-◌}
 use native.Mathlib.Omega.{arith}
-use lib.ListN.{take}
-use Rattle.pair_opening.proofs.Reached.{Reached}
 use Rattle.pair_opening.proofs.Loop.{loop_start, table-long, same_keys, same-externals, small, rows-room, turn-seated, turn-ready, turn-room, loop-next, loop-keys, loop-externals}
 use Rattle.pair_opening.proofs.pass.open_wires.Goals as goal
 

@@ -2,7 +2,6 @@
 use mathlib.Core.Path.{sym, ◌∙◌}
 use lib.ListN.{get_or}
 use Rattle.pair_opening.proofs.Arms.{over-at}
-use borrow.Author.Rules.{rules}
 use Rattle.pair_opening.proofs.pass.over.Goals as goal
 
 pub returns-in-Project : goal.returns-in-Project

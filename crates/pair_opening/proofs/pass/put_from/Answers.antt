@@ -4,7 +4,6 @@ use Prim.Native.Nat.{◌*◌, ◌≤◌}
 use native.Mathlib.Omega.{arith}
 use lib.ListN.{length}
 use Rattle.pair_opening.proofs.Loop.{place-fits, put_room, put_is}
-use borrow.Author.Rules.{rules}
 use Rattle.pair_opening.proofs.pass.put_from.Goals as goal
 
 pub overflow_mul-w : goal.overflow_mul-w

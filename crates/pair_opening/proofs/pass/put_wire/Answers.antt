@@ -1,7 +1,6 @@
 -- `pair_opening::put_wire` meets its contract: the local has room for a key. Assumes nothing.
 use mathlib.Core.Path.{sym}
 use Rattle.pair_opening.proofs.Products.{key_cut}
-use borrow.Author.Rules.{rules}
 use Rattle.pair_opening.proofs.pass.put_wire.Goals as goal
 
 pub slice_bounds-put_from-end : goal.slice_bounds-put_from-end

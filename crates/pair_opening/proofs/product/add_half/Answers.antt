@@ -1,6 +1,5 @@
 -- `pair_opening::add_half` meets its contract: once the half is that half. Assumes nothing.
 use Rattle.pair_opening.proofs.Products.{added_half}
-use borrow.Author.Rules.{rules}
 use Rattle.pair_opening.proofs.product.add_half.Goals as goal
 
 pub returns : goal.returns

@@ -1,7 +1,6 @@
 -- `pair_opening::add_second` meets its contract: the local has room for a key. Assumes nothing.
 use mathlib.Core.Path.{sym}
 use Rattle.pair_opening.proofs.Products.{key_cut, half_ready}
-use borrow.Author.Rules.{rules}
 use Rattle.pair_opening.proofs.product.add_second.Goals as goal
 
 pub slice_bounds-add_half-end : goal.slice_bounds-add_half-end

@@ -2,7 +2,6 @@
 use mathlib.Core.Path.{◌∙◌}
 use native.Mathlib.Omega.{arith}
 use Rattle.pair_opening.proofs.Products.{half_ready, size_fits, first-inside, second-inside, half_lines, product_is}
-use borrow.Author.Rules.{rules}
 use Rattle.pair_opening.proofs.product.open_product.Goals as goal
 
 pub overflow_mul-size : goal.overflow_mul-size

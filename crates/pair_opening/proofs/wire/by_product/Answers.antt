@@ -1,6 +1,5 @@
 -- `pair_opening::by_product` meets its contract: the keys that are cut out are those of a and b. Assumes nothing.
 use Rattle.pair_opening.proofs.Arms.{key-inside, key-at, key-ready, product_of}
-use borrow.Author.Rules.{rules}
 use Rattle.pair_opening.proofs.wire.by_product.Goals as goal
 
 pub nth_piece-a-requires : goal.nth_piece-a-requires

@@ -1,7 +1,6 @@
 -- `pair_opening::by_table` meets its contract: one half, under the key that is cut out. Assumes nothing.
 use Rattle.pair_opening.proofs.Arms.{key-inside, key-at, key-ready, table_of}
 use Rattle.pair_opening.proofs.Products.{half_ready}
-use borrow.Author.Rules.{rules}
 use Rattle.pair_opening.proofs.wire.by_table.Goals as goal
 
 pub nth_piece-a-requires : goal.nth_piece-a-requires

@@ -1,7 +1,6 @@
 -- `pair_opening::input` meets its contract: the key is copied. Assumes nothing.
 use mathlib.Core.Path.{◌∙◌}
 use Rattle.pair_opening.proofs.Arms.{key-inside, key-at}
-use borrow.Author.Rules.{rules}
 use Rattle.pair_opening.proofs.wire.input.Goals as goal
 
 pub nth_piece-own-requires : goal.nth_piece-own-requires

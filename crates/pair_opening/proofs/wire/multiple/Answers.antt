@@ -1,6 +1,5 @@
 -- `pair_opening::multiple` meets its contract: a copy, then a multiple. Assumes nothing.
 use Rattle.pair_opening.proofs.Arms.{key-inside, key-at, multiple_is}
-use borrow.Author.Rules.{rules}
 use Rattle.pair_opening.proofs.wire.multiple.Goals as goal
 
 pub nth_piece-a-requires : goal.nth_piece-a-requires

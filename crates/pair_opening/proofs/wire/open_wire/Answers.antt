@@ -1,6 +1,5 @@
 -- `pair_opening::open_wire` meets its contract: each arm knows the gate, so what its kind rests on. Assumes nothing.
 use Rattle.pair_opening.proofs.Arms.{at-input, at-add, at_scale, at_multiply, at_project, opens-input, opens-add, opens_scale, opens_multiply, opens_project, opens-select}
-use borrow.Author.Rules.{rules}
 use Rattle.pair_opening.proofs.wire.open_wire.Goals as goal
 
 pub input-requires : goal.input-requires

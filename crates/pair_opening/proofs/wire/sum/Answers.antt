@@ -1,6 +1,5 @@
 -- `pair_opening::sum` meets its contract: once the second key is that key. Assumes nothing.
 use Rattle.pair_opening.proofs.Arms.{key-inside, key-at, sum_is}
-use borrow.Author.Rules.{rules}
 use Rattle.pair_opening.proofs.wire.sum.Goals as goal
 
 pub nth_piece-a-requires : goal.nth_piece-a-requires

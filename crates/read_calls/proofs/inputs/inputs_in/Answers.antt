@@ -2,7 +2,6 @@
 use Rattle.counts.proofs.Wires.{room}
 use Rattle.counts.specs.Counts.{inputs_of}
 use Rattle.read_calls.proofs.Counting.{checks_met, counted}
-use borrow.Author.Rules.{rules}
 use Rattle.read_calls.proofs.inputs.inputs_in.Goals as goal
 
 pub partakers_checked-present-requires : goal.partakers_checked-present-requires

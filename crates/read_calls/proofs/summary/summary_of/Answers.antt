@@ -1,16 +1,13 @@
 -- `read_calls::summary_of` meets its contract: a loop that writes the moduli down and marks them, and one that adds up rows and records.
 -- Assumes nothing.
-use mathlib.Core.Path.{◌≡◌, refl, ◌∙◌}
+use mathlib.Core.Path.{refl, ◌∙◌}
 use Prim.Native.Nat.{◌-◌}
 use native.Mathlib.Omega.{arith}
-use borrow.Author.Rules.{rules}
-use Rattle.lists.proofs.Filled.{Filled}
-use Rattle.circuit.specs.Wires.{modulus_at, moduli_of}
 use Rattle.circuit.specs.Held.{wires_in}
-use Rattle.counts.specs.Counts.{rows_of, rows_in, record_keys_of, record_keys_in}
+use Rattle.counts.specs.Counts.{rows_in, record_keys_in}
 use Rattle.counts.specs.Moduli.{used, moduli_used}
-use Rattle.counts.proofs.Counting.{Summed, summed_start, summed-step, summed-done, rows_at, records-at}
-use Rattle.counts.proofs.Marked.{marked, marks_start, marks_step, marks_done, marks_summed}
+use Rattle.counts.proofs.Counting.{summed_start, summed-step, summed-done, rows_at, records-at}
+use Rattle.counts.proofs.Marked.{marks_start, marks_step, marks_done, marks_summed}
 use Rattle.counts.proofs.Wires.{moduli_start, moduli-step, moduli-done, room}
 use Rattle.read_calls.proofs.Counting.{counted, few-inputs}
 use Rattle.read_calls.proofs.summary.summary_of.Goals as goal
