@@ -4,7 +4,6 @@ use Prim.Native.Nat.{ℕ, ◌+◌, ◌*◌}
 use native.Mathlib.Nat.{add_assoc}
 use native.Mathlib.Omega.{arith}
 use Rattle.prices.proofs.Hex.{digit_at, byte-at}
-use borrow.Author.Rules.{rules}
 use Rattle.prices.proofs.line.byte_at.Goals as goal
 
 pub overflow_add-first : goal.overflow_add-first

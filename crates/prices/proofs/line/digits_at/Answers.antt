@@ -1,9 +1,7 @@
 -- `prices::line::digits_at` meets its contract. Assumes nothing.
-use mathlib.Core.Path.{◌≡◌, refl, ◌∙◌}
+use mathlib.Core.Path.{◌∙◌}
 use native.Mathlib.Omega.{arith}
-use borrow.Author.Rules.{rules}
 use lib.ListN.{drop}
-use Rattle.prices.specs.Lines.{hex_digits}
 use Rattle.prices.proofs.Hex.{hex_end, hex_bad, hex_next, hex_none}
 use Rattle.prices.proofs.line.digits_at.Goals as goal
 

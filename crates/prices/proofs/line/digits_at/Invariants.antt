@@ -1,10 +1,7 @@
 -- `prices::line::digits_at` meets its contract. Assumes nothing.
-use mathlib.Core.Path.{◌≡◌, refl, ◌∙◌}
-use native.Mathlib.Omega.{arith}
-use borrow.Author.Rules.{rules}
+use mathlib.Core.Path.{◌≡◌}
 use lib.ListN.{drop}
 use Rattle.prices.specs.Lines.{hex_digits}
-use Rattle.prices.proofs.Hex.{hex_end, hex_bad, hex_next, hex_none}
 use Rattle.prices.proofs.line.digits_at.Given as goal
 
 abbrev pub invariant-loop-left : goal.invariant-loop-left

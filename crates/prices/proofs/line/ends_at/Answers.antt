@@ -2,7 +2,6 @@
 use lib.ListN.{drop_of_length-le}
 use lib.Seq.{drop-cons}
 use Rattle.prices.specs.Lines.{line_ends}
-use borrow.Author.Rules.{rules}
 use Rattle.prices.proofs.line.ends_at.Goals as goal
 
 pub returns-then-at-text : goal.returns-then-at-text

@@ -1,7 +1,6 @@
 -- `prices::line::hex_value` meets its contract: one answer for each range that the character is in, or between.
 -- Assumes nothing.
 use native.Mathlib.Omega.{arith}
-use borrow.Author.Rules.{rules}
 use Rattle.prices.specs.Lines.{hex_value}
 use Rattle.prices.proofs.Hex.{inside, below, above}
 use Rattle.prices.proofs.line.hex_value.Goals as goal

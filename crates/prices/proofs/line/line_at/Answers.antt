@@ -6,7 +6,6 @@ use lib.Seq.{drop-drop}
 use Rattle.prices.specs.Lines.{line_ends}
 use Rattle.prices.proofs.Hex.{digit_at}
 use Rattle.prices.proofs.Words.{line_good, line_short, line_long}
-use borrow.Author.Rules.{rules}
 use Rattle.prices.proofs.line.line_at.Goals as goal
 
 pub overflow_add-at : goal.overflow_add-at

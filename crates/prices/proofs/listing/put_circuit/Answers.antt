@@ -1,7 +1,6 @@
 -- `prices::listing::put_circuit` meets its contract. Assumes nothing.
 use Rattle.counts.proofs.Wires.{room}
 use Rattle.prices.proofs.Table.{placed_as, listed-accepted, listed-refused}
-use borrow.Author.Rules.{rules}
 use Rattle.prices.proofs.listing.put_circuit.Goals as goal
 
 pub put_listing-requires : goal.put_listing-requires

@@ -1,7 +1,6 @@
 -- `prices::listing::put_line` meets its contract. Assumes nothing.
 use native.Mathlib.Omega.{arith}
 use Rattle.prices.proofs.Texts.{number_short, put_line}
-use borrow.Author.Rules.{rules}
 use Rattle.prices.proofs.listing.put_line.Goals as goal
 
 pub put_number-a-requires : goal.put_number-a-requires

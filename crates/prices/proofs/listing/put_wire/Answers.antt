@@ -3,7 +3,6 @@ use mathlib.Core.Path.{ap₂}
 use Prim.Native.Nat.{ℕ}
 use Rattle.prices.specs.Prices.{line_of}
 use Rattle.prices.proofs.Table.{within_as}
-use borrow.Author.Rules.{rules}
 use Rattle.prices.proofs.listing.put_wire.Goals as goal
 
 pub returns : goal.returns

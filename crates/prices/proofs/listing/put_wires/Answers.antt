@@ -1,11 +1,10 @@
 -- `prices::listing::put_wires` meets its contract. Assumes nothing.
 use mathlib.Core.Path.{◌∙◌}
-use Prim.Native.Nat.{◌-◌, ◌≤◌}
+use Prim.Native.Nat.{◌-◌}
 use native.Mathlib.Omega.{arith}
 use lib.Seq.{length-take-le}
-use Rattle.circuit.specs.Held.{wires_in}
 use Rattle.counts.proofs.Counting.{rows_at}
-use Rattle.prices.proofs.Table.{LinesSoFar, lines_start, lines_step, lines-done}
+use Rattle.prices.proofs.Table.{lines_start, lines_step, lines-done}
 use Rattle.prices.proofs.listing.put_wires.Goals as goal
 
 pub moduli-moduli-requires : goal.moduli-moduli-requires
@@ -19,9 +18,6 @@ put_wire-end-requires c = (omega (arith, c.loop-w-test.true, c.requires.0.made),
 
 pub loop-w-preserved : goal.loop-w-preserved
 loop-w-preserved c = (lines_step c.args.circuit.wires c.args.circuit.made c.loop-w.invariant.0 c.loop-w-test.true c.put_wire-end.ensures (c.row_count-rows.ensures.is ∙ rows_at c.args.circuit.wires c.args.circuit.made c.loop-w.w (1024 - c.args.circuit.made) c.moduli-moduli.result c.loop-w-test.true c.moduli-moduli.ensures), omega (arith, c.loop-w-test.true))
-
-pub shape_of-out : goal.shape_of-out
-shape_of-out c = c.loop-w.invariant.0.wrote.kept
 
 pub returns : goal.returns
 returns c = lines-done c.args.circuit.wires c.args.circuit.made c.loop-w.invariant.0 (omega (arith, c.loop-w-test.false, c.loop-w.invariant.1, length-take-le c.args.circuit.made c.args.circuit.wires (omega (arith, c.requires.0.made, c.requires.0.wires)))) (omega (arith, c.loop-w.invariant.1, c.requires.0.made))

@@ -5,7 +5,6 @@ use lib.Seq.{length-take-le}
 use Rattle.prices.specs.Found.{comes_to}
 use Rattle.prices.specs.Prices.{printed}
 use Rattle.prices.proofs.Table.{placed_as, found-most, price_is}
-use borrow.Author.Rules.{rules}
 use Rattle.prices.proofs.sheet.price_list.Goals as goal
 
 pub slice_bounds-file-end : goal.slice_bounds-file-end

@@ -2,7 +2,6 @@
 use native.Mathlib.Omega.{arith}
 use Rattle.prices.specs.Decimal.{decimal}
 use Rattle.prices.proofs.Texts.{placed_char, length_char}
-use borrow.Author.Rules.{rules}
 use Rattle.prices.proofs.text.put_number.Goals as goal
 
 pub put_decimal-end-requires : goal.put_decimal-end-requires
