@@ -4,7 +4,8 @@ use mathlib.Core.Path.{◌≡◌, refl, sym, ap, ◌∙◌}
 use mathlib.Core.List.{List, [], ◌∷◌, ◌++◌}
 use Prim.Native.Nat.{ℕ, suc, ◌+◌, ◌/◌, ◌%◌, ◌^◌, ◌≤◌, ◌<◌}
 use native.Mathlib.Omega.{arith}
-use lib.ListN.{length, set, length-append}
+use lib.ListN.{length, set, take, length-append}
+use Rattle.lists.proofs.Written.{front-written}
 use Rattle.lists.proofs.Wrote.{Wrote, wrote_as, wrote_set, wrote_put, wrote_join}
 use Rattle.prices.specs.Decimal.{decimal}
 use Rattle.prices.specs.Prices.{number_and, line_of}
@@ -17,6 +18,10 @@ module _ {out₀ : List ℕ} {at : ℕ} {text : List ℕ} {to : ℕ} {out : List
 
   pub wrote_placed : Wrote out₀ at text to out → Placed out₀ at text to out
   wrote_placed r = record { ends = r.place; room = r.room; is = r.eq }
+
+-- what stands at the front of a buffer
+pub placed_front : {out₀ : List ℕ} {text : List ℕ} {to : ℕ} {out : List ℕ} → Placed out₀ 0 text to out → take to out ≡ text
+placed_front {out₀} {text} {to} {out} p = rw (p.is, p.ends) (front-written out₀ 0 text (omega (arith, p.ends, p.room)))
 
 -- one digit, and the last of several
 pub put_small : (n d : ℕ) {at : ℕ} {out : List ℕ} → n < 10 → d ≡ 48 + n → at + length (decimal n) ≤ length out → Placed out at (decimal n) (at + 1) (set out at d)
