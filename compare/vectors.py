@@ -1,5 +1,5 @@
 #!/usr/bin/env python3
-"""Prints crates/vectors/src/data.rt: the values that the program `vectors` compares with.
+"""Prints crates/vectors/src/data.rt, as it is before `rt fmt` lays it out: the values that the program `vectors` compares with.
 
 SHAKE256 comes from python's hashlib (OpenSSL's implementation), the permutation of the zero state from the few lines below, which follow
 FIPS 202 bit by bit and are first checked against hashlib. The circuits are laid out from document 01. The first 32 bytes of the two published examples of FIPS 202 (the empty message

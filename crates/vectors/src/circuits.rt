@@ -5,15 +5,16 @@ use super::data::{
     CONSTANT_0, CONSTANT_250, CONSTANT_251, MODULUS_1, MODULUS_2, MODULUS_251, MODULUS_253,
 };
 use super::report;
+use std::io;
 
 // Reads a file and compares the answer's number and place: 0 and 0 where it must be accepted.
-fn example(name: &[u8], file: &[u8], number: u32, place: usize) {
+fn example(rt: &impl Print, name: &str, file: &[u8], number: u32, place: usize) -> io::Result<()> {
     let reading = circuit::read(file);
     let answer = reading.answer;
     let same_number = checks::answer_number(answer) == number;
     let at = checks::answer_place(answer);
     let same_place = at == place;
-    report(name, same_number & same_place, at);
+    report(rt, name, same_number & same_place, at)
 }
 
 // Room for 1,024 wires, and for one more.
@@ -53,26 +54,26 @@ fn put_inputs(out: &mut [u8], count: usize)
     put_word(out, 4 * count + 8, 0, 0, 0xb0);
 }
 
-fn most_wires() {
+fn most_wires(rt: &impl Print) -> io::Result<()> {
     let mut file = room();
     put_inputs(&mut file, 1024);
-    example(b"1,024 wires", &file, 0, 0);
+    example(rt, "1,024 wires", &file, 0, 0)
 }
 
-fn one_wire_more() {
+fn one_wire_more(rt: &impl Print) -> io::Result<()> {
     let mut file = more_room();
     put_inputs(&mut file, 1025);
-    example(b"1,025 wires", &file, 8, 1025);
+    example(rt, "1,025 wires", &file, 8, 1025)
 }
 
-pub fn examples() {
-    example(b"constant 250 at modulus 251", &CONSTANT_250, 0, 0);
-    example(b"constant 0", &CONSTANT_0, 7, 2);
-    example(b"constant 251 at modulus 251", &CONSTANT_251, 7, 2);
-    example(b"modulus 251", &MODULUS_251, 0, 0);
-    example(b"modulus 2", &MODULUS_2, 0, 0);
-    example(b"modulus 1", &MODULUS_1, 4, 1);
-    example(b"modulus 253", &MODULUS_253, 4, 1);
-    most_wires();
-    one_wire_more();
+pub fn examples(rt: &impl Print) -> io::Result<()> {
+    example(rt, "constant 250 at modulus 251", &CONSTANT_250, 0, 0)?;
+    example(rt, "constant 0", &CONSTANT_0, 7, 2)?;
+    example(rt, "constant 251 at modulus 251", &CONSTANT_251, 7, 2)?;
+    example(rt, "modulus 251", &MODULUS_251, 0, 0)?;
+    example(rt, "modulus 2", &MODULUS_2, 0, 0)?;
+    example(rt, "modulus 1", &MODULUS_1, 4, 1)?;
+    example(rt, "modulus 253", &MODULUS_253, 4, 1)?;
+    most_wires(rt)?;
+    one_wire_more(rt)
 }

@@ -1,5 +1,9 @@
 // Runs the hash functions on published and independently computed values and the reader on the specification's examples, and prints each
-// name and whether the values agree. Rests on `shake`, `keccak` and `circuit`; what it prints is held to the file stdout.
+// name and whether the values agree. Rests on `shake`, `keccak` and `circuit`; what it prints is held to the file stdout. A write that fails
+// ends the program with its error.
+
+#![tactic(auto)]
+
 mod circuits;
 mod data;
 
@@ -9,7 +13,7 @@ use data::{
     BITS_1600, EMPTY, LONG, RAMP, RAMP_135, RAMP_136, RAMP_137, RAMP_271, RAMP_272, RAMP_273,
     ZERO_STATE,
 };
-use libc::STDOUT_FILENO;
+use std::io;
 
 // The first place at which two byte strings differ, or the length of the first where it begins the second.
 fn first_difference(a: &[u8], b: &[u8]) -> usize
@@ -45,67 +49,65 @@ fn first_lane(a: [u64; 25], b: [u64; 25]) -> usize
 }
 
 // Prints a name, and ok or the place of the first difference.
-pub fn report(name: &[u8], same: bool, place: usize) {
-    io::write_all(STDOUT_FILENO, name);
+pub fn report(rt: &impl Print, name: &str, same: bool, place: usize) -> io::Result<()> {
     if same {
-        io::write_all(STDOUT_FILENO, b": ok\n");
+        println!(rt; "{name}: ok")
     } else {
-        io::write_all(STDOUT_FILENO, b": differs at ");
-        io::print_decimal(STDOUT_FILENO, place as u64);
-        io::write_all(STDOUT_FILENO, b"\n");
+        println!(rt; "{name}: differs at {place}")
     }
 }
 
-fn report_bytes(name: &[u8], got: &[u8], want: &[u8]) {
+fn report_bytes(rt: &impl Print, name: &str, got: &[u8], want: &[u8]) -> io::Result<()> {
     let place = first_difference(got, want);
-    report(name, check::same(got, want), place);
+    report(rt, name, got == want, place)
 }
 
-fn permutation() {
+fn permutation(rt: &impl Print) -> io::Result<()> {
     let got = keccak::keccak_f([0u64; 25]);
     let place = first_lane(got, ZERO_STATE);
-    report(b"Keccak-f[1600] of the zero state", place == 25, place);
+    report(rt, "Keccak-f[1600] of the zero state", place == 25, place)
 }
 
-fn published() {
+fn published(rt: &impl Print) -> io::Result<()> {
     let mut out = [0u8; 512];
     shake::shake256(b"", &mut out);
-    report_bytes(b"SHAKE256 of the empty message, 512 bytes", &out, &EMPTY);
+    report_bytes(rt, "SHAKE256 of the empty message, 512 bytes", &out, &EMPTY)?;
     shake::shake256(&[0xa3u8; 200], &mut out);
     report_bytes(
-        b"SHAKE256 of the 1600-bit message, 512 bytes",
+        rt,
+        "SHAKE256 of the 1600-bit message, 512 bytes",
         &out,
         &BITS_1600,
-    );
+    )
 }
 
 // A message that begins the ramp, 32 bytes of output.
-fn ramp(name: &[u8], message: &[u8], want: &[u8]) {
+fn ramp(rt: &impl Print, name: &str, message: &[u8], want: &[u8]) -> io::Result<()> {
     let mut out = [0u8; 32];
     shake::shake256(message, &mut out);
-    report_bytes(name, &out, want);
+    report_bytes(rt, name, &out, want)
 }
 
-fn around_blocks() {
+fn around_blocks(rt: &impl Print) -> io::Result<()> {
     let bytes = RAMP;
-    ramp(b"SHAKE256 of 135 bytes", &bytes[..135], &RAMP_135);
-    ramp(b"SHAKE256 of 136 bytes", &bytes[..136], &RAMP_136);
-    ramp(b"SHAKE256 of 137 bytes", &bytes[..137], &RAMP_137);
-    ramp(b"SHAKE256 of 271 bytes", &bytes[..271], &RAMP_271);
-    ramp(b"SHAKE256 of 272 bytes", &bytes[..272], &RAMP_272);
-    ramp(b"SHAKE256 of 273 bytes", &bytes[..273], &RAMP_273);
+    ramp(rt, "SHAKE256 of 135 bytes", &bytes[..135], &RAMP_135)?;
+    ramp(rt, "SHAKE256 of 136 bytes", &bytes[..136], &RAMP_136)?;
+    ramp(rt, "SHAKE256 of 137 bytes", &bytes[..137], &RAMP_137)?;
+    ramp(rt, "SHAKE256 of 271 bytes", &bytes[..271], &RAMP_271)?;
+    ramp(rt, "SHAKE256 of 272 bytes", &bytes[..272], &RAMP_272)?;
+    ramp(rt, "SHAKE256 of 273 bytes", &bytes[..273], &RAMP_273)
 }
 
-fn long_output() {
+fn long_output(rt: &impl Print) -> io::Result<()> {
     let mut out = [0u8; 545];
     shake::shake256(b"\x00\x01\x02", &mut out);
-    report_bytes(b"SHAKE256 of 3 bytes, 545 bytes of output", &out, &LONG);
+    report_bytes(rt, "SHAKE256 of 3 bytes, 545 bytes of output", &out, &LONG)
 }
 
-fn main() {
-    permutation();
-    published();
-    around_blocks();
-    long_output();
-    circuits::examples();
+fn main(rt: HostRuntime) -> io::Result<()> {
+    permutation(&rt)?;
+    published(&rt)?;
+    around_blocks(&rt)?;
+    long_output(&rt)?;
+    circuits::examples(&rt)
 }

@@ -1,10 +1,7 @@
 -- `vectors::first_difference` meets its contract: what is passed agrees.
 -- Assumes nothing.
-use Prim.Native.Nat.{ℕ, ◌≤◌, ◌<◌, ◌-◌}
-use mathlib.Core.Path.{◌≡◌}
 use borrow.Author.Count.{below_more}
 use borrow.Author.Rules.{rules}
-use lib.ListN.{length, get_or}
 use Rattle.vectors.proofs.first_difference.Goals as goal
 
 pub loop-i-preserved : goal.loop-i-preserved

@@ -2,7 +2,6 @@
 -- Assumes nothing.
 use native.Mathlib.Omega.{arith}
 use lib.ListN.{length-set}
-use borrow.Author.Rules.{rules}
 use Rattle.vectors.proofs.circuits.put_word.Goals as goal
 
 pub bounds-out-at-2 : goal.bounds-out-at-2
