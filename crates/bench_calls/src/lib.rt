@@ -1,4 +1,7 @@
 // The functions that bench/run calls from C. Rests on `keccak` and `pads`.
+
+#![tactic(auto)]
+
 ghost use Rattle.std.specs.Prelude.{◌≡◌, ◌*◌, length};
 ghost use Rattle.keccak.specs.Keccak.{keccak_f};
 ghost use Rattle.shake.specs.Numbers.{numbers};
