@@ -16,10 +16,3 @@ pub mod Closings
 pub mod Filled
 pub mod Listings
 pub mod Recorded
--- walks by hand: memory that is lent, and the calls that they make
-pub mod Lent
-pub mod Local
-pub mod Rules
-pub mod Begins
-pub mod Stepping
-pub mod Overs

@@ -14,11 +14,11 @@ loop-i-init c = (search rules, refl, put_start c.args.file.now c.args.at c.args.
 
 pub loop-i-preserved : goal.loop-i-preserved
 loop-i-preserved c = let a = c.args in (
-      omega arith,
-      c.put_word.auto.file ∙ c.loop-i.invariant.1,
-      put_next c.loop-i.file a.at c.loop-i.i a.images.now (omega arith) c.entry_word-w.ensures c.put_word.ensures
-          ∙ c.loop-i.invariant.2,
-    )
+  omega arith,
+  c.put_word.auto.file ∙ c.loop-i.invariant.1,
+  put_next c.loop-i.file a.at c.loop-i.i a.images.now (omega arith) c.entry_word-w.ensures c.put_word.ensures
+      ∙ c.loop-i.invariant.2,
+)
 
 pub returns : goal.returns
 returns c = let a = c.args in

@@ -32,5 +32,7 @@ returns-in-10 c moduli tables = let byte : c.args.entry.named < 256 = omega (ari
     said moduli tables c.args.entry 10 c.in-10.is refl (output_unset c.args.entry byte c.unset5-in-10.ensures) c.alone-in-10.ensures (Means.output byte)
 
 pub returns-in_default : goal.returns-in_default
-returns-in_default c moduli tables = let n = c.in_default.in_default-own.rest in
-    subst (Means moduli tables Nothing) (sym (no_kind c.args.entry n.0.0.0.0.0.0.1 n.0.0.0.0.0.1 n.0.0.0.0.1 n.0.0.0.1 n.0.0.1 n.0.1 n.1 moduli tables)) Means.silent
+returns-in_default c moduli tables =
+    subst (Means moduli tables Nothing)
+    (sym (no_kind c.args.entry (omega arith) (omega arith) (omega arith) (omega arith) (omega arith) (omega arith) (omega arith) moduli tables))
+    Means.silent

@@ -24,10 +24,10 @@ returns-then-n-taken-2 c moduli = let a = c.args in
 pub returns-then-not-all_below : goal.returns-then-not-all_below
 returns-then-not-all_below c moduli = let a = c.args in
     out_of_range a.lay a.place a.tables.now a.pen moduli a.file.now a.left a.modulus
-    (some_ahead a.modulus a.tables.now a.pen.taken a.left c.all_below-2.ensures (not-true c.all_below-2.result c.if-not-all_below.true-raw)) c.stop-then-not-all_below.ensures
+    (some_ahead a.modulus a.tables.now a.pen.taken a.left c.all_below-2.ensures c.if-not-all_below.true) c.stop-then-not-all_below.ensures
 
 pub returns : goal.returns
 returns c moduli = let a = c.args in
     all_there a.lay a.place a.tables.now a.pen moduli a.file.now a.left a.modulus
-    (some_ahead a.modulus a.tables.now a.pen.taken a.left c.all_below-2.ensures (not-false c.all_below-2.result c.if-not-all_below.false-raw))
+    (some_ahead a.modulus a.tables.now a.pen.taken a.left c.all_below-2.ensures c.if-not-all_below.false)
     (omega arith) c.pen_of.ensures c.lay_entries.ensures
