@@ -1,3 +1,2 @@
 -- Laws of the C face.
 pub mod Faces
-pub mod Finishes
