@@ -2,24 +2,23 @@
 -- `after-refused`, `after_makes`, .. answer the returns of `went`, `went_so` and `room_of` the calls of it; `steady-laid` and `at-laid` what the rest of a record asks.
 -- Assumes nothing.
 use mathlib.Core.Path.{◌≡◌, refl, sym, ap, ap₂, subst, ◌∙◌}
-use mathlib.Core.Bool.{Bool, true, false, cond}
+use mathlib.Core.Bool.{Bool, cond}
 use mathlib.Core.List.{List}
-use Prim.Native.Nat.{ℕ, zero, suc, ◌+◌, ◌≤◌, ◌<◌}
+use Prim.Native.Nat.{ℕ, ◌+◌, ◌≤◌, ◌<◌}
 use native.Mathlib.Nat.{le_refl}
 use native.Mathlib.Omega.{arith}
 use lib.ListN.{length, take, set, length-set}
 use lib.Seq.{length-take-le}
-use borrow.Author.Tests.{ltb-true}
 use Rattle.checks.specs.declared.Answer.{Answer}
 use Rattle.checks.specs.declared.Answer.TheVariants.{Accepted, Refused}
 use Rattle.checks.specs.declared.Refusal.{Refusal}
 use Rattle.words.specs.declared.gate.Due.{Due}
-use Rattle.words.specs.declared.gate.Due.TheVariants.{Outputs, Branches}
+use Rattle.words.specs.declared.gate.Due.TheVariants.{Outputs}
 use Rattle.words.specs.declared.gate.Wire.{Wire}
 use Rattle.words.specs.declared.gate.Step.{Step}
 use Rattle.words.specs.declared.gate.Step.TheVariants.{Makes, Goes, Gives, Ends}
 use Rattle.words.specs.declared.item.Item.{Item}
-use Rattle.words.specs.Items.{judged, check, after_entry}
+use Rattle.words.specs.Items.{judged}
 use Rattle.words.specs.Cut.{cut_word}
 use Rattle.words.proofs.Judged.{Judged, judging}
 use Rattle.writer.specs.declared.pen.Pen.{Pen}

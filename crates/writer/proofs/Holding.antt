@@ -1,16 +1,15 @@
 -- An item on the desk and in the draft: where the desk holds the draft, it holds what the item makes of it, or both refuse it.
 -- Assumes nothing.
 use mathlib.Core.Path.{◌≡◌, refl, sym, ap, subst, ◌∙◌}
-use mathlib.Core.Bool.{Bool, true, false}
+use mathlib.Core.Bool.{Bool}
 use mathlib.Core.List.{List, [], ◌∷◌, ◌++◌}
-use Prim.Native.Nat.{ℕ, suc, ◌+◌, ◌*◌, ◌≤◌, ◌<◌}
+use Prim.Native.Nat.{ℕ, ◌+◌, ◌≤◌, ◌<◌}
 use native.Mathlib.Numerals.{add-one}
 use native.Mathlib.Omega.{arith}
-use lib.ListN.{length, get_or, take, drop, set, length-append, length-set, get_or-append}
+use lib.ListN.{length, get_or, take, set, length-append, length-set, get_or-append}
 use lib.Seq.{length-take-le, take-suc-set, get_or-append_seam}
 use Rattle.checks.specs.declared.Refusal.{Refusal}
 use Rattle.words.specs.declared.gate.Due.{Due}
-use Rattle.words.specs.declared.gate.Due.TheVariants.{Outputs, Entries, Branches}
 use Rattle.words.specs.declared.gate.Step.{Step}
 use Rattle.words.specs.declared.gate.Step.TheVariants.{Makes, Goes, Gives, Ends}
 use Rattle.words.specs.declared.item.Item.{Item}
@@ -23,7 +22,7 @@ use Rattle.words.proofs.Judged.{Judged, judging}
 use Rattle.circuit.proofs.More.{each}
 use Rattle.writer.specs.Written.{Draft, Drafted, stopped, drafted, after_item, laid}
 use Rattle.writer.specs.Desk.{Desk, desk, stop, desk_after, item_on, lay_item}
-use Rattle.writer.specs.Walked.{Steady, Sound, Holds}
+use Rattle.writer.specs.Walked.{Holds}
 use Rattle.writer.proofs.HoldingFiles.{Kept, kept_more}
 use Rattle.writer.proofs.HoldingFacts.{DueNext, Made, Gone, parties_in, made_so, made-next, gone_so, given_so, ended_so, no_branches, not-outputs, not_table}
 

@@ -3,10 +3,10 @@
 use mathlib.Core.Path.{◌≡◌, refl, sym, ap, subst, ◌∙◌}
 use mathlib.Core.Bool.{Bool, true, false, true≢false, cond, ◌&&◌}
 use mathlib.Core.List.{List, [], ◌∷◌, ◌++◌, map, append_assoc, append-nil}
-use Prim.Native.Nat.{ℕ, zero, suc, ◌+◌, ◌-◌, ◌*◌, ◌≤◌, ◌<◌}
+use Prim.Native.Nat.{ℕ, zero, suc, ◌+◌, ◌≤◌, ◌<◌}
 use native.Mathlib.Omega.{arith}
-use lib.Dec.{ltb, leb}
-use lib.ListN.{length, take, drop, length-append, length-map}
+use lib.Dec.{ltb}
+use lib.ListN.{length, length-append, length-map}
 use Rattle.residue.proofs.Table.{and_left, and_right}
 use Rattle.checks.specs.declared.Refusal.{Refusal}
 use Rattle.checks.specs.declared.Refusal.TheVariants.{OutOfRange, WrongLength}
@@ -17,7 +17,7 @@ use Rattle.words.specs.Items.{check, after_entry}
 use Rattle.words.specs.Encode.{word_of}
 use Rattle.writer.specs.Written.{Draft, Drafted, stopped, drafted, after_item, laid, unless_stopped, laid_all, whole}
 use Rattle.writer.specs.Desk.{Desk, desk, stop, put_word, put_words, all_below, entry_words, table_on}
-use Rattle.writer.specs.Walked.{Steady, Sound, Holds}
+use Rattle.writer.specs.Walked.{Holds}
 use Rattle.writer.proofs.HoldingFiles.{Kept, kept_more}
 use Rattle.writer.proofs.HoldingFacts.{no_choice, not-gates}
 use Rattle.writer.proofs.Holding.{file-kept}

@@ -2,9 +2,9 @@
 -- definition does.
 -- Assumes nothing.
 use mathlib.Core.Path.{◌≡◌, refl, sym, ap, subst, ◌∙◌}
-use mathlib.Core.Bool.{Bool, true, false, true≢false, cond}
+use mathlib.Core.Bool.{Bool, true, false}
 use mathlib.Core.List.{List, [], ◌∷◌, ◌++◌, map}
-use Prim.Native.Nat.{ℕ, zero, suc, ◌+◌, ◌-◌, ◌*◌, ◌≤◌, ◌<◌, min}
+use Prim.Native.Nat.{ℕ, suc, ◌+◌, ◌-◌, ◌*◌, ◌≤◌, ◌<◌, min}
 use native.Mathlib.Nat.{not-suc-le-zero}
 use native.Mathlib.Numerals.{add-one}
 use native.Mathlib.Omega.{arith}
@@ -15,9 +15,8 @@ use borrow.Author.Tests.{leb-true, leb-false}
 use Rattle.checks.specs.declared.Answer.{Answer}
 use Rattle.checks.specs.declared.Answer.TheVariants.{Accepted, Refused}
 use Rattle.checks.specs.declared.Refusal.{Refusal}
-use Rattle.checks.specs.declared.Refusal.TheVariants.{UnknownWord}
 use Rattle.words.specs.declared.gate.Due.{Due}
-use Rattle.words.specs.declared.gate.Due.TheVariants.{Inputs, Gates, Outputs, Entries, Branches}
+use Rattle.words.specs.declared.gate.Due.TheVariants.{Inputs, Gates, Entries}
 use Rattle.words.specs.declared.gate.Wire.{Wire}
 use Rattle.words.specs.declared.gate.Step.{Step}
 use Rattle.words.specs.declared.gate.Step.TheVariants.{Makes, Goes, Gives, Ends}
@@ -34,13 +33,13 @@ use Rattle.writer.specs.declared.speech.Rest.TheVariants.{Alone, Table}
 use Rattle.writer.specs.declared.speech.Speaks.{Speaks}
 use Rattle.writer.specs.declared.speech.Speaks.TheVariants.{Nothing, Says}
 use Rattle.writer.specs.Says.{Speech, nothing, items}
-use Rattle.writer.specs.Written.{Draft, Drafted, stopped, drafted, blank, leaving, after_item, laid, unless_stopped, laid_all, whole, said_to, recorded, refused, onward, write_from, write_records}
+use Rattle.writer.specs.Written.{Draft, Drafted, stopped, drafted, blank, leaving, after_item, laid, unless_stopped, laid_all, whole, said_to, recorded, onward, write_from, write_records}
 use Rattle.writer.specs.Desk.{Desk, desk, stop, desk_after, item_on, lay_item, all_below, table_on, table_due, table_after, lay_table, Means, rest_on, spoken_on, refuse}
-use Rattle.writer.specs.Walked.{no_record, Steady, Ready, Begun, Stepped, Sound, Holds, Between, Walked}
+use Rattle.writer.specs.Walked.{no_record, Steady, Ready, Begun, Stepped, Holds, Between, Walked}
 use Rattle.writer.proofs.HoldingFiles.{Kept, kept_more}
 use Rattle.writer.proofs.HoldingFacts.{parties_in, no_choice, not-inputs}
 use Rattle.writer.proofs.Holding.{Comes, held, put_down, made-is, held_item}
-use Rattle.writer.proofs.HoldingTables.{Tabled, full_table, put_down as table-down, table_outcome, held-table}
+use Rattle.writer.proofs.HoldingTables.{Tabled, full_table, put_down as table-down, held-table}
 
 -- what a record leaves: a draft on the desk, one record further; or the pen put down at its place
 pub data Leaves (lay : Bool) (tables before : List ℕ) (place : ℕ) (k : Desk) : Drafted → Type 0 where

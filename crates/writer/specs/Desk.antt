@@ -7,7 +7,7 @@ use Rattle.checks.specs.declared.Answer.TheVariants.{Accepted, Refused}
 use Rattle.checks.specs.declared.Refusal.{Refusal}
 use Rattle.checks.specs.declared.Refusal.TheVariants.{UnknownWord, OutOfRange, WrongLength}
 use Rattle.words.specs.declared.gate.Due.{Due}
-use Rattle.words.specs.declared.gate.Due.TheVariants.{Inputs, Gates, Outputs, Entries, Branches}
+use Rattle.words.specs.declared.gate.Due.TheVariants.{Inputs, Gates, Outputs, Entries}
 use Rattle.words.specs.declared.gate.Step.{Step}
 use Rattle.words.specs.declared.gate.Step.TheVariants.{Makes, Goes, Gives, Ends}
 use Rattle.words.specs.declared.item.Item.{Item}

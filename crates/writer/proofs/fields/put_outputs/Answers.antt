@@ -1,9 +1,9 @@
 -- `writer::put_outputs` meets its contract: a loop that fills blocks of eight. Assumes nothing.
 use mathlib.Core.Path.{refl, ap, ◌∙◌}
-use Prim.Native.Nat.{ℕ, ◌-◌}
+use Prim.Native.Nat.{ℕ}
 use native.Mathlib.Omega.{arith}
 use lib.ListN.{get_or}
-use Rattle.lists.proofs.Steps.{Level, level_start, steps_fits, steps_long, steps_call, level_whole}
+use Rattle.lists.proofs.Steps.{level_start, steps_fits, steps_long, steps_call, level_whole}
 use Rattle.writer.specs.Listed.{output_record}
 use Rattle.writer.specs.Listing.{numbers_of}
 use Rattle.writer.proofs.fields.put_outputs.Goals as goal

@@ -1,7 +1,6 @@
 -- `writer::put_record` meets its contract: eight stores, one after another. Assumes nothing.
 use native.Mathlib.Omega.{arith}
 use lib.ListN.{length-set}
-use borrow.Author.Rules.{rules}
 use Rattle.writer.proofs.Listings.{stored}
 use Rattle.writer.specs.Listing.{numbers_of}
 use Rattle.writer.proofs.fields.put_record.Goals as goal

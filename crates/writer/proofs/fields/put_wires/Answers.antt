@@ -1,10 +1,7 @@
 -- `writer::put_wires` meets its contract: a loop that fills blocks of eight. Assumes nothing.
 use mathlib.Core.Path.{refl, ap, ◌∙◌}
-use Prim.Native.Nat.{◌-◌}
 use native.Mathlib.Omega.{arith}
-use Rattle.lists.proofs.Steps.{Level, level_start, steps_fits, steps_long, steps_call, level_whole}
-use Rattle.circuit.specs.Wires.{wire_at}
-use Rattle.writer.specs.Listed.{wire_record}
+use Rattle.lists.proofs.Steps.{level_start, steps_fits, steps_long, steps_call, level_whole}
 use Rattle.writer.specs.Listing.{numbers_of}
 use Rattle.writer.proofs.fields.put_wires.Goals as goal
 

@@ -3,7 +3,6 @@ use mathlib.Core.Path.{ap₂, ◌∙◌}
 use Prim.Native.Nat.{ℕ}
 use Rattle.writer.specs.Listing.{record_with}
 use Rattle.writer.proofs.Listings.{record_is, select_is}
-use borrow.Author.Rules.{rules}
 use Rattle.writer.proofs.fields.wire_record.Goals as goal
 
 pub returns-in-Input : goal.returns-in-Input

@@ -1,14 +1,9 @@
 -- `writer::copy_images` meets its contract: a loop that fills the table image by image. Assumes nothing.
-use mathlib.Core.Path.{◌∙◌}
-use Prim.Native.Nat.{◌-◌, ◌+◌, ◌*◌}
-use native.Mathlib.Nat.{le_refl}
-use native.Mathlib.Omega.{arith}
+use Prim.Native.Nat.{◌-◌, ◌+◌}
 use lib.ListN.{length}
 use Rattle.lists.specs.Blocks.{tab}
-use Rattle.lists.proofs.Blocks.{length-tab, get_or-tab}
-use Rattle.lists.proofs.Filled.{Filled, filled_start, filled_step, filled_whole}
+use Rattle.lists.proofs.Filled.{Filled}
 use Rattle.words.specs.Bits.{word_at, image}
-use Rattle.writer.proofs.Listings.{image-byte}
 use Rattle.writer.proofs.images.copy_images.Given as goal
 
 abbrev pub invariant-loop-v : goal.invariant-loop-v

@@ -2,9 +2,7 @@
 use mathlib.Core.Path.{refl}
 use Prim.Native.Nat.{◌-◌}
 use native.Mathlib.Omega.{arith}
-use Rattle.circuit.specs.Held.{wires_in}
-use Rattle.counts.proofs.Counting.{Summed, summed_start, summed-step, summed-done}
-use Rattle.writer.specs.Listing.{entries_of}
+use Rattle.counts.proofs.Counting.{summed_start, summed-step, summed-done}
 use Rattle.writer.proofs.Listings.{entries_at}
 use Rattle.writer.proofs.images.entries_in.Goals as goal
 

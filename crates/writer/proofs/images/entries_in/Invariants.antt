@@ -1,11 +1,8 @@
 -- `writer::entries_in` meets its contract: a loop that adds up the sizes of the tables. Assumes nothing.
-use mathlib.Core.Path.{refl}
 use Prim.Native.Nat.{◌-◌}
-use native.Mathlib.Omega.{arith}
 use Rattle.circuit.specs.Held.{wires_in}
-use Rattle.counts.proofs.Counting.{Summed, summed_start, summed-step, summed-done}
+use Rattle.counts.proofs.Counting.{Summed}
 use Rattle.writer.specs.Listing.{entries_of}
-use Rattle.writer.proofs.Listings.{entries_at}
 use Rattle.writer.proofs.images.entries_in.Given as goal
 
 abbrev pub invariant-loop-w : goal.invariant-loop-w

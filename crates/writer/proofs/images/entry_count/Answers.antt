@@ -2,7 +2,6 @@
 use mathlib.Core.Path.{sym}
 use lib.ListN.{get_or}
 use Rattle.writer.proofs.Listings.{entries_by_lem}
-use borrow.Author.Rules.{rules}
 use Rattle.writer.proofs.images.entry_count.Goals as goal
 
 pub returns-in-Project : goal.returns-in-Project

@@ -1,6 +1,5 @@
 -- `writer::put_table` meets its contract: a projection's images are copied, and nothing else is written. Assumes nothing.
 use Rattle.writer.proofs.Listings.{images-inside, table_is}
-use borrow.Author.Rules.{rules}
 use Rattle.writer.proofs.images.put_table.Goals as goal
 
 pub copy_images-requires : goal.copy_images-requires

@@ -1,14 +1,10 @@
 -- `writer::put_tables` meets its contract: a loop that fills blocks, one for each wire, of as many bytes as its table has entries. Assumes nothing.
-use mathlib.Core.Path.{refl, ◌∙◌}
-use Prim.Native.Nat.{◌+◌, ◌-◌}
-use native.Mathlib.Omega.{arith}
-use lib.ListN.{take, drop}
-use Rattle.lists.proofs.Steps.{Steps, steps_fits, steps_long, steps_call}
+use Prim.Native.Nat.{◌-◌}
+use Rattle.lists.proofs.Steps.{Steps}
 use Rattle.circuit.specs.Wires.{wire_at}
 use Rattle.circuit.specs.Held.{wires_in}
 use Rattle.writer.specs.Listed.{table_of}
 use Rattle.writer.specs.Listing.{entries_of}
-use Rattle.writer.proofs.Listings.{tables_start, size-at, table-ready, table-written, tables-done}
 use Rattle.writer.proofs.images.put_tables.Given as goal
 
 abbrev pub invariant-loop-w : goal.invariant-loop-w

@@ -1,6 +1,5 @@
 -- `writer::items::branches_on` meets its contract: what `went` leaves, for the item that is the branches.
 -- Assumes nothing.
-use borrow.Author.Rules.{rules}
 use Rattle.words.specs.declared.item.Item.TheVariants.{Branches}
 use Rattle.writer.proofs.Desks.{room_of, went_so}
 use Rattle.writer.proofs.items.branches_on.Goals as goal

@@ -1,6 +1,5 @@
 -- `writer::items::item_on` meets its contract: what `went` leaves, for an item that was judged.
 -- Assumes nothing.
-use borrow.Author.Rules.{rules}
 use Rattle.writer.proofs.Desks.{room_of, went_so}
 use Rattle.writer.proofs.items.item_on.Goals as goal
 

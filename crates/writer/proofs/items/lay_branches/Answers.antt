@@ -1,6 +1,5 @@
 -- `writer::items::lay_branches` meets its contract: nothing was refused, or nothing happens.
 -- Assumes nothing.
-use borrow.Author.Rules.{rules}
 use Rattle.words.specs.declared.item.Item.TheVariants.{Branches}
 use Rattle.writer.specs.Desk.{desk}
 use Rattle.writer.proofs.Desks.{lay_off, lay_on}

@@ -1,6 +1,5 @@
 -- `writer::items::lay_item` meets its contract: nothing was refused, or nothing happens.
 -- Assumes nothing.
-use borrow.Author.Rules.{rules}
 use Rattle.writer.specs.Desk.{desk}
 use Rattle.writer.proofs.Desks.{lay_off, lay_on}
 use Rattle.writer.proofs.items.lay_item.Goals as goal

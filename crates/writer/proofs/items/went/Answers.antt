@@ -1,7 +1,6 @@
 -- `writer::items::went` meets its contract: each arm is told what the item did.
 -- Assumes nothing.
 use native.Mathlib.Omega.{arith}
-use borrow.Author.Rules.{rules}
 use Rattle.writer.proofs.Desks.{after-ends, after_gives, after_goes, after_makes, after-refused}
 use Rattle.writer.proofs.items.went.Goals as goal
 

@@ -1,6 +1,5 @@
 -- `writer::laying::lay_entries` meets its contract: only in the pass that lays are words put down.
 -- Assumes nothing.
-use borrow.Author.Rules.{rules}
 use Rattle.writer.proofs.laying.lay_entries.Goals as goal
 
 pub returns-then-lay : goal.returns-then-lay

@@ -1,6 +1,5 @@
 -- `writer::laying::lay_word` meets its contract: only in the pass that lays is a word put down.
 -- Assumes nothing.
-use borrow.Author.Rules.{rules}
 use Rattle.writer.proofs.laying.lay_word.Goals as goal
 
 pub returns-then-lay : goal.returns-then-lay

@@ -1,6 +1,5 @@
 -- `writer::laying::put_bytes` meets its contract: four stores.
 -- Assumes nothing.
-use borrow.Author.Rules.{rules}
 use Rattle.writer.proofs.Puts.{four_set}
 use Rattle.writer.proofs.laying.put_bytes.Goals as goal
 

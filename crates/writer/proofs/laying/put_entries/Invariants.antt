@@ -1,12 +1,9 @@
 -- `writer::laying::put_entries` meets its contract: what is left to lay down comes to the same.
 -- Assumes nothing.
-use mathlib.Core.Path.{◌≡◌, refl, ◌∙◌}
+use mathlib.Core.Path.{◌≡◌}
 use Prim.Native.Nat.{◌+◌, ◌-◌, ◌≤◌}
-use native.Mathlib.Omega.{arith}
 use lib.ListN.{length, drop}
-use borrow.Author.Rules.{rules}
 use Rattle.writer.specs.Desk.{put_words, entry_words}
-use Rattle.writer.proofs.Puts.{put_start, put_next, put_done}
 use Rattle.writer.proofs.laying.put_entries.Given as goal
 
 abbrev pub invariant-loop-i : goal.invariant-loop-i

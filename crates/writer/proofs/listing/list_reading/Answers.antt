@@ -1,7 +1,6 @@
 -- `writer::list_reading` meets its contract: accepted, what the two passes wrote; refused, nothing. Assumes nothing.
 use native.Mathlib.Omega.{arith}
 use Rattle.writer.proofs.Listings.{fills_of, ends-listed, ends-refused}
-use borrow.Author.Rules.{rules}
 use Rattle.writer.proofs.listing.list_reading.Goals as goal
 
 pub overflow_add-circuit : goal.overflow_add-circuit

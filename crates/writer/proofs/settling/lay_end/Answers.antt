@@ -2,7 +2,6 @@
 -- Assumes nothing.
 use mathlib.Core.Path.{ap, ◌∙◌}
 use Prim.Native.Nat.{ℕ}
-use borrow.Author.Rules.{rules}
 use Rattle.writer.specs.Desk.{put_word}
 use Rattle.writer.proofs.settling.lay_end.Goals as goal
 

@@ -1,6 +1,5 @@
 -- `writer::settling::settle` meets its contract: what was refused stays so.
 -- Assumes nothing.
-use borrow.Author.Rules.{rules}
 use Rattle.writer.proofs.Settles.{settles_off, settles_on}
 use Rattle.writer.proofs.settling.settle.Goals as goal
 

@@ -2,7 +2,6 @@
 -- Assumes nothing.
 use mathlib.Core.Path.{refl}
 use native.Mathlib.Omega.{arith}
-use borrow.Author.Rules.{rules}
 use Rattle.writer.proofs.Settles.{has_room, left_over, none-given, too_short}
 use Rattle.writer.proofs.settling.settled_at.Goals as goal
 

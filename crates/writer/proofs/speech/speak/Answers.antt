@@ -3,7 +3,6 @@
 use mathlib.Core.Path.{refl, sym, subst}
 use Prim.Native.Nat.{◌<◌}
 use native.Mathlib.Omega.{arith}
-use borrow.Author.Rules.{rules}
 use Rattle.writer.specs.Desk.{Means}
 use Rattle.writer.specs.declared.speech.Speaks.TheVariants.{Nothing}
 use Rattle.writer.proofs.Speeches.{no_kind, said, output_unset}

@@ -2,7 +2,6 @@
 -- Assumes nothing.
 use mathlib.Core.Path.{sym, ap}
 use mathlib.Core.Bool.{Bool, cond}
-use borrow.Author.Rules.{rules}
 use Rattle.writer.specs.declared.speech.Speaks.TheVariants.{Nothing, Says}
 use Rattle.writer.proofs.speech.spoken.Goals as goal
 

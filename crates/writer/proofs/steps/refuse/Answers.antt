@@ -1,6 +1,5 @@
 -- `writer::steps::refuse` meets its contract: nothing was refused, or nothing happens.
 -- Assumes nothing.
-use borrow.Author.Rules.{rules}
 use Rattle.writer.proofs.Desks.{refuse_off, refuse_on}
 use Rattle.writer.proofs.steps.refuse.Goals as goal
 

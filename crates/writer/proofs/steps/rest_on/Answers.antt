@@ -1,7 +1,6 @@
 -- `writer::steps::rest_on` meets its contract: each arm is told what follows.
 -- Assumes nothing.
 use mathlib.Core.Path.{refl}
-use borrow.Author.Rules.{rules}
 use Rattle.writer.specs.Desk.{desk}
 use Rattle.writer.proofs.Speeches.{alone_done, branches-done, table_done}
 use Rattle.writer.proofs.steps.rest_on.Goals as goal

@@ -1,7 +1,6 @@
 -- `writer::steps::spoken_on` meets its contract: each arm is told what is said.
 -- Assumes nothing.
 use native.Mathlib.Omega.{arith}
-use borrow.Author.Rules.{rules}
 use Rattle.writer.specs.Desk.{desk}
 use Rattle.writer.proofs.Desks.{at-laid, near_enough, steady-laid}
 use Rattle.writer.proofs.Speeches.{nothing-done, says-done}

@@ -1,12 +1,8 @@
 -- `writer::table::all_below` meets its contract: what is left to judge comes to the same.
 -- Assumes nothing.
-use mathlib.Core.Path.{◌≡◌, refl, ◌∙◌}
-use mathlib.Core.Bool.{◌&&◌}
-use Prim.Native.Nat.{◌-◌, ◌≤◌}
+use mathlib.Core.Path.{refl, ◌∙◌}
 use native.Mathlib.Omega.{arith}
-use lib.ListN.{drop}
 use borrow.Author.Rules.{rules}
-use Rattle.writer.specs.Desk.{all_below}
 use Rattle.writer.proofs.Tables.{below_next, below-done}
 use Rattle.writer.proofs.table.all_below.Goals as goal
 

@@ -1,6 +1,5 @@
 -- `writer::table::lay_table` meets its contract: a table is due, or nothing happens.
 -- Assumes nothing.
-use borrow.Author.Rules.{rules}
 use Rattle.writer.specs.Desk.{desk}
 use Rattle.writer.proofs.Tables.{branches-due, gates-due, inputs-due, outputs-due, table_off, table_on_lem}
 use Rattle.writer.proofs.table.lay_table.Goals as goal

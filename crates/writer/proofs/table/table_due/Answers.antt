@@ -1,8 +1,6 @@
 -- `writer::table::table_due` meets its contract: the entries that are there, and whether there are enough.
 -- Assumes nothing.
 use native.Mathlib.Omega.{arith}
-use borrow.Author.Tests.{not-false, not-true}
-use borrow.Author.Rules.{rules}
 use Rattle.writer.proofs.Tables.{all_ahead, all_there, none_ahead, out_of_range, some_ahead, too_few}
 use Rattle.writer.proofs.table.table_due.Goals as goal
 
