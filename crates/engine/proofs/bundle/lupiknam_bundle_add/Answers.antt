@@ -1,5 +1,4 @@
 -- `lupiknam_bundle_add` meets its contract: what the part promises, told to C. Assumes nothing.
-use borrow.Author.Rules.{rules}
 use Rattle.engine.proofs.Faces.{part_called}
 use Rattle.engine.proofs.bundle.lupiknam_bundle_add.Goals as goal
 

@@ -1,5 +1,4 @@
 -- `lupiknam_bundle_join` meets its contract: accepted, the integer; refused, the number as it was. Assumes nothing.
-use borrow.Author.Rules.{rules}
 use Rattle.engine.proofs.Faces.{join-accepted, join-refused}
 use Rattle.engine.proofs.bundle.lupiknam_bundle_join.Goals as goal
 

@@ -1,5 +1,4 @@
 -- `engine::bundle::tell_part` meets its contract: accepted, the number of words; refused, the number as it was. Assumes nothing.
-use borrow.Author.Rules.{rules}
 use Rattle.engine.proofs.Faces.{part_told, refusal_told}
 use Rattle.engine.proofs.bundle.tell_part.Goals as goal
 

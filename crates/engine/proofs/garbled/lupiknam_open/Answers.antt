@@ -1,5 +1,4 @@
 -- `lupiknam_open` meets its contract: the call's answer as number and place. Assumes nothing.
-use borrow.Author.Rules.{rules}
 use Rattle.engine.proofs.Faces.{told_so}
 use Rattle.engine.proofs.garbled.lupiknam_open.Goals as goal
 

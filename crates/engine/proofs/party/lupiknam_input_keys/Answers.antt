@@ -1,5 +1,4 @@
 -- `lupiknam_input_keys` meets its contract: the call's answer as number and place. Assumes nothing.
-use borrow.Author.Rules.{rules}
 use Rattle.engine.proofs.Faces.{told_so}
 use Rattle.engine.proofs.party.lupiknam_input_keys.Goals as goal
 

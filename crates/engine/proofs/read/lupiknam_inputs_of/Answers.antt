@@ -1,6 +1,5 @@
 -- `lupiknam_inputs_of` meets its contract: accepted, the count; refused, the number as it was. Assumes nothing.
 use Rattle.engine.proofs.Faces.{inputs-accepted, inputs-refused}
-use borrow.Author.Rules.{rules}
 use Rattle.engine.proofs.read.lupiknam_inputs_of.Goals as goal
 
 pub returns-in-Accepted : goal.returns-in-Accepted

@@ -1,6 +1,5 @@
 -- `lupiknam_read` meets its contract: accepted, six counts; refused, six numbers as they were. Assumes nothing.
 use Rattle.engine.proofs.Faces.{read_accepted, read_refused}
-use borrow.Author.Rules.{rules}
 use Rattle.engine.proofs.read.lupiknam_read.Goals as goal
 
 pub returns-in-Accepted : goal.returns-in-Accepted

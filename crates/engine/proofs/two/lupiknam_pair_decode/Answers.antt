@@ -1,5 +1,4 @@
 -- `lupiknam_pair_decode` meets its contract: the call's answer as number and place. Assumes nothing.
-use borrow.Author.Rules.{rules}
 use Rattle.engine.proofs.Faces.{told_so}
 use Rattle.engine.proofs.two.lupiknam_pair_decode.Goals as goal
 

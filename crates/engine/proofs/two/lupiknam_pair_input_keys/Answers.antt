@@ -1,6 +1,5 @@
 -- `lupiknam_pair_input_keys` meets its contract: the call's answer as number and place. Assumes nothing.
 use Rattle.engine.proofs.Faces.{told_so}
-use borrow.Author.Rules.{rules}
 use Rattle.engine.proofs.two.lupiknam_pair_input_keys.Goals as goal
 
 pub returns : goal.returns

@@ -1,6 +1,5 @@
 -- `lupiknam_pair_read` meets its contract: accepted, the rows; refused, the number as it was. Assumes nothing.
 use Rattle.engine.proofs.Faces.{pair-accepted, pair-refused}
-use borrow.Author.Rules.{rules}
 use Rattle.engine.proofs.two.lupiknam_pair_read.Goals as goal
 
 pub returns-in-Accepted : goal.returns-in-Accepted

@@ -2,9 +2,6 @@
 -- Assumes nothing.
 use mathlib.Core.Path.{sym, ap, ◌∙◌}
 use mathlib.Core.Bool.{Bool, cond}
-use mathlib.Core.List.{List}
-use Prim.Native.Nat.{ℕ}
-use borrow.Author.Rules.{rules}
 use Rattle.words.specs.declared.item.Item.TheVariants.{End}
 use Rattle.words.specs.Encode.{word_of}
 use Rattle.writer.specs.Desk.{put_word}
