@@ -1,5 +1,4 @@
-// The calls of an editor: a circuit file written from its records, and taken back to them. Functions over slices of records are proved by hand, so
-// they only call others.
+// The calls of an editor: a circuit file written from its records, and taken back to them. They only lend and call.
 ghost use Rattle.writer.specs.Call.{WriteCall, RecordsCall};
 ghost use Rattle.writer.specs.Closing.{Finished};
 ghost use Rattle.writer.specs.Settling.{Fair};

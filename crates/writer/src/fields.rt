@@ -1,5 +1,5 @@
-// The records of a circuit that was read, as numbers, eight to a record. Numbers and not records, since functions over a slice of records are proved by
-// hand (`fill`). Each pass takes the circuit once: its 16 KB are copied with every call.
+// The records of a circuit that was read, as numbers, eight to a record; the records are made of them last (`fill`).
+// Each pass takes the circuit once: its 16 KB are copied with every call.
 ghost use Rattle.std.specs.Prelude.{◌≡◌, ◌+◌, ◌*◌, length, get_or};
 ghost use Rattle.lists.specs.Blocks.{blocks, tab};
 ghost use Rattle.circuit.specs.Wires.{wire_at};

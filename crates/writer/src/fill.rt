@@ -1,4 +1,4 @@
-// Records from numbers. Whoever reads a file lists numbers, eight to a record, since a slice of numbers needs no walk by hand; the records are made of them last.
+// Records from numbers. Whoever reads a file lists numbers, eight to a record; the records are made of them last.
 ghost use Rattle.std.specs.Prelude.{◌≡◌, ◌+◌, ◌*◌, ◌<◌, ◌≤◌, length};
 ghost use Rattle.writer.specs.Fill.{record_from, put_records};
 

@@ -1,6 +1,6 @@
 // The circuit file written from an editor's records, and taken back to them. A record says items, as a word does, and they are judged by the reader's
 // own rules (`words`). The records are walked twice: judged, with nothing touched, and then laid down. specs/Written.antt says what writing comes to.
-// Rests on `words`, `circuit` and `session`; functions over slices of records are thin, since they are proved by hand.
+// Rests on `words`, `circuit` and `session`; functions over slices of records are thin: they lend and call.
 
 #![tactic(auto)]
 

@@ -1,4 +1,4 @@
-// All records, one after another. A slice of structs is walked by hand in the proof, so this does no more than lend and call.
+// All records, one after another: this does no more than lend and call.
 ghost use Rattle.std.specs.Prelude.{◌≡◌, length};
 ghost use Rattle.writer.specs.Walked.{Walked};
 
