@@ -7,16 +7,14 @@ use bundles::{Operation, Part, join, split, write_part};
 use checks::Answer;
 
 // Splits an integer into its residues: 23, 14, 24.
-#[unsafe(no_mangle)]
-pub extern "C" fn lupiknam_bundle_split(r: u32, integer: u64, residues: &mut [u8]) -> Reported
+pub fn lupiknam_bundle_split(r: u32, integer: u64, residues: &mut [u8]) -> Reported
     ensures { SplitCall r integer residues.old result.number result.place residues.new }
 {
     told(split(r, integer, residues))
 }
 
 // Joins residues to the integer that has them: 23, 14, 24.
-#[unsafe(no_mangle)]
-pub extern "C" fn lupiknam_bundle_join(r: u32, residues: &[u8], integer: &mut u64) -> Reported
+pub fn lupiknam_bundle_join(r: u32, residues: &[u8], integer: &mut u64) -> Reported
     ensures { JoinCall r residues.now integer.old result.number result.place integer.new }
 {
     let found = join(r, residues);
@@ -45,8 +43,7 @@ fn tell_part(made: Part, words: &mut u32) -> Reported
 }
 
 // Writes the part that adds two bundles: 23, 5, 8, 22.
-#[unsafe(no_mangle)]
-pub extern "C" fn lupiknam_bundle_add(
+pub fn lupiknam_bundle_add(
     r: u32,
     first: u32,
     a: u32,
@@ -61,8 +58,7 @@ pub extern "C" fn lupiknam_bundle_add(
 }
 
 // Writes the part that multiplies two bundles: 23, 5, 8, 22.
-#[unsafe(no_mangle)]
-pub extern "C" fn lupiknam_bundle_multiply(
+pub fn lupiknam_bundle_multiply(
     r: u32,
     first: u32,
     a: u32,
@@ -77,8 +73,7 @@ pub extern "C" fn lupiknam_bundle_multiply(
 }
 
 // Writes the part that multiplies a bundle by a constant: 23, 24, 5, 8, 22.
-#[unsafe(no_mangle)]
-pub extern "C" fn lupiknam_bundle_scale(
+pub fn lupiknam_bundle_scale(
     r: u32,
     first: u32,
     constant: u64,

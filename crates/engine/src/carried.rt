@@ -5,8 +5,7 @@ ghost use Rattle.meter.specs.Meter.{carried};
 use meter::carried;
 
 // The old total becomes account 0's, the others start at 0, whatever the meter held. A new meter carries 0. It refuses nothing.
-#[unsafe(no_mangle)]
-pub extern "C" fn lupiknam_meter_carry(total: u32, meter: &mut [u32; 8])
+pub fn lupiknam_meter_carry(total: u32, meter: &mut [u32; 8])
     ensures { meter.new ≡ carried total }
 {
     let totals = carried(total);

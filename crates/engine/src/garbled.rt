@@ -7,8 +7,7 @@ use row_calls::{garble, open_rows};
 use session::{AskedSeat, AskedSession};
 
 // Rows, input masks and output masks of a round, from all contributions, and the named account charged: 1 to 10, 11, 13, 28, 14, 25, 16, 17, 21.
-#[unsafe(no_mangle)]
-pub extern "C" fn lupiknam_garble(
+pub fn lupiknam_garble(
     file: &[u8],
     n: u32,
     k: u32,
@@ -38,8 +37,7 @@ pub extern "C" fn lupiknam_garble(
 }
 
 // The keys and external value of every wire at a party, from the rows of a round: 1 to 13, 28, 14 to 20.
-#[unsafe(no_mangle)]
-pub extern "C" fn lupiknam_open(
+pub fn lupiknam_open(
     file: &[u8],
     n: u32,
     k: u32,

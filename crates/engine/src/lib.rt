@@ -1,6 +1,6 @@
-// The C face: each function here is one of include/lupiknam.h. Refused or not, its contract gives the number and place that it
-// answers and every number and byte lent to it. Thin, since a static library proves it again: the calls themselves stand in `read_calls`,
-// `plain`, `party_calls`, `row_calls`, `pair_calls`, `writer`, `bundles` and `meter`.
+// The calls as C has them: each function here is one of include/lupiknam.h, which `engine_c` exports. Refused or not, its contract gives the
+// number and place that it answers and every number and byte lent to it. Thin: the calls themselves stand in `read_calls`, `plain`,
+// `party_calls`, `row_calls`, `pair_calls`, `writer`, `bundles` and `meter`.
 
 #![tactic(auto)]
 

@@ -7,8 +7,7 @@ use super::answer::{Reported, told};
 use party_calls::{decode, input_keys};
 
 // The external values of a party's own inputs, from their values and masks: 1 to 10, 11 for n, 12, 13, 28, 14, 15.
-#[unsafe(no_mangle)]
-pub extern "C" fn lupiknam_externals(
+pub fn lupiknam_externals(
     file: &[u8],
     n: u32,
     party: u32,
@@ -23,8 +22,7 @@ pub extern "C" fn lupiknam_externals(
 }
 
 // A party's keys on all inputs, from its contribution and the external values: 1 to 13, 28, 14 to 17.
-#[unsafe(no_mangle)]
-pub extern "C" fn lupiknam_input_keys(
+pub fn lupiknam_input_keys(
     file: &[u8],
     n: u32,
     k: u32,
@@ -41,8 +39,7 @@ pub extern "C" fn lupiknam_input_keys(
 
 // The values of the outputs that a party may read, from external values and its sheet of output masks, 255 for the others: 1 to 10, 11 for n, 12, 13, 28, 14,
 // 15.
-#[unsafe(no_mangle)]
-pub extern "C" fn lupiknam_decode(
+pub fn lupiknam_decode(
     file: &[u8],
     n: u32,
     party: u32,

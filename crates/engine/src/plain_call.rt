@@ -4,8 +4,7 @@ ghost use Rattle.plain.specs.Call.{PlainCall};
 use super::answer::{Reported, told};
 
 // The outputs' values, from those of the inputs: 1 to 10, 14, 15.
-#[unsafe(no_mangle)]
-pub extern "C" fn lupiknam_plain(file: &[u8], values: &[u8], outputs: &mut [u8]) -> Reported
+pub fn lupiknam_plain(file: &[u8], values: &[u8], outputs: &mut [u8]) -> Reported
     ensures { PlainCall file.now values.now outputs.old result.number result.place outputs.new }
 {
     let answer = plain::plain(file, values, outputs);

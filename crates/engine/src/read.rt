@@ -6,8 +6,7 @@ use checks::Answer;
 use read_calls::{inputs_of, summary_of};
 
 // Reads a circuit: 1 to 10.
-#[unsafe(no_mangle)]
-pub extern "C" fn lupiknam_read(
+pub fn lupiknam_read(
     file: &[u8],
     wires: &mut u32,
     inputs: &mut u32,
@@ -36,8 +35,7 @@ pub extern "C" fn lupiknam_read(
 }
 
 // How many inputs a party owns: 1 to 10, 11 for n, 12, 13, 28.
-#[unsafe(no_mangle)]
-pub extern "C" fn lupiknam_inputs_of(file: &[u8], n: u32, party: u32, count: &mut u32) -> Reported
+pub fn lupiknam_inputs_of(file: &[u8], n: u32, party: u32, count: &mut u32) -> Reported
     ensures { InputsOfCall file.now n party count.old result.number result.place count.new }
 {
     let found = inputs_of(file, n, party);

@@ -10,8 +10,7 @@ use checks::Answer;
 use pair_calls::{AskedRound, pair_decode, pair_garble, pair_input_keys, pair_open, pair_read};
 
 // The rows that a circuit has in the two-party form: 1 to 10, 26.
-#[unsafe(no_mangle)]
-pub extern "C" fn lupiknam_pair_read(file: &[u8], rows: &mut u32) -> Reported
+pub fn lupiknam_pair_read(file: &[u8], rows: &mut u32) -> Reported
     ensures { PairReadCall file.now rows.old result.number result.place rows.new }
 {
     let found = pair_read(file);
@@ -26,8 +25,7 @@ pub extern "C" fn lupiknam_pair_read(file: &[u8], rows: &mut u32) -> Reported
 }
 
 // Rows and output masks of a round, from what the garbler drew, and the named account charged: 1 to 10, 26, 11 for k, 13, 14, 25, 16, 27, 21.
-#[unsafe(no_mangle)]
-pub extern "C" fn lupiknam_pair_garble(
+pub fn lupiknam_pair_garble(
     file: &[u8],
     k: u32,
     round: u32,
@@ -46,8 +44,7 @@ pub extern "C" fn lupiknam_pair_garble(
 }
 
 // The keys of all inputs, from what the garbler drew and one value per input: 1 to 10, 26, 11 for k, 13, 14, 15, 16, 27.
-#[unsafe(no_mangle)]
-pub extern "C" fn lupiknam_pair_input_keys(
+pub fn lupiknam_pair_input_keys(
     file: &[u8],
     k: u32,
     draw: &[u8],
@@ -61,8 +58,7 @@ pub extern "C" fn lupiknam_pair_input_keys(
 }
 
 // The key and the external value of every wire, from the input keys and the rows of a round: 1 to 10, 26, 11 for k, 13, 14, 18.
-#[unsafe(no_mangle)]
-pub extern "C" fn lupiknam_pair_open(
+pub fn lupiknam_pair_open(
     file: &[u8],
     k: u32,
     round: u32,
@@ -80,8 +76,7 @@ pub extern "C" fn lupiknam_pair_open(
 }
 
 // The outputs' values, from external values and output masks: 1 to 10, 14, 15.
-#[unsafe(no_mangle)]
-pub extern "C" fn lupiknam_pair_decode(
+pub fn lupiknam_pair_decode(
     file: &[u8],
     externals: &[u8],
     masks: &[u8],

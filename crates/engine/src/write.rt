@@ -23,8 +23,7 @@ pub fn finish(settled: Settled, laid: Pen, file: &mut [u8], words: &mut u32) -> 
 }
 
 // Writes records as a circuit file: the reader's checks on each, 9, 14, 22. They are judged before anything is laid down.
-#[unsafe(no_mangle)]
-pub extern "C" fn lupiknam_write(
+pub fn lupiknam_write(
     records: &[Record],
     tables: &[u8],
     file: &mut [u8],
@@ -40,12 +39,7 @@ pub extern "C" fn lupiknam_write(
 }
 
 // Takes a circuit file back to records and tables: 1 to 10, 14.
-#[unsafe(no_mangle)]
-pub extern "C" fn lupiknam_records(
-    file: &[u8],
-    records: &mut [Record],
-    tables: &mut [u8],
-) -> Reported
+pub fn lupiknam_records(file: &[u8], records: &mut [Record], tables: &mut [u8]) -> Reported
     ensures { RecordsCall file.now records.old tables.old result.number result.place records.new tables.new }
 {
     let mut fields = no_fields();

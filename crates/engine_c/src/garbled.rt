@@ -1,0 +1,67 @@
+// Garbling, and opening what was garbled.
+ghost use Rattle.calls.specs.Garble.{GarbleCall};
+ghost use Rattle.calls.specs.Open.{OpenCall};
+
+use engine::Reported;
+
+#[unsafe(no_mangle)]
+pub extern "C" fn lupiknam_garble(
+    file: &[u8],
+    n: u32,
+    k: u32,
+    round: u32,
+    account: u32,
+    contributions: &[u8],
+    rows: &mut [u8],
+    input_masks: &mut [u8],
+    output_masks: &mut [u8],
+    meter: &mut [u32; 8],
+) -> Reported
+    ensures { GarbleCall file.now n k round contributions.now rows.old input_masks.old output_masks.old
+        (record { totals = meter.old; account = account }) result.number result.place rows.new input_masks.new output_masks.new meter.new }
+{
+    engine::lupiknam_garble(
+        file,
+        n,
+        k,
+        round,
+        account,
+        contributions,
+        rows,
+        input_masks,
+        output_masks,
+        meter,
+    )
+}
+
+#[unsafe(no_mangle)]
+pub extern "C" fn lupiknam_open(
+    file: &[u8],
+    n: u32,
+    k: u32,
+    party: u32,
+    round: u32,
+    contribution: &[u8],
+    externals: &[u8],
+    keys: &[u8],
+    rows: &[u8],
+    wire_keys: &mut [u8],
+    wire_externals: &mut [u8],
+) -> Reported
+    ensures { OpenCall file.now n k party round contribution.now externals.now keys.now rows.now
+        wire_keys.old wire_externals.old result.number result.place wire_keys.new wire_externals.new }
+{
+    engine::lupiknam_open(
+        file,
+        n,
+        k,
+        party,
+        round,
+        contribution,
+        externals,
+        keys,
+        rows,
+        wire_keys,
+        wire_externals,
+    )
+}
