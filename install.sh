@@ -29,12 +29,11 @@ programs=$(absolute "${LUPIKNAM_BIN-}")
 cd "$(dirname "${BASH_SOURCE[0]}")"
 
 if [ -z "$library" ]; then
-    rt check engine
-    rt staticlib engine
+    tools/build engine
     library=target/staticlib
 fi
 if [ -z "$programs" ]; then
-    rt check price_sheet
+    tools/build price_sheet
     programs=target/bin
 fi
 
