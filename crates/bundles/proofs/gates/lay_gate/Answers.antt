@@ -42,8 +42,7 @@ shape_of-file c = c.put_entries.auto.file ∙ c.put_word.auto.file
 
 pub returns : goal.returns
 returns c = let few = zeros_few c.args.operation c.args.i c.requires.0 c.requires.1 c.zeros_after-count.ensures in
-    let a = c.args in
-    (
+    let a = c.args in (
       omega (arith, c.zeros_after-count.ensures, gate-length a.operation a.a a.i),
       gate-laid a.operation a.a a.i a.at a.file.now (take c.zeros_after-count.result c.zeros-images.result) (first_fits a.i c.requires.0 c.requires.1 c.requires.2)
           c.first_item.ensures

@@ -14,10 +14,10 @@ overflow_add-words-in-loop-i c = omega (arith, c.zeros_after-zeros.ensures, zero
 
 pub loop-i-preserved : goal.loop-i-preserved
 loop-i-preserved c = (
-      omega arith,
-      counts-more c.loop-i.invariant.1 c.zeros_after-zeros.ensures,
-      omega (arith, c.zeros_after-zeros.ensures, zeros_most c.args.operation c.loop-i.i (omega arith)),
-    )
+  omega arith,
+  counts-more c.loop-i.invariant.1 c.zeros_after-zeros.ensures,
+  omega (arith, c.zeros_after-zeros.ensures, zeros_most c.args.operation c.loop-i.i (omega arith)),
+)
 
 pub returns : goal.returns
 returns c = (counts-done (omega arith) (omega arith) c.loop-i.invariant.1, omega arith)

@@ -18,10 +18,10 @@ returns-then-prime-residues c = let xs = c.args.residues.now in
 
 pub loop-i-preserved : goal.loop-i-preserved
 loop-i-preserved c = (
-      omega arith,
-      below_more c.args.residues.now c.loop-i.i c.loop-i.invariant.1
-          (omega (arith, c.prime.ensures, c.if-prime-residues.false)),
-    )
+  omega arith,
+  below_more c.args.residues.now c.loop-i.i c.loop-i.invariant.1
+      (omega (arith, c.prime.ensures, c.if-prime-residues.false)),
+)
 
 pub returns : goal.returns
 returns c = below-done c.args.residues.now (omega arith) (omega arith) c.loop-i.invariant.1

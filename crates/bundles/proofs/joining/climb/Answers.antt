@@ -13,9 +13,9 @@ residue_at-had-requires c = c.requires.0
 
 pub sub-requires : goal.sub-requires
 sub-requires c = let less = mod-lt c.args.x (prime-positive c.args.i c.requires.0) in (
-      omega (arith, less, c.residue_at-had.ensures, c.prime-p.ensures, c.requires.3),
-      omega (arith, less, c.residue_at-had.ensures, c.prime-p.ensures, c.requires.3),
-    )
+  omega (arith, less, c.residue_at-had.ensures, c.prime-p.ensures, c.requires.3),
+  omega (arith, less, c.residue_at-had.ensures, c.prime-p.ensures, c.requires.3),
+)
 
 pub inverse-requires : goal.inverse-requires
 inverse-requires c = c.requires.0

@@ -14,11 +14,11 @@ loop-i-init c = (omega arith, product_none, climbed_none c.args.residues.now)
 
 pub climb-y-requires : goal.climb-y-requires
 climb-y-requires c = (
-      omega arith,
-      c.loop-i.invariant.1,
-      omega (arith, c.loop-i.invariant.1, c.loop-i.invariant.2.below),
-      below_at c.args.residues.now (length c.args.residues.now) c.requires.1 c.loop-i.i (omega (arith, c.loop-i-test.true)),
-    )
+  omega arith,
+  c.loop-i.invariant.1,
+  omega (arith, c.loop-i.invariant.1, c.loop-i.invariant.2.below),
+  below_at c.args.residues.now (length c.args.residues.now) c.requires.1 c.loop-i.i (omega (arith, c.loop-i-test.true)),
+)
 
 pub overflow_mul-m : goal.overflow_mul-m
 overflow_mul-m c = let i = c.loop-i.i in
@@ -26,10 +26,10 @@ overflow_mul-m c = let i = c.loop-i.i in
 
 pub loop-i-preserved : goal.loop-i-preserved
 loop-i-preserved c = (
-      omega arith,
-      product-step c.loop-i.i c.loop-i.invariant.1 (c.byte_wide-m.ensures.0 ∙ c.prime.ensures),
-      climbed_more c.args.residues.now c.loop-i.invariant.2 c.climb-y.ensures,
-    )
+  omega arith,
+  product-step c.loop-i.i c.loop-i.invariant.1 (c.byte_wide-m.ensures.0 ∙ c.prime.ensures),
+  climbed_more c.args.residues.now c.loop-i.invariant.2 c.climb-y.ensures,
+)
 
 pub returns : goal.returns
 returns c = climbed_done c.args.residues.now (omega arith) (omega arith) (omega arith) c.loop-i.invariant.2

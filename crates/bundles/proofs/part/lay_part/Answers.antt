@@ -15,11 +15,11 @@ loop-i-init c = let a = c.args in (omega arith, at_none a.operation a.a, kept_no
 
 pub lay_gate-to-requires : goal.lay_gate-to-requires
 lay_gate-to-requires c = (
-      c.loop-i-test.true,
-      c.requires.0,
-      c.requires.1,
-      omega (arith, c.loop-i.invariant.1, part-most c.args.operation c.loop-i.i c.args.a (omega (arith, c.loop-i-test.true, c.requires.0)), c.loop-i-test.true, c.requires.0),
-    )
+  c.loop-i-test.true,
+  c.requires.0,
+  c.requires.1,
+  omega (arith, c.loop-i.invariant.1, part-most c.args.operation c.loop-i.i c.args.a (omega (arith, c.loop-i-test.true, c.requires.0)), c.loop-i-test.true, c.requires.0),
+)
 
 pub overflow_add-i : goal.overflow_add-i
 overflow_add-i c = omega (arith, c.loop-i-test.true, c.requires.0)
@@ -28,12 +28,11 @@ pub loop-i-smaller : goal.loop-i-smaller
 loop-i-smaller c = omega (arith, c.loop-i-test.true)
 
 pub loop-i-preserved : goal.loop-i-preserved
-loop-i-preserved c = let a = c.args in
-    (
-      omega (arith, c.loop-i-test.true),
-      at_next a.operation a.a c.loop-i.i c.loop-i.invariant.1 c.lay_gate-to.ensures.0,
-      kept_next a.operation a.a c.loop-i.i c.loop-i.invariant.2 c.loop-i.invariant.1 c.lay_gate-to.ensures.1,
-    )
+loop-i-preserved c = let a = c.args in (
+  omega (arith, c.loop-i-test.true),
+  at_next a.operation a.a c.loop-i.i c.loop-i.invariant.1 c.lay_gate-to.ensures.0,
+  kept_next a.operation a.a c.loop-i.i c.loop-i.invariant.2 c.loop-i.invariant.1 c.lay_gate-to.ensures.1,
+)
 
 pub shape_of-file : goal.shape_of-file
 shape_of-file c = c.loop-i.invariant.2.size

@@ -1,4 +1,3 @@
-
 use Rattle.garbling.proofs.Arms.{at-modulus, at_table, at-product, at_choice, entered-rows, sum_rows, multiple_rows, table-rows, product-rows, choice-rows}
 use Rattle.garbling.proofs.gate.gate_rows.Goals as goal
 

@@ -1,4 +1,3 @@
-
 use mathlib.Core.Path.{sym, ap₂, ◌∙◌}
 use native.Mathlib.Omega.{arith}
 use Rattle.contribution.proofs.Sizes.{vector-fits}

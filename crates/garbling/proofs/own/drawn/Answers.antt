@@ -1,4 +1,3 @@
-
 use mathlib.Core.Path.{sym, subst}
 use Prim.Native.Nat.{ℕ, ◌<◌}
 use native.Mathlib.Nat.{mod-lt}
@@ -38,6 +37,6 @@ share_sum-mask-requires c = let a = c.args in
 pub returns : goal.returns
 unfolding mask_at
 returns c = record {
-      whole = record { long = c.keys_at-key.ensures.kept; below = subst (λ (x : ℕ). x < c.args.turn.modulus) (sym c.share_sum-mask.ensures) (mod-lt _ (omega (arith, c.requires.0.modulus))) };
-      is = pair_is c.keys_at-key.ensures.front c.share_sum-mask.ensures;
-    }
+  whole = record { long = c.keys_at-key.ensures.kept; below = subst (λ (x : ℕ). x < c.args.turn.modulus) (sym c.share_sum-mask.ensures) (mod-lt _ (omega (arith, c.requires.0.modulus))) };
+  is = pair_is c.keys_at-key.ensures.front c.share_sum-mask.ensures;
+}

@@ -1,4 +1,3 @@
-
 use mathlib.Core.Path.{subst}
 use Prim.Native.Nat.{ℕ}
 use Rattle.zero.specs.Turn.{keys_at}

@@ -1,4 +1,3 @@
-
 use borrow.Author.Rules.{rules}
 use Rattle.garbling.proofs.pass.garble.Goals as goal
 

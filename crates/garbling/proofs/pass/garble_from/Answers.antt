@@ -1,4 +1,3 @@
-
 use mathlib.Core.Path.{◌∙◌}
 use Rattle.garbling.proofs.Garbled.{inputs_fit, inputs_are}
 use Rattle.garbling.proofs.Sheets.{sheets_hand, sheets_room, sheets_are}

@@ -1,4 +1,3 @@
-
 use mathlib.Core.Path.{refl, sym, ◌∙◌}
 use native.Mathlib.Omega.{arith}
 use Rattle.lists.proofs.Steps.{steps_fits, steps_long, steps_call}
@@ -70,11 +69,11 @@ loop-w-smaller c = omega (arith, c.loop-w-test.true)
 
 pub loop-w-preserved : goal.loop-w-preserved
 loop-w-preserved c = let t = turn-size c.requires.contributed c.requires.zero_keys.0 c.requires.zero_keys.1 c.ranks-ranks.ensures c.moduli-moduli.ensures c.loop-w-test.true c.loop-w.invariant.0 c.row_bytes.ensures refl in (
-      cursor_next c.requires.contributed.held c.args.session.k c.loop-w-test.true c.loop-w.invariant.0 c.record_size-at.ensures,
-      steps_call c.loop-w.invariant.1 c.loop-w-test.true (omega (arith, t)) c.gate_rows.auto.out
-          (turn-rows c.requires.contributed c.requires.zero_keys.0 c.requires.zero_keys.1 c.ranks-ranks.ensures c.moduli-moduli.ensures c.loop-w-test.true c.loop-w.invariant.0 c.row_bytes.ensures refl
-          c.args.session.round c.index_number.result c.number_index.result c.index_number.ensures (record { is = c.number_index.ensures ∙ c.record_count.ensures.is; most = omega (arith, c.number_index.ensures, c.record_count.ensures.most) }) c.recipe_of.ensures c.gate_rows.ensures),
-    )
+  cursor_next c.requires.contributed.held c.args.session.k c.loop-w-test.true c.loop-w.invariant.0 c.record_size-at.ensures,
+  steps_call c.loop-w.invariant.1 c.loop-w-test.true (omega (arith, t)) c.gate_rows.auto.out
+      (turn-rows c.requires.contributed c.requires.zero_keys.0 c.requires.zero_keys.1 c.ranks-ranks.ensures c.moduli-moduli.ensures c.loop-w-test.true c.loop-w.invariant.0 c.row_bytes.ensures refl
+      c.args.session.round c.index_number.result c.number_index.result c.index_number.ensures (record { is = c.number_index.ensures ∙ c.record_count.ensures.is; most = omega (arith, c.number_index.ensures, c.record_count.ensures.most) }) c.recipe_of.ensures c.gate_rows.ensures),
+)
 
 pub shape_of-rows : goal.shape_of-rows
 shape_of-rows c = c.loop-w.invariant.1.kept

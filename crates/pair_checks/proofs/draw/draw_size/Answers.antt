@@ -13,10 +13,10 @@ overflow_add-result c = omega (arith, inputs-made c.requires.0, c.requires.0.roo
 
 pub overflow_mul-result : goal.overflow_mul-result
 overflow_mul-result c = omega (
-      arith,
-      draw-most c.args.k (wires_in c.args.circuit) c.requires.1 c.moduli_used.ensures c.number_index-moduli.ensures
-          c.requires.0.inputs (omega (arith, inputs-made c.requires.0, c.requires.0.room.made)),
-    )
+  arith,
+  draw-most c.args.k (wires_in c.args.circuit) c.requires.1 c.moduli_used.ensures c.number_index-moduli.ensures
+      c.requires.0.inputs (omega (arith, inputs-made c.requires.0, c.requires.0.room.made)),
+)
 
 pub returns : goal.returns
 returns c = draw-counts c.args.k (wires_in c.args.circuit) c.requires.1 c.moduli_used.ensures c.number_index-moduli.ensures

@@ -13,6 +13,6 @@ first_half-requires c = record { fits = (half_fits c.requires.ranged.0 0, ((prod
 
 pub returns : goal.returns
 returns c = let a = c.args in (
-      product_key_is a.turn a.a.now a.b.now a.offset.now c.first_half.ensures.0 c.add_second.ensures.0,
-      product_rows_is a.turn a.a.now a.b.now a.offset.now (both_rows c.requires.ranged.0 a.out.now c.requires.out_len _ c.first_half.auto.out c.add_second.auto.out c.first_half.ensures.1 c.add_second.ensures.1),
-    )
+  product_key_is a.turn a.a.now a.b.now a.offset.now c.first_half.ensures.0 c.add_second.ensures.0,
+  product_rows_is a.turn a.a.now a.b.now a.offset.now (both_rows c.requires.ranged.0 a.out.now c.requires.out_len _ c.first_half.auto.out c.add_second.auto.out c.first_half.ensures.1 c.add_second.ensures.1),
+)

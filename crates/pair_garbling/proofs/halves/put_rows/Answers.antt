@@ -52,10 +52,10 @@ loop-i-smaller c = omega (arith, c.loop-i-test.true)
 pub loop-i-preserved : goal.loop-i-preserved
 unfolding rows_under
 loop-i-preserved c = (
-      stepping_on c.requires.fits.0 c.requires.fits.1.work c.requires.fits.1.offset c.loop-i.invariant.0 c.add_multiple.ensures c.add_multiple.auto.out,
-      steps_call c.loop-i.invariant.1 c.loop-i-test.true refl c.put_row.auto.out
-          (row_under_lem c.args.half c.args.key.now c.args.factors c.args.vector.now c.loop-i.i c.put_row.ensures (c.add_multiple.ensures ∙ c.loop-i.invariant.0.next)),
-    )
+  stepping_on c.requires.fits.0 c.requires.fits.1.work c.requires.fits.1.offset c.loop-i.invariant.0 c.add_multiple.ensures c.add_multiple.auto.out,
+  steps_call c.loop-i.invariant.1 c.loop-i-test.true refl c.put_row.auto.out
+      (row_under_lem c.args.half c.args.key.now c.args.factors c.args.vector.now c.loop-i.i c.put_row.ensures (c.add_multiple.ensures ∙ c.loop-i.invariant.0.next)),
+)
 
 pub shape_of-work : goal.shape_of-work
 unfolding rows_under

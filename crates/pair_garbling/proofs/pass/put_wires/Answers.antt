@@ -48,8 +48,11 @@ pub slice_bounds-put_wire-end-in-loop-w-2 : goal.slice_bounds-put_wire-end-in-lo
 slice_bounds-put_wire-end-in-loop-w-2 c = omega (arith, steps_fits c.loop-w.invariant.1 c.loop-w-test.true, turn-bytes c.requires.drawn.0 c.args.session.round c.ranks-ranks.ensures c.moduli-moduli.ensures c.loop-w-test.true c.row_bytes.ensures)
 
 pub put_wire-requires : goal.put_wire-requires
-put_wire-requires c = let t = turn-bytes c.requires.drawn.0 c.args.session.round c.ranks-ranks.ensures c.moduli-moduli.ensures c.loop-w-test.true c.row_bytes.ensures in record { sourced = sourced c.requires.drawn.0 c.args.session.round c.ranks-ranks.ensures c.moduli-moduli.ensures c.loop-w-test.true c.loop-w.invariant.0
-          (ap (λ (n : ℕ). c.args.session.k * n) (c.number_index.ensures ∙ c.moduli_used.ensures.is)) c.index_number.ensures (steps_long c.loop-w.invariant.1 c.loop-w-test.true (omega (arith, t))); k_in_bounds = steps_fits c.loop-w.invariant.0 c.loop-w-test.true }
+put_wire-requires c = let t = turn-bytes c.requires.drawn.0 c.args.session.round c.ranks-ranks.ensures c.moduli-moduli.ensures c.loop-w-test.true c.row_bytes.ensures in record {
+  sourced = sourced c.requires.drawn.0 c.args.session.round c.ranks-ranks.ensures c.moduli-moduli.ensures c.loop-w-test.true c.loop-w.invariant.0
+      (ap (λ (n : ℕ). c.args.session.k * n) (c.number_index.ensures ∙ c.moduli_used.ensures.is)) c.index_number.ensures (steps_long c.loop-w.invariant.1 c.loop-w-test.true (omega (arith, t)));
+  k_in_bounds = steps_fits c.loop-w.invariant.0 c.loop-w-test.true;
+}
 
 pub overflow_add-place : goal.overflow_add-place
 overflow_add-place c = omega (arith, steps_fits c.loop-w.invariant.0 c.loop-w-test.true, c.loop-w.invariant.0.kept, c.requires.drawn.1, keys_fit c.requires.drawn.0 c.args.session.round)
