@@ -1,5 +1,5 @@
-// A round of two, rehearsed: one function makes every call of it by the C face, on lent memory, and has order 8's claim as its contract. Rests on `pair_round` for
-// the claim and on `engine` for the calls.
+// A round of two, rehearsed: one function makes every call of it, on lent memory, and has order 8's claim as its contract. Rests on `pair_round` for
+// the claim and on `engine` for the calls, which `engine_c` exports.
 
 #![tactic(auto)]
 

@@ -14,7 +14,7 @@ fn no_factors() -> [u8; 256]
     [0u8; 256]
 }
 
-// start + typeof.alpha.step modulo `p`.
+// start + alpha·step modulo `p`.
 pub fn linear_factors(p: u8, start: u8, step: u8) -> [u8; 256]
     requires { start < p }
     ensures { Factors p (λ α. add p start (mul p α step)) result }

@@ -70,7 +70,7 @@ pub fn table_rows(
     );
 }
 
-// A component whose messages are base + (start + typeof.alpha.step)·offset, under the keys zero + alpha·offset.
+// A component whose messages are base + (start + alpha·step)·offset, under the keys zero + alpha·offset.
 fn linear_rows(
     made: Made,
     component: u8,

@@ -27,7 +27,7 @@ module _ (K : ℕ) (wires : List Wire) where
   unfoldable pub share_at : ℕ → ℕ → ℕ
   share_at w j = record_at w + K * record_keys_of wires w + j
 
-  -- K-as-Q + (K + 1)·(I + P + 2M + 3S) bytes
+  -- K·Q + (K + 1)·(I + P + 2M + 3S) bytes
   unfoldable pub contribution_size : ℕ
   contribution_size = K * moduli_used wires + (K + 1) * record_keys_in wires
 
