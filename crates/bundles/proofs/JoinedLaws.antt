@@ -12,7 +12,7 @@ use lib.Dec.{eqb, leb, ltb}
 use lib.ListN.{length, get_or}
 use borrow.Author.Tests.{ltb-true, leb-true, eqb-true, eq-eqb, lt-ltb}
 use Rattle.lists.specs.Blocks.{tab}
-use Rattle.lists.proofs.Blocks.{length-tab, get_or-tab, is-tab}
+use Rattle.lists.proofs.Blocks.{get_or-tab, is-tab}
 use Rattle.lists.proofs.First.{first-only}
 use Rattle.residue.specs.Residue.{mul, sub}
 use Rattle.residue.specs.Prime.{remainders_below, is_prime, primes_below, prime_within, prime_from, PrimeAt}
@@ -115,9 +115,6 @@ product_none = refl
 
 pub product-step : (i : ℕ) {m p : ℕ} → m ≡ product i → p ≡ prime i → m * p ≡ product (i + 1)
 product-step i e f = ap₂ (λ (x y : ℕ). x * y) e f ∙ sym (product-next i)
-
-pub product-done : {i r m : ℕ} → i ≤ r → r ≤ i → m ≡ product i → m ≡ product r
-product-done {i} {r} h k e = let s : i ≡ r = omega arith in e ∙ ap product s
 
 -- ---- the inverses
 
@@ -243,14 +240,6 @@ climb_fits i s inv {m} {x} {p} {t} {w} h e l f a b =
     omega (arith, mul-le-mul_left m less, product-step i e f, product-most (i + 1) (omega arith))
 
 -- ---- splitting and joining
-
-pub split-length : (r x : ℕ) → length (split r x) ≡ r
-unfolding split
-split-length r x = length-tab r (λ i. x % prime i)
-
-pub split_at : (r x i : ℕ) → i < r → get_or (split r x) i 0 ≡ x % prime i
-unfolding split
-split_at r x i h = get_or-tab r (λ i. x % prime i) i 0 h
 
 pub join_any : SplitIsReduced
 unfolding split

@@ -9,7 +9,6 @@ use native.Mathlib.Numerals.{add-one}
 use native.Mathlib.Omega.{arith}
 use lib.Dec.{eqb, eqb-suc-zero}
 use lib.ListN.{length, replicate, take, length-append, length-map, length-replicate}
-use borrow.Author.Tests.{eq-eqb, ne_eqb}
 use Rattle.lists.specs.Blocks.{blocks, tab}
 use Rattle.lists.proofs.Blocks.{replicate-tab, take-replicate}
 use Rattle.words.specs.declared.item.Item.{Item}
@@ -25,7 +24,7 @@ use Rattle.writer.proofs.HoldingTables.{kept_many}
 use Rattle.bundles.specs.declared.operation.Operation.{Operation}
 use Rattle.bundles.specs.Primes.{prime}
 use Rattle.bundles.specs.Part.{PartGate, items_of, words_of, scaled, gate_at, part_words}
-use Rattle.bundles.specs.Laying.{scaled_item, first_item, zeros_after, gate_words, Counts, Placed}
+use Rattle.bundles.specs.Laying.{scaled_item, first_item, zeros_after, gate_words, Counts, taken_to}
 use Rattle.bundles.proofs.JoinedLaws.{prime-most, prime-positive}
 
 -- ---- gate by gate
@@ -94,7 +93,7 @@ pub counts_none : (operation : Operation) → Counts operation 0 0
 unfolding words_of blocks
 counts_none operation = record { count = λ a. refl }
 
-pub counts-more : {operation : Operation} {i words zeros : ℕ} → Counts operation i words → zeros ≡ zeros_after operation i → Counts operation (i + 1) (words + 1 + zeros)
+pub counts-more : {operation : Operation} {i words zeros : ℕ} → Counts operation i words → zeros ≡ zeros_after operation i → Counts operation (i + 1) (words + (1 + zeros))
 counts-more {operation} {i} {words} {zeros} c e =
     record {
       count = λ a.
@@ -112,49 +111,14 @@ counts-done {operation} {i} {r} {words} h k c = let s : i ≡ r = omega arith in
 
 -- ---- as the code finds it
 
-module _ {operation : Operation} where
-  pub item_add : {b place : ℕ} (a i : ℕ) → operation ≡ Operation.Add b → place ≡ i → Item.Add (a + place) (b + place) ≡ first_item operation a i
-  item_add {b} a i e f = ap (λ (n : ℕ). Item.Add (a + n) (b + n)) f ∙ sym (ap (λ (o : Operation). first_item o a i) e)
-
-  pub item_multiply : {b place : ℕ} (a i : ℕ) → operation ≡ Operation.Multiply b → place ≡ i → Item.Multiply (a + place) (b + place) ≡ first_item operation a i
-  item_multiply {b} a i e f = ap (λ (n : ℕ). Item.Multiply (a + n) (b + n)) f ∙ sym (ap (λ (o : Operation). first_item o a i) e)
-
-  pub item_scaled : {constant place residue p : ℕ} {item : Item} (a i : ℕ) → operation ≡ Operation.Scale constant → place ≡ i → residue ≡ constant % prime i → p ≡ prime i
-      → item ≡ scaled_item residue p (a + place) → item ≡ first_item operation a i
-  item_scaled {constant} {place} {residue} {p} a i e f g h k =
-      k
-      ∙ ap (λ (n : ℕ). scaled_item residue p (a + n)) f
-      ∙ ap₂ (λ (x y : ℕ). scaled_item x y (a + i)) g h
-      ∙ sym (ap (λ (o : Operation). first_item o a i) e)
-
-  pub zeros_add : {b : ℕ} (i : ℕ) → operation ≡ Operation.Add b → 0 ≡ zeros_after operation i
-  zeros_add i e = sym (ap (λ (o : Operation). zeros_after o i) e)
-
-  pub zeros_multiply : {b : ℕ} (i : ℕ) → operation ≡ Operation.Multiply b → 0 ≡ zeros_after operation i
-  zeros_multiply i e = sym (ap (λ (o : Operation). zeros_after o i) e)
-
-  pub zeros_scaled : {constant residue p n : ℕ} (i : ℕ) → operation ≡ Operation.Scale constant → residue ≡ constant % prime i → residue ≡ 0 → p ≡ prime i → n ≡ p → n ≡ zeros_after operation i
-  zeros_scaled {constant} i e g z h k =
-      k ∙ h
-      ∙ sym (ap (λ (b : Bool). cond b (prime i) 0) (eq-eqb (constant % prime i) 0 (sym g ∙ z)))
-      ∙ sym (ap (λ (o : Operation). zeros_after o i) e)
-
-  pub zeros_none : {constant residue : ℕ} (i : ℕ) → operation ≡ Operation.Scale constant → residue ≡ constant % prime i → (residue ≡ 0 → ⊥) → 0 ≡ zeros_after operation i
-  zeros_none {constant} i e g z =
-      sym (ap (λ (b : Bool). cond b (prime i) 0) (ne_eqb (constant % prime i) 0 (λ w. z (g ∙ w))))
-      ∙ sym (ap (λ (o : Operation). zeros_after o i) e)
-
-pub scaled-zero : {constant factor p q : ℕ} (a : ℕ) → factor ≡ constant → factor ≡ 0 → q ≡ p → Project q a ≡ scaled_item constant p a
+pub scaled-zero : {constant : ℕ} (p a : ℕ) → constant ≡ 0 → Project p a ≡ scaled_item constant p a
 unfolding scaled_item
-scaled-zero {p = p} a e f g = ap (λ (n : ℕ). Project n a) g ∙ sym (ap (λ (n : ℕ). scaled_item n p a) (sym e ∙ f))
+scaled-zero p a e = sym (ap (λ (n : ℕ). scaled_item n p a) e)
 
-scale_some : (n p a : ℕ) → (n ≡ 0 → ⊥) → Item.Scale n a ≡ scaled_item n p a
+pub scaled_some : (constant p a : ℕ) → (constant ≡ 0 → ⊥) → Item.Scale constant a ≡ scaled_item constant p a
 unfolding scaled_item
-scale_some zero p a h = absurd (h refl)
-scale_some (suc n) p a h = refl
-
-pub scaled_some : {constant factor : ℕ} (p a : ℕ) → factor ≡ constant → (factor ≡ 0 → ⊥) → Item.Scale factor a ≡ scaled_item constant p a
-scaled_some {factor = factor} p a e f = scale_some factor p a f ∙ ap (λ (n : ℕ). scaled_item n p a) e
+scaled_some zero p a h = absurd (h refl)
+scaled_some (suc n) p a h = refl
 
 -- ---- its first word has room for its fields
 
@@ -163,30 +127,13 @@ unfolding scaled_item
 scaled_fits zero p a h k l = Fits.project k l
 scaled_fits (suc c) p a h k l = Fits.scale h l
 
-both_added : {r a b : ℕ} → Placed r a (Operation.Add b) → (a + r ≤ 1024) × (b + r ≤ 1024)
-both_added (Placed.add s t) = (s, t)
-
-both_multiplied : {r a b : ℕ} → Placed r a (Operation.Multiply b) → (a + r ≤ 1024) × (b + r ≤ 1024)
-both_multiplied (Placed.multiply s t) = (s, t)
-
-module _ {r a : ℕ} {operation : Operation} (p : Placed r a operation) where
-  pub placed-add : {b : ℕ} → operation ≡ Operation.Add b → (a + r ≤ 1024) × (b + r ≤ 1024)
-  placed-add e = both_added (subst (Placed r a) e p)
-
-  pub placed_multiply : {b : ℕ} → operation ≡ Operation.Multiply b → (a + r ≤ 1024) × (b + r ≤ 1024)
-  placed_multiply e = both_multiplied (subst (Placed r a) e p)
-
-pub placed_first : {r a : ℕ} {operation : Operation} → Placed r a operation → a + r ≤ 1024
-placed_first (Placed.add s t) = s
-placed_first (Placed.multiply s t) = s
-placed_first (Placed.scale s) = s
-
-pub first_fits : {r a : ℕ} {operation : Operation} (i : ℕ) → i < r → r ≤ 10 → Placed r a operation → Fits (first_item operation a i)
-first_fits {a = a} i h l (Placed.add {b} s t) = Fits.add {a = a + i} {b = b + i} (omega (arith, s)) (omega (arith, t))
-first_fits {a = a} i h l (Placed.multiply {b} s t) = Fits.multiply {a = a + i} {b = b + i} (omega (arith, s)) (omega (arith, t))
-first_fits {a = a} i h l (Placed.scale {constant} s) =
+pub first_fits : (operation : Operation) (a i : ℕ) {r : ℕ} → i < r → r ≤ 10 → taken_to operation a r ≤ 1024 → Fits (first_item operation a i)
+first_fits (Operation.Add b) a i h l t = Fits.add {a = a + i} {b = b + i} (omega arith) (omega arith)
+first_fits (Operation.Multiply b) a i h l t = Fits.multiply {a = a + i} {b = b + i} (omega arith) (omega arith)
+first_fits (Operation.Scale constant) a i h l t =
     let k : i < 10 = omega arith in
-    scaled_fits (constant % prime i) (prime i) (a + i) (omega (arith, mod-lt constant (prime-positive i k), prime-most i k)) (omega (arith, prime-most i k)) (omega (arith, s))
+    scaled_fits (constant % prime i) (prime i) (a + i) (omega (arith, mod-lt constant (prime-positive i k), prime-most i k)) (omega (arith, prime-most i k))
+    (omega arith)
 
 -- ---- laid down
 

@@ -2,8 +2,6 @@
 -- refusal is 0.
 -- Assumes nothing.
 use Rattle.std.specs.Prelude.{◌≡◌, Bool, ◌&&◌, List, ℕ, ◌+◌, ◌*◌, eqb, leb, ltb, length}
-use Rattle.checks.specs.declared.Answer.{Answer}
-use Rattle.checks.specs.declared.Answer.TheVariants.{Accepted}
 use Rattle.checks.specs.declared.Refusal.TheVariants.{NotMade, TooMany, WrongLength, TooShort, BundleRange, IntegerTooLarge}
 use Rattle.checks.specs.Checked.{Reports, and_then, unless, afterwards}
 use Rattle.writer.specs.Call.{file_with}
@@ -11,6 +9,7 @@ use Rattle.bundles.specs.declared.operation.Operation.{Operation}
 use Rattle.bundles.specs.Primes.{product}
 use Rattle.bundles.specs.Integers.{split, join, all_below}
 use Rattle.bundles.specs.Part.{part_words}
+use Rattle.checks.specs.Answer.{Answer, accepts}
 
 -- 23: "r from 2 to 10"
 unfoldable pub range_checked : ℕ → Answer
@@ -42,8 +41,8 @@ pub record JoinCall (r : ℕ) (residues : List ℕ) (integer₀ : ℕ) (number p
 
 -- 24 for a part: the constant of a scaling
 abbrev pub constant_checked : Operation → ℕ → Answer
-constant_checked (Operation.Add b) r = Accepted
-constant_checked (Operation.Multiply b) r = Accepted
+constant_checked (Operation.Add b) r = accepts
+constant_checked (Operation.Multiply b) r = accepts
 constant_checked (Operation.Scale constant) r = integer_checked r constant
 
 -- 5: each bundle is wholly below the part's first wire

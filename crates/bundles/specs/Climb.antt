@@ -1,9 +1,9 @@
 -- How residues are joined, prime by prime: a number that has the residues so far is raised to one that has the next as well.
 -- Assumes nothing.
-use Rattle.std.specs.Prelude.{◌≡◌, List, ℕ, ◌*◌, ◌%◌, ◌<◌, length, get_or}
+use Rattle.std.specs.Prelude.{◌≡◌, List, ℕ, ◌*◌, ◌%◌, ◌<◌, length, get_or, Result, IfOk}
 use Rattle.residue.specs.Residue.{mul}
-use Rattle.checks.specs.Checked.{afterwards}
-use Rattle.bundles.specs.declared.joining.Joined.{Joined}
+use Rattle.checks.specs.declared.Refused.{Refused}
+use Rattle.checks.specs.Answer.{answer_of}
 use Rattle.bundles.specs.Primes.{prime, product}
 use Rattle.bundles.specs.Integers.{join}
 use Rattle.bundles.specs.Call.{join_checked}
@@ -29,6 +29,6 @@ pub record Climbed (residues : List ℕ) (i x : ℕ) : Type 0 where
   pub has : (j : ℕ) → j < i → x % prime j ≡ get_or residues j 0
 
 -- what joining promises below the C face
-pub record Joins (r : ℕ) (residues : List ℕ) (found : Joined) : Type 0 where
-  pub answer : found.answer ≡ join_checked r residues
-  pub integer : found.integer ≡ afterwards (join_checked r residues) (join r residues) 0
+pub record Joins (r : ℕ) (residues : List ℕ) (found : Result ℕ Refused) : Type 0 where
+  pub answer : answer_of found ≡ join_checked r residues
+  pub integer : IfOk found (λ x. x ≡ join r residues)

@@ -13,7 +13,7 @@ mod part;
 mod primes;
 mod splitting;
 
-pub use joining::{Joined, join};
+pub use joining::join;
 pub use operation::Operation;
-pub use part::{Part, write_part};
+pub use part::write_part;
 pub use splitting::split;

@@ -2,7 +2,6 @@
 ghost use Rattle.std.specs.Prelude.{◌≡◌, ◌≤◌, ◌<◌};
 ghost use Rattle.bundles.specs.Primes.{prime, product};
 
-use lists::byte_wide;
 use residue::prime_table;
 
 pub fn prime(i: usize) -> u8
@@ -19,11 +18,8 @@ pub fn product(r: usize) -> u64
     ensures { result ≡ product r }
 {
     let mut all = 1u64;
-    let mut i = 0;
-    while i < r {
-        let p = byte_wide(prime(i));
-        all = all * p;
-        i += 1;
+    for i in 0..r {
+        all *= u64::from(prime(i));
     }
     all
 }

@@ -5,13 +5,13 @@ use Rattle.std.specs.Prelude.{◌≡◌, Bool, ◌&&◌, ◌||◌, cond, ltb, Li
 use Rattle.lists.specs.Blocks.{tab}
 use Rattle.residue.specs.Residue.{sub}
 use Rattle.checks.specs.declared.Refusal.TheVariants.{ValueTooLarge}
-use Rattle.checks.specs.declared.Answer.{Answer}
 use Rattle.checks.specs.Checked.{Reports, and_then, none_bad, afterwards}
 use Rattle.words.specs.declared.gate.Wire.{Wire}
 use Rattle.circuit.specs.Wires.{modulus_at}
 use Rattle.circuit.specs.File.{read_file}
 use Rattle.circuit.specs.Named.{readable}
 use Rattle.session.specs.Session.{file_checked, parties_checked, party_checked, partakers_checked, lengths_checked, too_large}
+use Rattle.checks.specs.Answer.{Answer}
 
 -- on the wires and outputs of a circuit, by someone who may read certain outputs
 module _ (wires : List Wire) (outputs : List ℕ) (may : ℕ → Bool) (externals masks : List ℕ) where

@@ -4,13 +4,13 @@ use Rattle.std.specs.Prelude.{◌≡◌, ◌||◌, cond, List, [], ◌∷◌, �
 use Rattle.lists.specs.Blocks.{blocks, tab}
 use Rattle.residue.specs.Residue.{add}
 use Rattle.checks.specs.declared.Refusal.TheVariants.{ValueTooLarge}
-use Rattle.checks.specs.declared.Answer.{Answer}
 use Rattle.checks.specs.Checked.{Reports, and_then, none_bad, afterwards}
 use Rattle.words.specs.declared.gate.Wire.{Wire}
 use Rattle.circuit.specs.Wires.{wire_at, modulus_at}
 use Rattle.circuit.specs.File.{read_file}
 use Rattle.counts.specs.Counts.{owned_by}
 use Rattle.session.specs.Session.{file_checked, parties_checked, party_checked, partakers_checked, lengths_checked, too_large}
+use Rattle.checks.specs.Answer.{Answer}
 
 -- the wires of a party's own inputs, ascending
 unfoldable pub own_inputs : ℕ → List Wire → List ℕ

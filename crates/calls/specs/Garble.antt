@@ -2,7 +2,6 @@
 -- back, the named account charged.
 -- Assumes nothing.
 use Rattle.std.specs.Prelude.{◌≡◌, List, [], ◌∷◌, ℕ, ◌*◌, length}
-use Rattle.checks.specs.declared.Answer.{Answer}
 use Rattle.checks.specs.Checked.{Reports, and_then, afterwards}
 use Rattle.meter.specs.Meter.{Charge, account_checked, meter_checked, charged}
 use Rattle.words.specs.declared.gate.Wire.{Wire}
@@ -15,6 +14,7 @@ use Rattle.pads.specs.Pad.{Pad, shake_pad}
 use Rattle.scheme.specs.Rows.{garbled_rows, input_masks, output_sheets}
 use Rattle.session.specs.Session.{file_checked, session_checked, partakers_checked, lengths_checked}
 use Rattle.scheme.specs.Bytes.{contributions_checked, offsets_checked}
+use Rattle.checks.specs.Answer.{Answer}
 
 -- on the wires and outputs of a circuit: 16 and 17
 abbrev pub garble_bytes : ℕ → ℕ → List Wire → List ℕ → Answer

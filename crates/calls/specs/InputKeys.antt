@@ -3,7 +3,6 @@
 use Rattle.std.specs.Prelude.{◌≡◌, List, [], ◌∷◌, ℕ, ◌*◌, length, get_or}
 use Rattle.lists.specs.Blocks.{blocks}
 use Rattle.residue.specs.Vector.{key_v}
-use Rattle.checks.specs.declared.Answer.{Answer}
 use Rattle.checks.specs.Checked.{Reports, and_then, afterwards}
 use Rattle.words.specs.declared.gate.Wire.{Wire}
 use Rattle.circuit.specs.Wires.{modulus_at, inputs_in}
@@ -12,6 +11,7 @@ use Rattle.scheme.specs.Contribution.{contribution_size}
 use Rattle.scheme.specs.Draw.{Draw, drawn}
 use Rattle.session.specs.Session.{file_checked, session_checked, party_checked, partakers_checked, lengths_checked, values_checked}
 use Rattle.scheme.specs.Bytes.{contributions_checked, offsets_checked}
+use Rattle.checks.specs.Answer.{Answer}
 
 -- a party's key on input w: its zero key plus the external value times its offset
 unfoldable pub input_key : List Wire → Draw → List ℕ → ℕ → List ℕ

@@ -4,7 +4,6 @@
 use Rattle.std.specs.Prelude.{◌≡◌, Bool, not, List, [], ◌∷◌, ℕ, ◌+◌, ◌*◌, length, get_or, replicate}
 use Rattle.lists.specs.Blocks.{nth_piece}
 use Rattle.checks.specs.declared.Refusal.TheVariants.{WrongInputKey, NoMultiplier}
-use Rattle.checks.specs.declared.Answer.{Answer}
 use Rattle.checks.specs.Checked.{Reports, and_then, none_bad, afterwards}
 use Rattle.words.specs.declared.gate.Wire.{Wire}
 use Rattle.circuit.specs.Wires.{modulus_at, inputs_in}
@@ -18,6 +17,7 @@ use Rattle.scheme.specs.Opening.{opened, wire_keys, wire_externals, nothing}
 use Rattle.session.specs.Session.{file_checked, session_checked, party_checked, partakers_checked, lengths_checked, values_checked}
 use Rattle.scheme.specs.Bytes.{contributions_checked, offsets_checked, keys_checked, rows_checked}
 use Rattle.calls.specs.InputKeys.{input_key}
+use Rattle.checks.specs.Answer.{Answer}
 
 -- on the wires of a circuit
 module _ (n K : ℕ) (wires : List Wire) (contribution externals keys rows : List ℕ) where

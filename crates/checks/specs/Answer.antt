@@ -1,10 +1,9 @@
 -- Document 01, "Where each check stands", and document 02: the number of each refusal. An accepted call has number and place 0.
 -- Assumes nothing.
-use Rattle.std.specs.Prelude.{ℕ}
+use Rattle.std.specs.Prelude.{◌≡◌, ℕ, Result, Ok, Err}
 use Rattle.checks.specs.declared.Refusal.{Refusal}
 use Rattle.checks.specs.declared.Refusal.TheVariants.{NoHead, UnknownWord, NotDue, NotPrime, NotMade, ModuliDiffer, OutOfRange, TooMany, NoOutput, WrongEnd, SessionRange, NoSuchParty, OwnerAbsent, WrongLength, ValueTooLarge, ContributionTooLarge, ZeroOffset, KeyOrRowTooLarge, WrongInputKey, NoMultiplier, MeterFull, TooShort, BundleRange, IntegerTooLarge, NoSuchAccount, SelectPresent, OffsetNotOne, NamedAbsent}
-use Rattle.checks.specs.declared.Answer.{Answer}
-use Rattle.checks.specs.declared.Answer.TheVariants.{Accepted, Refused}
+use Rattle.checks.specs.declared.Refused.{Refused}
 
 abbrev pub number_of : Refusal → ℕ
 -- the first word is absent, or not the head
@@ -64,11 +63,30 @@ number_of OffsetNotOne = 27
 -- a party named by an output not below the number of parties
 number_of NamedAbsent = 28
 
+-- a reason's number, as a relation
+abbrev pub NumberOf : Refusal → ℕ → Type 0
+NumberOf reason number = number ≡ number_of reason
+
+-- an answer: accepted, or refused for a reason at a place
+abbrev pub Answer : Type 0
+Answer = Result (Unit {0}) Refused
+
+abbrev pub accepts : Answer
+accepts = Ok tt
+
+abbrev pub refuses : Refusal → ℕ → Answer
+refuses reason place = Err (record { reason = reason; place = place })
+
 -- an answer's number and place, 0 and 0 where the call is accepted
 abbrev pub number_in : Answer → ℕ
-number_in Accepted = 0
-number_in (Refused reason place) = number_of reason
+number_in (Ok done) = 0
+number_in (Err why) = number_of why.reason
 
 abbrev pub place_in : Answer → ℕ
-place_in Accepted = 0
-place_in (Refused reason place) = place
+place_in (Ok done) = 0
+place_in (Err why) = why.place
+
+-- whether a call that gives a value where it accepts does
+abbrev pub answer_of : {A : Type 0} → Result A Refused → Answer
+answer_of (Ok value) = accepts
+answer_of (Err why) = Err why

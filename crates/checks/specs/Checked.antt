@@ -1,22 +1,20 @@
 -- Document 01, "Where each check stands": what checks come to, which is an answer, and what a call then tells its caller and leaves in what it
 -- was lent.
 -- Assumes nothing.
-use Rattle.std.specs.Prelude.{◌≡◌, Bool, true, false, ℕ, leb}
+use Rattle.std.specs.Prelude.{◌≡◌, Bool, true, false, ℕ, leb, Ok, Err}
 use Rattle.lists.specs.First.{first}
 use Rattle.checks.specs.declared.Refusal.{Refusal}
-use Rattle.checks.specs.declared.Answer.{Answer}
-use Rattle.checks.specs.declared.Answer.TheVariants.{Accepted, Refused}
-use Rattle.checks.specs.Answer.{number_in, place_in}
+use Rattle.checks.specs.Answer.{Answer, accepts, refuses, number_in, place_in}
 
 -- a check is made where those before it accept
 unfoldable pub and_then : Answer → Answer → Answer
-and_then Accepted next = next
-and_then (Refused reason place) next = Refused reason place
+and_then (Ok done) next = next
+and_then (Err why) next = Err why
 
 -- one test, refused at a place
 unfoldable pub unless : Bool → Refusal → ℕ → Answer
-unless true reason place = Accepted
-unless false reason place = Refused reason place
+unless true reason place = accepts
+unless false reason place = refuses reason place
 
 -- what a search of the numbers below n comes to: refused at the one that it found; a number not below n tells that there was none
 abbrev pub named : ℕ → ℕ → Refusal → Answer
@@ -33,5 +31,5 @@ pub record Reports (answer : Answer) (number place : ℕ) : Type 0 where
 
 -- what a lent buffer holds after the call: what is written where the call is accepted, what it held where it is refused
 unfoldable pub afterwards {ℓ} : {A : Type ℓ} → Answer → A → A → A
-afterwards Accepted new old = new
-afterwards (Refused reason place) new old = old
+afterwards (Ok done) new old = new
+afterwards (Err why) new old = old

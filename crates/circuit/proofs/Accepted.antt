@@ -10,7 +10,6 @@ use lib.Dec.{ltb}
 use lib.ListN.{length}
 use borrow.Author.Tests.{ltb-true}
 use Rattle.residue.proofs.Table.{and_left}
-use Rattle.checks.specs.declared.Answer.TheVariants.{Accepted}
 use Rattle.checks.proofs.Passed.{never}
 use Rattle.words.specs.declared.gate.Wire.{Wire}
 use Rattle.words.specs.declared.gate.Due.{Due}
@@ -19,10 +18,11 @@ use Rattle.words.specs.declared.gate.Step.{Step}
 use Rattle.circuit.specs.File.{Read, words_in, ended, after, read_from, headed, read_file}
 use Rattle.circuit.specs.Accepted.{AcceptedCircuit}
 use Rattle.circuit.proofs.State.{Sound, State, Next, next, nothing}
+use Rattle.checks.specs.Answer.{accepts}
 
 -- what acceptance is to give
 abbrev Good : List ℕ → Read → Type 0
-Good file read = read.answer ≡ Accepted → AcceptedCircuit file read.wires read.outputs
+Good file read = read.answer ≡ accepts → AcceptedCircuit file read.wires read.outputs
 
 finish :
     (b : Bool) (file : List ℕ) (at : ℕ) (wires : List Wire) (given named : List ℕ)
@@ -70,6 +70,6 @@ begun true file h e = from file (words_in file - 1) 1 Inputs [] [] (omega (arith
 begun false file h e = never e
 
 -- an accepted file's circuit is as document 01 says
-pub accepted : (file : List ℕ) → (read_file file).answer ≡ Accepted → AcceptedCircuit file (read_file file).wires (read_file file).outputs
+pub accepted : (file : List ℕ) → (read_file file).answer ≡ accepts → AcceptedCircuit file (read_file file).wires (read_file file).outputs
 unfolding read_file
 accepted file = begun _ file (λ e. ltb-true 0 (words_in file) (and_left (ltb 0 (words_in file)) _ e))

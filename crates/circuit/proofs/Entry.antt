@@ -7,14 +7,14 @@ use Prim.Native.Nat.{ℕ, zero, suc, ◌+◌, ◌-◌, ◌≤◌, ◌<◌, min}
 use native.Mathlib.Omega.{arith}
 use lib.Dec.{leb-suc-suc}
 use lib.ListN.{take}
-use borrow.Author.Tests.{le-leb, lt-leb}
+use borrow.Author.Tests.{lt-leb}
 use Rattle.words.specs.Bits.{word_at}
 use Rattle.words.specs.Items.{after_entry}
 use Rattle.words.specs.Entries.{good_entry, GoodEntries}
 use Rattle.words.proofs.Steps.{good-entry}
 use Rattle.words.specs.declared.gate.Wire.{Wire}
 use Rattle.words.specs.declared.gate.Due.{Due}
-use Rattle.words.specs.declared.gate.Due.TheVariants.{Gates, Entries}
+use Rattle.words.specs.declared.gate.Due.TheVariants.{Entries}
 use Rattle.words.specs.declared.gate.Step.TheVariants.{Goes}
 use Rattle.circuit.specs.File.{words_in}
 use Rattle.circuit.specs.Entry.{after_run}
@@ -91,17 +91,3 @@ ran l left modulus zero d h e = absurd (omega arith)
 ran {file} {wires} {moduli} {outputs} {made} {inputs} {given} {at} l left modulus (suc run) d h e =
     several file wires moduli outputs made inputs given modulus run left at (rw d at l) (omega (arith, e.most)) (omega (arith, e.most, l.inside))
     e.good
-
--- the number of words that are asked for is the smaller one
-pub fewer :
-    {file : List ℕ} {at modulus run : ℕ} (count left ahead : ℕ)
-    → GoodEntries file at count modulus run
-    → count ≡ min left ahead
-    → GoodEntries file at (min left ahead) modulus run
-fewer count left ahead g e = rw e at g
-
-pub after-all : (left modulus run : ℕ) → left ≤ run → Gates ≡ after_run left modulus run
-after-all left modulus run h = sym (rw (le-leb left run h) refl)
-
-pub after_some : (left modulus run : ℕ) → run < left → Entries (left - run) modulus ≡ after_run left modulus run
-after_some left modulus run h = sym (rw (lt-leb left run h) refl)

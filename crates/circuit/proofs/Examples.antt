@@ -6,12 +6,12 @@ use mathlib.Core.List.{List, [], ◌∷◌, ◌++◌}
 use Prim.Native.Nat.{ℕ, ◌/◌, ◌%◌}
 use Rattle.residue.specs.Prime.{remainders_below, is_prime}
 use Rattle.checks.specs.declared.Refusal.TheVariants.{NotMade, NoOutput, WrongEnd}
-use Rattle.checks.specs.declared.Answer.TheVariants.{Accepted, Refused}
 use Rattle.words.specs.Items.{check, after_entry}
 use Rattle.words.specs.Reading.{said, read_word}
 use Rattle.circuit.specs.File.{ended, after, read_from, headed, read_file}
 use Rattle.circuit.specs.Accepted.{AcceptedCircuit}
 use Rattle.circuit.proofs.Accepted.{accepted}
+use Rattle.checks.specs.Answer.{accepts, refuses}
 
 abbrev bytes : List ℕ → List ℕ
 bytes [] = []
@@ -26,7 +26,7 @@ gates =
 abbrev six_kinds : List ℕ
 six_kinds = bytes (gates ++ (0xa000_0006 ∷ 0xb000_0000 ∷ []))
 
-six-kinds : (read_file six_kinds).answer ≡ Accepted
+six-kinds : (read_file six_kinds).answer ≡ accepts
 unfolding read_file headed read_from after ended read_word said check after_entry is_prime remainders_below
 six-kinds = refl
 
@@ -34,18 +34,18 @@ pub six_kinds_accepted : AcceptedCircuit six_kinds (read_file six_kinds).wires (
 six_kinds_accepted = accepted six_kinds six-kinds
 
 -- an output that is not made; no output; no end word, with a byte left over or not; a byte after the end word
-not_made : (read_file (bytes (gates ++ (0xa000_0007 ∷ 0xb000_0000 ∷ [])))).answer ≡ Refused NotMade 11
+not_made : (read_file (bytes (gates ++ (0xa000_0007 ∷ 0xb000_0000 ∷ [])))).answer ≡ refuses NotMade 11
 unfolding read_file headed read_from after ended read_word said check after_entry is_prime remainders_below
 not_made = refl
 
-no_output : (read_file (bytes (gates ++ (0xb000_0000 ∷ 0xb000_0000 ∷ [])))).answer ≡ Refused NoOutput 11
+no_output : (read_file (bytes (gates ++ (0xb000_0000 ∷ 0xb000_0000 ∷ [])))).answer ≡ refuses NoOutput 11
 unfolding read_file headed read_from after ended read_word said check after_entry is_prime remainders_below
 no_output = refl
 
-no_end : (read_file (bytes (gates ++ (0xa000_0006 ∷ [])) ++ (0 ∷ []))).answer ≡ Refused WrongEnd 12
+no_end : (read_file (bytes (gates ++ (0xa000_0006 ∷ [])) ++ (0 ∷ []))).answer ≡ refuses WrongEnd 12
 unfolding read_file headed read_from after ended read_word said check after_entry is_prime remainders_below
 no_end = refl
 
-byte_left : (read_file (six_kinds ++ (0 ∷ []))).answer ≡ Refused WrongEnd 13
+byte_left : (read_file (six_kinds ++ (0 ∷ []))).answer ≡ refuses WrongEnd 13
 unfolding read_file headed read_from after ended read_word said check after_entry is_prime remainders_below
 byte_left = refl

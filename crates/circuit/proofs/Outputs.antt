@@ -15,8 +15,6 @@ use borrow.Author.Tests.{ltb-true, leb-true}
 use Rattle.residue.proofs.Table.{and_left}
 use Rattle.lists.specs.Blocks.{blocks}
 use Rattle.lists.proofs.Blocks.{length-tab, get_or-tab}
-use Rattle.checks.specs.declared.Answer.{Answer}
-use Rattle.checks.specs.declared.Answer.TheVariants.{Accepted}
 use Rattle.checks.specs.declared.Refusal.{Refusal}
 use Rattle.checks.specs.declared.Refusal.TheVariants.{NoHead, WrongEnd}
 use Rattle.words.specs.Bits.{kind, word_at, named}
@@ -27,12 +25,13 @@ use Rattle.words.specs.declared.gate.Wire.{Wire}
 use Rattle.words.specs.declared.gate.Due.{Due}
 use Rattle.words.specs.declared.gate.Due.TheVariants.{Inputs, Outputs, Entries, Branches}
 use Rattle.words.specs.declared.gate.Step.{Step}
-use Rattle.words.specs.declared.gate.Step.TheVariants.{Refused, Makes, Goes, Gives, Ends}
+use Rattle.words.specs.declared.gate.Step.TheVariants.{Makes, Goes, Gives, Ends}
 use Rattle.words.specs.declared.item.Item.{Item}
 use Rattle.circuit.specs.Wires.{moduli_of}
 use Rattle.circuit.specs.File.{Read, refused, words_in, named_before, ended, after, read_from, headed, read_file}
 use Rattle.circuit.proofs.More.{length_more, each}
 use Rattle.circuit.proofs.State.{not-true}
+use Rattle.checks.specs.Answer.{Answer, accepts, refuses}
 
 -- of what a file comes to: the words before its last one are the outputs' own, each with its wire and with whom it names
 pub record NamedThere (file : List ℕ) (read : Read) : Type 0 where
@@ -124,7 +123,7 @@ module _ (file : List ℕ) (at : ℕ) (given : List ℕ) (b : Behind file at giv
 
 -- what a word leaves behind, by what it does
 data Next (file : List ℕ) (at : ℕ) (given : List ℕ) : Step → Type 0 where
-  stops : {reason : Refusal} → Next file at given (Refused reason)
+  stops : {reason : Refusal} → Next file at given (Step.Refused reason)
   makes : {x : Wire} {due : Due} → Told file (suc at) due given → Next file at given (Makes x due)
   goes : {due : Due} → Told file (suc at) due given → Next file at given (Goes due)
   gives : {wire : ℕ} → Told file (suc at) Outputs (given ++ (wire ∷ [])) → Next file at given (Gives wire)
@@ -188,7 +187,7 @@ module _ (file : List ℕ) (at : ℕ) (last : words_in file - 1 ≡ at) (answer 
 
 none-there : (file : List ℕ) (reason : Refusal) (place : ℕ) → NamedThere file (refused reason place)
 unfolding blocks
-none-there file reason place = there file (words_in file - 1) refl (Answer.Refused reason place) [] [] (behind {due = Inputs} before)
+none-there file reason place = there file (words_in file - 1) refl (refuses reason place) [] [] (behind {due = Inputs} before)
 
 finish :
     (file : List ℕ) (at : ℕ) (ok : Bool) (wires : List Wire) (given : List ℕ)
@@ -196,7 +195,7 @@ finish :
     → Behind file at given
     → NamedThere file (ended ok at wires given (named_before file at (length given)))
 unfolding ended
-finish file at true wires given last b = there file at (last refl) Accepted wires given b
+finish file at true wires given last b = there file at (last refl) accepts wires given b
 finish file at false wires given last b = none-there file WrongEnd (suc at)
 
 module _ (file : List ℕ) (at : ℕ) (inside : at < words_in file) (wires : List Wire) (given : List ℕ) (then : Due → List Wire → List ℕ → Read)

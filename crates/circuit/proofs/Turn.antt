@@ -8,13 +8,11 @@ use mathlib.Core.List.{List, [], ◌∷◌, ◌++◌, map-append}
 use Prim.Native.Nat.{ℕ, suc, ◌+◌, ◌-◌, ◌*◌, ◌≤◌, ◌<◌}
 use native.Mathlib.Numerals.{add-one}
 use native.Mathlib.Omega.{arith}
-use lib.Dec.{eqb, ltb}
+use lib.Dec.{ltb}
 use lib.ListN.{length, take, drop, set, replicate, length-set, length-replicate}
 use lib.Seq.{length-take-le, take-suc-set, drop-set-lt, drop-drop}
-use borrow.Author.Tests.{le-leb, lt-leb, le-ltb, lt-ltb, ltb-true}
+use borrow.Author.Tests.{le-leb, lt-leb, ltb-true}
 use Rattle.residue.proofs.Table.{and_left}
-use Rattle.checks.specs.declared.Answer.{Answer}
-use Rattle.checks.specs.declared.Answer.TheVariants.{Accepted}
 use Rattle.checks.specs.declared.Refusal.{Refusal}
 use Rattle.checks.specs.declared.Refusal.TheVariants.{NoHead, WrongEnd}
 use Rattle.words.specs.Bits.{word_at}
@@ -23,14 +21,15 @@ use Rattle.words.specs.declared.gate.Wire.{Wire}
 use Rattle.words.specs.declared.gate.Due.{Due}
 use Rattle.words.specs.declared.gate.Due.TheVariants.{Inputs, Outputs}
 use Rattle.words.specs.declared.gate.Step.{Step}
-use Rattle.words.specs.declared.gate.Step.TheVariants.{Refused, Makes, Goes, Gives, Ends}
-use Rattle.circuit.specs.declared.Circuit.{Circuit}
+use Rattle.words.specs.declared.gate.Step.TheVariants.{Makes, Goes, Gives, Ends}
 use Rattle.circuit.specs.Held.{circuit_of, Holds}
 use Rattle.circuit.specs.Entry.{NamesHeld}
 use Rattle.circuit.specs.Wires.{no_wire, moduli_of, is_input, inputs_in}
 use Rattle.circuit.specs.File.{Read, refused, accepted, words_in, named_before, ended, after, read_from, has_head, headed, read_file}
 use Rattle.circuit.proofs.More.{inputs_le, inputs-more, length_more}
 use Rattle.circuit.proofs.State.{State, Next, next, nothing, within}
+use Rattle.checks.specs.declared.Refused.{Refused}
+use Rattle.std.specs.Prelude.{Err}
 
 pub record Loop (file : List ℕ) (wires : List Wire) (moduli outputs : List ℕ) (made inputs given : ℕ) (due : Due) (at : ℕ) : Type 0 where
   pub wires_room : length wires ≡ 1024
@@ -129,7 +128,7 @@ module _ {file : List ℕ} {wires : List Wire} {moduli outputs : List ℕ} {made
         next = subst (Next file at (take made wires) (take given outputs)) g (next file at h due (take made wires) (take given outputs) l.state);
       }
 
-  pub stopped : {reason : Refusal} → Turn file at (take made wires) (take given outputs) (Refused reason) → refused reason at ≡ read_file file
+  pub stopped : {reason : Refusal} → Turn file at (take made wires) (take given outputs) (Step.Refused reason) → refused reason at ≡ read_file file
   unfolding after
   stopped t = t.rest
 
@@ -240,11 +239,11 @@ module _ {file : List ℕ} {wires : List Wire} {moduli outputs : List ℕ} {made
       {read : Read} {named : List ℕ}
       → NamesHeld file at given named
       → accepted (take made wires) (take given outputs) (named_before file at given) ≡ read
-      → Holds (record { answer = Accepted; circuit = circuit_of wires outputs named made inputs given }) read
+      → Holds (circuit_of wires outputs named made inputs given) read
   holds n e =
       subst (Holds _) e
       (record {
-        answer = refl;
+        accepted = refl;
         wires = refl;
         made = sym wires_so_far;
         inputs = l.count;
@@ -292,41 +291,12 @@ start file wires moduli outputs w m o h =
       rest = ap (λ (b : Bool). headed b file) (sym h);
     }
 
--- a refused file's circuit is empty
-pub holds-refused :
-    {reason : Refusal} {place : ℕ} {circuit : Circuit}
-    → circuit ≡ circuit_of (replicate 1024 no_wire) (replicate 256 0) (replicate 256 0) 0 0 0
-    → Holds (record { answer = Answer.Refused reason place; circuit = circuit }) (refused reason place)
-unfolding inputs_in
-holds-refused {reason} {place} {circuit} e =
-    subst (λ (c : Circuit). Holds (record { answer = Answer.Refused reason place; circuit = c }) (refused reason place)) (sym e)
-    (record {
-      answer = refl;
-      wires = refl;
-      made = refl;
-      inputs = refl;
-      outputs = refl;
-      named = refl;
-      given = refl;
-      held =
-          record {
-            room = record { made = omega arith; wires = length-replicate 1024 no_wire };
-            inputs = refl;
-            given = omega arith;
-            outputs = length-replicate {A = ℕ} 256 0;
-            named = length-replicate {A = ℕ} 256 0;
-          };
-      blank = record { wires = refl; outputs = refl; named = refl };
-    })
+-- the first word is no head
+pub no_head : (file : List ℕ) → has_head file ≡ false → refused NoHead 0 ≡ read_file file
+unfolding read_file headed
+no_head file e = ap (λ (b : Bool). headed b file) (sym e)
 
--- the first word
-module _ (file : List ℕ) where
-  pub no_word : words_in file ≡ 0 → false ≡ has_head file
-  no_word e = rw (le-ltb 0 (words_in file) (omega arith)) refl
-
-  pub first_word : (words_in file ≡ 0 → ⊥) → {w : ℕ} → w ≡ word_at file 0 → eqb w 0x1000_0000 ≡ has_head file
-  first_word h e = rw (e, lt-ltb 0 (words_in file) (omega arith)) refl
-
-  pub no_head : has_head file ≡ false → refused NoHead 0 ≡ read_file file
-  unfolding read_file headed
-  no_head e = ap (λ (b : Bool). headed b file) (sym e)
+-- a file that is refused, as the reader says it
+pub refused-there : (file : List ℕ) {reason : Refusal} {place : ℕ} {why : Refused} → refused reason place ≡ read_file file
+    → why ≡ record { reason = reason; place = place } → (read_file file).answer ≡ Err why
+refused-there file {reason} {place} {why} e f = ap (λ (r : Read). r.answer) (sym e) ∙ ap (λ (w : Refused). Err w) (sym f)

@@ -3,8 +3,6 @@
 -- Assumes nothing.
 use Rattle.std.specs.Prelude.{Bool, true, false, ◌&&◌, List, [], ◌∷◌, ◌++◌, ℕ, zero, suc, ◌+◌, ◌-◌, ◌*◌, ◌/◌, eqb, ltb, leb, length}
 use Rattle.lists.specs.Blocks.{tab}
-use Rattle.checks.specs.declared.Answer.{Answer}
-use Rattle.checks.specs.declared.Answer.TheVariants.{Accepted, Refused}
 use Rattle.checks.specs.declared.Refusal.{Refusal}
 use Rattle.checks.specs.declared.Refusal.TheVariants.{NoHead, WrongEnd}
 use Rattle.words.specs.Bits.{word_at, named}
@@ -15,6 +13,7 @@ use Rattle.words.specs.declared.gate.Due.TheVariants.{Inputs, Outputs}
 use Rattle.words.specs.declared.gate.Step.{Step}
 use Rattle.words.specs.declared.gate.Step.TheVariants.{Makes, Goes, Gives, Ends}
 use Rattle.circuit.specs.Wires.{moduli_of}
+use Rattle.checks.specs.Answer.{Answer, accepts, refuses}
 
 -- an answer, and the wires and outputs of the circuit and the parties that each output names, none where it is refused
 pub record Read : Type 0 where
@@ -24,10 +23,10 @@ pub record Read : Type 0 where
   pub named : List ℕ
 
 abbrev pub refused : Refusal → ℕ → Read
-refused reason place = record { answer = Refused reason place; wires = []; outputs = []; named = [] }
+refused reason place = record { answer = refuses reason place; wires = []; outputs = []; named = [] }
 
 abbrev pub accepted : List Wire → List ℕ → List ℕ → Read
-accepted wires outputs named = record { answer = Accepted; wires = wires; outputs = outputs; named = named }
+accepted wires outputs named = record { answer = accepts; wires = wires; outputs = outputs; named = named }
 
 -- whole words: one to three bytes left over count as a word only after the end word
 abbrev pub words_in : List ℕ → ℕ

@@ -3,7 +3,7 @@
 use Rattle.std.specs.Prelude.{◌≡◌, List, ℕ, ◌-◌, ◌≤◌, length, take, drop, replicate}
 use Rattle.words.specs.declared.gate.Wire.{Wire}
 use Rattle.circuit.specs.declared.Circuit.{Circuit}
-use Rattle.circuit.specs.declared.Reading.{Reading}
+use Rattle.checks.specs.Answer.{accepts}
 use Rattle.circuit.specs.Wires.{no_wire, inputs_in}
 use Rattle.circuit.specs.File.{Read}
 
@@ -41,14 +41,14 @@ pub record Blank (circuit : Circuit) : Type 0 where
   pub outputs : drop circuit.given circuit.outputs ≡ replicate (256 - circuit.given) 0
   pub named : drop circuit.given circuit.named ≡ replicate (256 - circuit.given) 0
 
--- the struct that the code answers with holds what the definition says, and nothing else
-pub record Holds (reading : Reading) (read : Read) : Type 0 where
-  pub answer : reading.answer ≡ read.answer
-  pub wires : wires_in reading.circuit ≡ read.wires
-  pub made : reading.circuit.made ≡ length read.wires
-  pub inputs : reading.circuit.inputs ≡ inputs_in read.wires
-  pub outputs : outputs_in reading.circuit ≡ read.outputs
-  pub named : named_in reading.circuit ≡ read.named
-  pub given : reading.circuit.given ≡ length read.outputs
-  pub held : Held reading.circuit
-  pub blank : Blank reading.circuit
+-- the file is accepted, and the circuit that the code made holds what the definition says, and nothing else
+pub record Holds (circuit : Circuit) (read : Read) : Type 0 where
+  pub accepted : read.answer ≡ accepts
+  pub wires : wires_in circuit ≡ read.wires
+  pub made : circuit.made ≡ length read.wires
+  pub inputs : circuit.inputs ≡ inputs_in read.wires
+  pub outputs : outputs_in circuit ≡ read.outputs
+  pub named : named_in circuit ≡ read.named
+  pub given : circuit.given ≡ length read.outputs
+  pub held : Held circuit
+  pub blank : Blank circuit

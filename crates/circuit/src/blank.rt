@@ -1,5 +1,5 @@
-// Where nothing is read yet. The arrays come from functions of their own, so that the reader's proof does not have their elements before it.
-ghost use Rattle.std.specs.Prelude.{◌≡◌, length, replicate};
+// Where nothing is read yet. A function of its own, so that the reader's proof does not have the arrays' elements before it.
+ghost use Rattle.std.specs.Prelude.{◌≡◌, replicate};
 ghost use Rattle.circuit.specs.Wires.{no_wire};
 ghost use Rattle.circuit.specs.Held.{circuit_of};
 
@@ -16,16 +16,10 @@ pub fn empty() -> Circuit
     };
     Circuit {
         wires: [none; 1024],
-        outputs: [0u16; 256],
-        named: [0u8; 256],
+        outputs: [0; 256],
+        named: [0; 256],
         made: 0,
         inputs: 0,
         given: 0,
     }
-}
-
-pub fn no_moduli() -> [u8; 1024]
-    ensures { length result ≡ 1024 }
-{
-    [0u8; 1024]
 }

@@ -9,7 +9,6 @@ mod naming;
 mod reader;
 mod table;
 
-use checks::Answer;
 pub use naming::may_read;
 pub use reader::read;
 use words::Wire;
@@ -23,11 +22,4 @@ pub struct Circuit {
     pub made: usize,
     pub inputs: usize,
     pub given: usize,
-}
-
-// What reading a file comes to. The circuit is empty where the file is refused.
-#[derive(Clone, Copy)]
-pub struct Reading {
-    pub answer: Answer,
-    pub circuit: Circuit,
 }

@@ -11,21 +11,16 @@ pub fn entries_here(file: &[u8], at: usize, left: u8, modulus: u8) -> usize
     requires { at ≤ words_in file.now }
     ensures { GoodEntries file.now at (min left (words_in file.now - at)) modulus result }
 {
-    let most = left as usize;
     let ahead = file.len() / 4 - at;
-    if most <= ahead {
-        return good_entries(file, at, most, modulus);
-    }
-    good_entries(file, at, ahead, modulus)
+    good_entries(file, at, usize::from(left).min(ahead), modulus)
 }
 
 pub fn after_run(left: u8, modulus: u8, run: usize) -> Due
     ensures { result ≡ after_run left modulus run }
 {
-    let most = left as usize;
-    if most <= run {
-        return Due::Gates;
+    if usize::from(left) <= run {
+        Due::Gates
+    } else {
+        Due::Entries(left - run as u8, modulus)
     }
-    let passed = run as u8;
-    Due::Entries(left - passed, modulus)
 }

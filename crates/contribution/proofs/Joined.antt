@@ -18,11 +18,12 @@ use Rattle.lists.proofs.Search.{Looking, looking_start}
 use Rattle.lists.proofs.Windows.{window_on, window_found, window_last}
 use Rattle.words.specs.declared.gate.Wire.{Wire}
 use Rattle.circuit.specs.Wires.{modulus_at}
-use Rattle.counts.specs.Counts.{Counts, mark, record_keys_of, record_keys_in}
+use Rattle.counts.specs.Counts.{mark, record_keys_of, record_keys_in}
 use Rattle.counts.specs.Moduli.{used, moduli_used}
 use Rattle.session.specs.Session.{too_large}
-use Rattle.scheme.specs.Contribution.{contribution_size, contribution_moduli}
+use Rattle.scheme.specs.Contribution.{record_at, contribution_size, contribution_moduli}
 use Rattle.contribution.specs.Large.{first_large}
+use Rattle.contribution.proofs.Cursor.{record_first}
 
 module _ (xs ms ns : List ℕ) (split : ℕ) (h : split ≤ length xs) (e : length ms ≡ split) {found : ℕ}
     (f : found ≡ first_large (take split xs) (λ i. get_or ms i 0)) where
@@ -55,7 +56,7 @@ module _ (xs ms ns : List ℕ) (split : ℕ) (h : split ≤ length xs) (e : leng
 
 -- ---- a contribution: its offsets end where its records start
 
-module _ (K : ℕ) (wires : List Wire) (xs : List ℕ) (e : length xs ≡ contribution_size K wires) {moduli m : ℕ} (a : Counts 256 (moduli_used wires) m) (f : moduli ≡ m) where
+module _ (K : ℕ) (wires : List Wire) (xs : List ℕ) (e : length xs ≡ contribution_size K wires) {split : ℕ} (s : split ≡ record_at K wires 0) where
   abbrev of_offsets : List ℕ
   of_offsets = runs 256 (λ p. K * mark (used wires p)) (λ p. p)
 
@@ -64,47 +65,47 @@ module _ (K : ℕ) (wires : List Wire) (xs : List ℕ) (e : length xs ≡ contri
 
   -- what stands behind the offsets, as the code cuts it
   abbrev behind_offsets : List ℕ
-  behind_offsets = take (length xs - K * moduli) (drop (K * moduli) xs)
+  behind_offsets = take (length xs - split) (drop split xs)
 
-  split_is : K * moduli ≡ K * moduli_used wires
-  split_is = ap (λ (x : ℕ). K * x) (f ∙ a.is)
+  split_is : split ≡ K * moduli_used wires
+  split_is = s ∙ record_first K wires
 
-  offsets_long : length of_offsets ≡ K * moduli
+  offsets_long : length of_offsets ≡ split
   offsets_long =
       length_runs 256 (λ p. K * mark (used wires p)) (λ p. p) ∙ sum_to_times 256 K (λ p. mark (used wires p)) ∙ sym split_is
 
-  pub split-fits : K * moduli ≤ length xs
+  pub split-fits : split ≤ length xs
   unfolding contribution_size
   split-fits = omega (arith, e, split_is)
 
-  pub front-size : K * moduli ≡ length (take (K * moduli) xs)
-  front-size = sym (length-take-le (K * moduli) xs split-fits)
+  pub front-size : split ≡ length (take split xs)
+  front-size = sym (length-take-le split xs split-fits)
 
-  pub front_long : length (take (K * moduli) xs) ≡ K * moduli_used wires
-  front_long = length-take-le (K * moduli) xs split-fits ∙ split_is
+  pub front_long : length (take split xs) ≡ K * moduli_used wires
+  front_long = length-take-le split xs split-fits ∙ split_is
 
-  rest_size : length behind_offsets ≡ length xs - K * moduli
-  rest_size = length_range xs (K * moduli) (length xs) split-fits (omega arith)
+  rest_size : length behind_offsets ≡ length xs - split
+  rest_size = length_range xs split (length xs) split-fits (omega arith)
 
   pub rest-long : length behind_offsets ≡ (K + 1) * record_keys_in wires
   unfolding contribution_size
   rest-long = rest_size ∙ omega (arith, e, split_is)
 
-  rest_whole : behind_offsets ≡ drop (K * moduli) xs
-  rest_whole = take_all (length xs - K * moduli) (drop (K * moduli) xs) (omega (arith, length-drop (K * moduli) xs))
+  rest_whole : behind_offsets ≡ drop split xs
+  rest_whole = take_all (length xs - split) (drop split xs) (omega (arith, length-drop split xs))
 
-  pub rest-fits : {rest : ℕ} → rest ≡ first_large behind_offsets (λ i. get_or of_records i 0) → K * moduli + rest ≤ length xs
+  pub rest-fits : {rest : ℕ} → rest ≡ first_large behind_offsets (λ i. get_or of_records i 0) → split + rest ≤ length xs
   rest-fits {rest} g =
       omega (arith, g, rest_size, split-fits, first-most (length behind_offsets) (too_large behind_offsets (λ i. get_or of_records i 0)))
 
-  module _ {found : ℕ} (t : found ≡ first_large (take (K * moduli) xs) (λ i. get_or of_offsets i 0)) where
-    pub in_offsets : found < K * moduli → found ≡ first_large xs (λ i. get_or (contribution_moduli K wires) i 0)
+  module _ {found : ℕ} (t : found ≡ first_large (take split xs) (λ i. get_or of_offsets i 0)) where
+    pub in_offsets : found < split → found ≡ first_large xs (λ i. get_or (contribution_moduli K wires) i 0)
     unfolding contribution_moduli
-    in_offsets l = front-found xs of_offsets of_records (K * moduli) split-fits offsets_long t l
+    in_offsets l = front-found xs of_offsets of_records split split-fits offsets_long t l
 
-    pub in_records : {rest : ℕ} → K * moduli ≤ found → rest ≡ first_large behind_offsets (λ i. get_or of_records i 0)
-        → K * moduli + rest ≡ first_large xs (λ i. get_or (contribution_moduli K wires) i 0)
+    pub in_records : {rest : ℕ} → split ≤ found → rest ≡ first_large behind_offsets (λ i. get_or of_records i 0)
+        → split + rest ≡ first_large xs (λ i. get_or (contribution_moduli K wires) i 0)
     unfolding contribution_moduli
     in_records {rest} l g =
-        rest-found xs of_offsets of_records (K * moduli) split-fits offsets_long t
+        rest-found xs of_offsets of_records split split-fits offsets_long t
         (g ∙ ap (λ (ys : List ℕ). first_large ys (λ i. get_or of_records i 0)) rest_whole) l

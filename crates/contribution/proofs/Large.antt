@@ -1,9 +1,16 @@
 -- Laws of the bound on a run of bytes, and of an answer that names the lowest byte that is too large.
 -- Assumes nothing.
-use mathlib.Core.Path.{◌≡◌, sym}
+use mathlib.Core.Bool.{Bool, cond}
+use mathlib.Core.Path.{◌≡◌, refl, sym, ap, ◌∙◌}
 use mathlib.Core.List.{List}
-use Prim.Native.Nat.{ℕ, ◌+◌, ◌*◌, ◌≤◌, ◌<◌}
-use native.Mathlib.Nat.{le_trans}
+use lib.Dec.{ltb}
+use Rattle.std.specs.List.{position, position_or_len}
+use Rattle.std.specs.Option.{unwrap_or}
+use Rattle.std.specs.declared.option.Option.{Option}
+use Rattle.std.specs.declared.option.Option.TheVariants.{Some, None}
+use Rattle.std.proofs.lemmas.Bool.{cond_below, cond_above}
+use Rattle.std.proofs.lemmas.List.Sums.{position_or_len_is}
+use Prim.Native.Nat.{ℕ, ◌*◌, ◌≤◌, ◌<◌}
 use native.Mathlib.Decide.{dec_lt}
 use native.Mathlib.Omega.{arith}
 use lib.Dec.{leb}
@@ -11,10 +18,9 @@ use lib.ListN.{length, get_or}
 use borrow.Author.Tests.{lt-leb}
 use Rattle.lists.specs.Blocks.{blocks, runs}
 use Rattle.lists.specs.First.{first}
-use Rattle.lists.proofs.First.{first_none}
+use Rattle.lists.proofs.First.{first_none, first-most, first-before, first-here}
 use Rattle.checks.specs.declared.Refusal.{Refusal}
 use Rattle.checks.specs.declared.Refusal.TheVariants.{ContributionTooLarge, KeyOrRowTooLarge}
-use Rattle.checks.specs.declared.Answer.{Answer}
 use Rattle.checks.specs.Checked.{named}
 use Rattle.checks.proofs.Answers.{none_bad-found}
 use Rattle.words.specs.declared.gate.Wire.{Wire}
@@ -24,6 +30,7 @@ use Rattle.session.specs.Session.{too_large}
 use Rattle.scheme.specs.Contribution.{contribution_moduli}
 use Rattle.scheme.specs.Bytes.{bytes_checked, contributions_checked, keys_checked, rows_checked, counted_rows_checked}
 use Rattle.contribution.specs.Large.{first_large, Bounded}
+use Rattle.checks.specs.Answer.{Answer}
 
 -- ---- a bound, entry by entry
 
@@ -31,23 +38,33 @@ pub record BoundedTo (xs : List ℕ) (most i : ℕ) : Type 0 where
   pub within : i ≤ length xs
   pub entry : (j : ℕ) → j < i → get_or xs j 0 ≤ most
 
-pub bounded_start : {xs : List ℕ} {most : ℕ} → BoundedTo xs most 0
-bounded_start = record { within = omega arith; entry = λ j l. absurd (omega arith) }
-
-pub bounded_step : {xs : List ℕ} {most i most' : ℕ} → BoundedTo xs most i → i < length xs → most ≤ most' → get_or xs i 0 ≤ most' → BoundedTo xs most' (i + 1)
-bounded_step {xs} {most} {i} {most'} r h k e = record { within = omega arith; entry = λ j l. by j l (dec_lt j i) }
-  where
-    by : (j : ℕ) → j < i + 1 → Dec (j < i) → get_or xs j 0 ≤ most'
-    by j l (yes m) = le_trans (r.entry j m) k
-    by j l (no m) = let z : j ≡ i = omega arith in rw z e
-
-pub bounded_done : {xs : List ℕ} {most i : ℕ} → BoundedTo xs most i → length xs ≤ i → Bounded most xs
-bounded_done r h = record { entry = λ j l. r.entry j (omega arith) }
-
 -- where a bound is below p, nothing is too large
 pub bounded_none : {xs : List ℕ} {most p : ℕ} → Bounded most xs → most < p → length xs ≡ first (length xs) (λ i. leb p (get_or xs i 0))
 bounded_none {xs} {most} {p} r h =
     sym (first_none (length xs) (λ i. leb p (get_or xs i 0)) (λ j l. lt-leb p (get_or xs j 0) (omega (arith, r.entry j l))))
+
+-- where the library looks for the place, and the number of bytes stands for none
+pub placed : (p : ℕ) (xs : List ℕ) {found : Option ℕ} → found ≡ position (λ x. leb p x) xs → unwrap_or found (length xs) ≡ first (length xs) (λ i. leb p (get_or xs i 0))
+placed p xs {found} e = by (dec_lt least n)
+  where
+    n : ℕ
+    n = length xs
+
+    test : ℕ → Bool
+    test i = leb p (get_or xs i 0)
+
+    least : ℕ
+    least = first n test
+
+    same : position_or_len (λ x. leb p x) xs ≡ least
+    same = position_or_len_is (λ x. leb p x) xs least 0 (first-most n test) (λ k l. first-before n k test l) (λ l. first-here n test l)
+
+    is : found ≡ cond (ltb least n) (Some least) None
+    is = e ∙ ap (λ (m : ℕ). cond (ltb m n) (Some m) None) same
+
+    by : Dec (least < n) → unwrap_or found n ≡ least
+    by (yes l) = ap (λ (o : Option ℕ). unwrap_or o n) (is ∙ sym (cond_below least n (Some least) None l))
+    by (no l) = ap (λ (o : Option ℕ). unwrap_or o n) (is ∙ sym (cond_above least n (Some least) None None (omega arith) refl)) ∙ omega (arith, first-most n test)
 
 -- ---- the answer
 

@@ -32,18 +32,12 @@ scratch_cut room {n} {K} s e = length-take-le (n * K) room (omega (arith, vector
 
 -- ---- the size
 
-module _ (K : ℕ) (wires : List Wire) {moduli keys m r : ℕ} (h : K ≤ 128) (a : Counts 256 (moduli_used wires) m) (b : Counts 3072 (record_keys_in wires) r) (e : moduli ≡ m) (f : keys ≡ r) where
-  pub offsets-most : K * moduli ≤ 32768
-  offsets-most = times-most K moduli 128 256 h (omega arith)
-
-  pub records-most : (K + 1) * keys ≤ 396288
-  records-most = times-most (K + 1) keys 129 3072 (omega arith) (omega arith)
-
-  pub size_counts : Counts 429056 (contribution_size K wires) (K * moduli + (K + 1) * keys)
+module _ (K : ℕ) (wires : List Wire) {m r : ℕ} (h : K ≤ 128) (a : Counts 256 (moduli_used wires) m) (b : Counts 3072 (record_keys_in wires) r) where
+  pub size_counts : Counts 429056 (contribution_size K wires) (K * m + (K + 1) * r)
   unfolding contribution_size
   size_counts = record {
-    is = ap₂ (λ (x y : ℕ). K * x + (K + 1) * y) (e ∙ a.is) (f ∙ b.is);
-    most = omega (arith, offsets-most, records-most);
+    is = ap₂ (λ (x y : ℕ). K * x + (K + 1) * y) a.is b.is;
+    most = omega (arith, times-most K m 128 256 h a.most, times-most (K + 1) r 129 3072 (omega arith) b.most);
   }
 
 -- ---- places of moduli

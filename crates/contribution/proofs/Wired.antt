@@ -15,9 +15,10 @@ use Rattle.circuit.specs.declared.Circuit.{Circuit}
 use Rattle.circuit.specs.Wires.{wire_at, modulus_at, moduli_of}
 use Rattle.circuit.specs.Held.{wires_in, Room}
 use Rattle.counts.specs.Recipe.{recipe}
-use Rattle.counts.specs.Counts.{Counts, mark, rows_by, rows_of, record_keys_by, record_keys_of}
+use Rattle.counts.specs.Counts.{mark, rows_by, rows_of, record_keys_by, record_keys_of}
 use Rattle.counts.proofs.Wires.{modulus-at}
 use Rattle.counts.proofs.Counting.{rows_at, records-at}
+use Rattle.contribution.specs.declared.run.Run.{Run}
 
 -- ---- sums of multiples, the factor behind
 
@@ -52,13 +53,14 @@ module _ (circuit : Circuit) (room : Room circuit) where
     pub modulus_is : modulus_at circuit.wires w ≡ modulus_at (wires_in circuit) w
     modulus_is = sym (modulus-at circuit.wires circuit.made w h)
 
-    pub records-are : {limit count size : ℕ} → Counts limit (record_keys_by (recipe (wire_at circuit.wires w))) count → size ≡ count → (k : ℕ)
-        → (k + 1) * size ≡ (k + 1) * record_keys_of (wires_in circuit) w
-    records-are {limit} {count} {size} r e k = ap (λ (s : ℕ). (k + 1) * s) (e ∙ r.is ∙ records-at circuit.wires circuit.made w h)
+    -- run w, by what the code looks up
+    module _ (run : Run) (modulus : run.modulus ≡ modulus_at circuit.wires w) where
+      pub record_run : (k : ℕ) → run.bytes ≡ (k + 1) * record_keys_by (recipe (wire_at circuit.wires w))
+          → (run.bytes ≡ (k + 1) * record_keys_of (wires_in circuit) w) × (run.modulus ≡ modulus_at (wires_in circuit) w)
+      record_run k e = (e ∙ ap (λ (s : ℕ). (k + 1) * s) (records-at circuit.wires circuit.made w h), modulus ∙ modulus_is)
 
-    pub rows_are : {table : List ℕ} {limit count size : ℕ} → table ≡ moduli_of (wires_in circuit) ++ replicate (1024 - circuit.made) 0
-        → Counts limit (rows_by (recipe (wire_at circuit.wires w)) (λ a. get_or table a 0) (modulus_at circuit.wires w)) count → size ≡ count → (width : ℕ)
-        → size * width ≡ rows_of (wires_in circuit) w * width
-    rows_are {table} {limit} {count} {size} t r e width =
-        ap (λ (s : ℕ). s * width)
-        (e ∙ r.is ∙ rows_at circuit.wires circuit.made w (1024 - circuit.made) table h t)
+      pub rows_run : {table : List ℕ} → table ≡ moduli_of (wires_in circuit) ++ replicate (1024 - circuit.made) 0 → (width : ℕ)
+          → run.bytes ≡ rows_by (recipe (wire_at circuit.wires w)) (λ a. get_or table a 0) (modulus_at circuit.wires w) * width
+          → (run.bytes ≡ rows_of (wires_in circuit) w * width) × (run.modulus ≡ modulus_at (wires_in circuit) w)
+      rows_run {table} t width e =
+          (e ∙ ap (λ (s : ℕ). s * width) (rows_at circuit.wires circuit.made w (1024 - circuit.made) table h t), modulus ∙ modulus_is)

@@ -1,2 +1,3 @@
 -- What the checks of bytes against their moduli search for.
 pub mod Large
+pub mod Runs

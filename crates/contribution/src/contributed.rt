@@ -9,12 +9,12 @@ ghost use Rattle.scheme.specs.Contribution.{contribution_size, contribution_modu
 ghost use Rattle.scheme.specs.Bytes.{contributions_checked};
 ghost use Rattle.contribution.specs.Large.{first_large};
 
-use super::places::contribution_size;
-use super::run::first_at_least;
+use super::places::{contribution_size, first_record, record_size};
+use super::run::{Run, first_in_runs};
 use checks::{Answer, Refusal, named};
 use circuit::Circuit;
-use counts::{marks, moduli_used, record_count};
-use lists::{byte_index, number_index};
+use counts::marks;
+use lists::nth_piece;
 
 // In the offsets of one party.
 pub fn first_in_offsets(circuit: Circuit, k: usize, bytes: &[u8]) -> usize
@@ -23,19 +23,14 @@ pub fn first_in_offsets(circuit: Circuit, k: usize, bytes: &[u8]) -> usize
     ensures { result ≡ first_large bytes.now (λ i. get_or (runs 256 (λ p. k * mark (used (wires_in circuit) p)) (λ p. p)) i 0) }
 {
     let marks = marks(circuit);
-    let mut at = 0;
-    let mut p = 0;
-    while p < 256 {
-        let size = k * byte_index(marks[p]);
-        let to = at + size;
-        let found = first_at_least(p as u8, &bytes[at..to]);
-        if found < size {
-            return at + found;
-        }
-        at = to;
-        p += 1;
-    }
-    at
+    first_in_runs(
+        256,
+        |p| Run {
+            bytes: k * usize::from(marks[p]),
+            modulus: p as u8,
+        },
+        bytes,
+    )
 }
 
 // In the records of one party.
@@ -44,21 +39,17 @@ fn first_in_records(circuit: Circuit, k: usize, bytes: &[u8]) -> usize
     requires bytes_len { length bytes.now ≡ (k + 1) * record_keys_in (wires_in circuit) }
     ensures { result ≡ first_large bytes.now (λ i. get_or (runs (length (wires_in circuit)) (λ w. (k + 1) * record_keys_of (wires_in circuit) w) (modulus_at (wires_in circuit))) i 0) }
 {
-    let made = circuit.made;
-    let mut at = 0;
-    let mut w = 0;
-    while w < made {
-        let wire = circuit.wires[w];
-        let size = (k + 1) * number_index(record_count(wire));
-        let to = at + size;
-        let found = first_at_least(wire.modulus, &bytes[at..to]);
-        if found < size {
-            return at + found;
-        }
-        at = to;
-        w += 1;
-    }
-    at
+    first_in_runs(
+        circuit.made,
+        |w| {
+            let wire = circuit.wires[w];
+            Run {
+                bytes: record_size(wire, k),
+                modulus: wire.modulus,
+            }
+        },
+        bytes,
+    )
 }
 
 // In the contribution of one party.
@@ -67,7 +58,7 @@ fn first_in_contribution(circuit: Circuit, k: usize, bytes: &[u8]) -> usize
     requires bytes_len { length bytes.now ≡ contribution_size k (wires_in circuit) }
     ensures { result ≡ first_large bytes.now (λ i. get_or (contribution_moduli k (wires_in circuit)) i 0) }
 {
-    let split = k * number_index(moduli_used(circuit));
+    let split = first_record(circuit, k);
     let found = first_in_offsets(circuit, k, &bytes[..split]);
     if found < split {
         return found;
@@ -83,18 +74,14 @@ fn first_in_contributions(circuit: Circuit, n: usize, k: usize, contributions: &
     ensures { result ≡ first_large contributions.now (λ i. get_or (blocks n (λ party. contribution_moduli k (wires_in circuit))) i 0) }
 {
     let size = contribution_size(circuit, k);
-    let mut at = 0;
-    let mut party = 0;
-    while party < n {
-        let to = at + size;
-        let found = first_in_contribution(circuit, k, &contributions[at..to]);
+    for party in 0..n {
+        let own = nth_piece(contributions, size, party);
+        let found = first_in_contribution(circuit, k, own);
         if found < size {
-            return at + found;
+            return party * size + found;
         }
-        at = to;
-        party += 1;
     }
-    at
+    contributions.len()
 }
 
 // 16: the contributions of n parties, one after another.

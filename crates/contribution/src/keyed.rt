@@ -7,11 +7,10 @@ ghost use Rattle.counts.specs.Counts.{rows_of, rows_in};
 ghost use Rattle.scheme.specs.Bytes.{keys_checked, rows_checked};
 ghost use Rattle.contribution.specs.Large.{first_large};
 
-use super::run::first_at_least;
+use super::run::{Run, first_in_runs};
 use checks::{Answer, Refusal, named};
 use circuit::Circuit;
 use counts::{moduli, row_count};
-use lists::number_index;
 
 // In the keys of all inputs, of `width` bytes each.
 pub fn first_in_keys(circuit: Circuit, width: usize, keys: &[u8]) -> usize
@@ -19,20 +18,14 @@ pub fn first_in_keys(circuit: Circuit, width: usize, keys: &[u8]) -> usize
     requires keys_len { length keys.now ≡ inputs_in (wires_in circuit) * width }
     ensures { result ≡ first_large keys.now (λ i. get_or (runs (inputs_in (wires_in circuit)) (λ w. width) (modulus_at (wires_in circuit))) i 0) }
 {
-    let inputs = circuit.inputs;
-    let mut at = 0;
-    let mut w = 0;
-    while w < inputs {
-        let wire = circuit.wires[w];
-        let to = at + width;
-        let found = first_at_least(wire.modulus, &keys[at..to]);
-        if found < width {
-            return at + found;
-        }
-        at = to;
-        w += 1;
-    }
-    at
+    first_in_runs(
+        circuit.inputs,
+        |w| Run {
+            bytes: width,
+            modulus: circuit.wires[w].modulus,
+        },
+        keys,
+    )
 }
 
 // In the rows of all wires, of `width` bytes each.
@@ -42,21 +35,17 @@ fn first_in_rows(circuit: Circuit, width: usize, rows: &[u8]) -> usize
     ensures { result ≡ first_large rows.now (λ i. get_or (runs (length (wires_in circuit)) (λ w. rows_of (wires_in circuit) w * width) (modulus_at (wires_in circuit))) i 0) }
 {
     let table = moduli(circuit);
-    let made = circuit.made;
-    let mut at = 0;
-    let mut w = 0;
-    while w < made {
-        let wire = circuit.wires[w];
-        let size = number_index(row_count(wire, &table)) * width;
-        let to = at + size;
-        let found = first_at_least(wire.modulus, &rows[at..to]);
-        if found < size {
-            return at + found;
-        }
-        at = to;
-        w += 1;
-    }
-    at
+    first_in_runs(
+        circuit.made,
+        |w| {
+            let wire = circuit.wires[w];
+            Run {
+                bytes: row_count(wire, &table) as usize * width,
+                modulus: wire.modulus,
+            }
+        },
+        rows,
+    )
 }
 
 // 18, of the keys of all inputs, input by input, n of K bytes each.

@@ -12,7 +12,5 @@ mod run;
 pub use contributed::{contributions_checked, first_in_offsets};
 pub use keyed::{first_in_keys, keys_checked, rows_checked};
 pub use offset::offsets_checked;
-pub use places::{
-    contribution_size, first_record, offset_place, ranks, record_keys, record_size, scratch,
-};
-pub use run::first_at_least;
+pub use places::{contribution_size, first_record, offset_place, ranks, record_keys, record_size};
+pub use run::{Run, first_at_least, first_in_runs};

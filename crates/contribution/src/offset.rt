@@ -11,20 +11,11 @@ use super::places::{contribution_size, ranks};
 use checks::{Answer, Refusal, named};
 use circuit::Circuit;
 use counts::marks;
-use lists::byte_index;
 
 fn all_zero(bytes: &[u8]) -> bool
     ensures { result ≡ all_zero bytes.now }
 {
-    let n = bytes.len();
-    let mut i = 0;
-    while i < n {
-        if bytes[i] != 0 {
-            return false;
-        }
-        i += 1;
-    }
-    true
+    bytes.iter().all(|x| *x == 0)
 }
 
 // Whether the k bytes from place `at` on are zero in one of the n parts of `size` bytes.
@@ -32,14 +23,11 @@ fn some_zero(n: usize, size: usize, at: usize, k: usize, contributions: &[u8]) -
     requires { (length contributions.now ≡ n * size) × (at + k ≤ size) }
     ensures { result ≡ some_below n (λ party. all_zero (part (nth_piece contributions.now size party) at k)) }
 {
-    let mut party = 0;
-    while party < n {
-        let from = party * size + at;
-        let to = from + k;
-        if all_zero(&contributions[from..to]) {
+    for party in 0..n {
+        let own = lists::nth_piece(contributions, size, party);
+        if all_zero(lists::piece(own, at, k)) {
             return true;
         }
-        party += 1;
     }
     false
 }
@@ -49,11 +37,7 @@ fn zero_marked(marked: u8, n: usize, size: usize, at: usize, k: usize, contribut
     requires { (length contributions.now ≡ n * size) × (marked ≡ 1 → at + k ≤ size) }
     ensures { result ≡ (eqb marked 1 && some_below n (λ party. all_zero (part (nth_piece contributions.now size party) at k))) }
 {
-    if marked == 1 {
-        some_zero(n, size, at, k, contributions)
-    } else {
-        false
-    }
+    marked == 1 && some_zero(n, size, at, k, contributions)
 }
 
 // The lowest modulus in use of which some party's offset is zero; 256 where there is none.
@@ -65,15 +49,13 @@ fn first_zero(circuit: Circuit, n: usize, k: usize, contributions: &[u8]) -> usi
     let marks = marks(circuit);
     let ranks = ranks(circuit);
     let size = contribution_size(circuit, k);
-    let mut p = 0;
-    while p < 256 {
-        let at = k * byte_index(ranks[p]);
+    for p in 0..256 {
+        let at = k * usize::from(ranks[p]);
         if zero_marked(marks[p], n, size, at, k, contributions) {
             return p;
         }
-        p += 1;
     }
-    p
+    256
 }
 
 // 17: the lowest modulus, over all parties.

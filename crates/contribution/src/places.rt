@@ -1,5 +1,5 @@
 // Where things lie in a contribution: its size, the place of each offset among the moduli in use, and a cursor that goes from one wire's record to the next.
-ghost use Rattle.std.specs.Prelude.{◌≡◌, ◌+◌, ◌*◌, ◌≤◌, ◌<◌, length, get_or, replicate};
+ghost use Rattle.std.specs.Prelude.{◌≡◌, ◌+◌, ◌*◌, ◌≤◌, ◌<◌, length, get_or};
 ghost use Rattle.lists.specs.Blocks.{tab};
 ghost use Rattle.counts.specs.Recipe.{recipe};
 ghost use Rattle.circuit.specs.Held.{wires_in, Room};
@@ -9,14 +9,8 @@ ghost use Rattle.scheme.specs.Contribution.{contribution_size, record_at};
 
 use circuit::Circuit;
 use counts::{marks, moduli_used, record_count, records};
-use lists::{byte_index, number_index};
+use lists::zeros;
 use words::Wire;
-
-fn no_ranks() -> [u8; 256]
-    ensures { result ≡ replicate 256 0 }
-{
-    [0u8; 256]
-}
 
 // For each byte p, how many moduli in use are below it: the place of p's offset, where p is in use. There are no more than p.
 pub fn ranks(circuit: Circuit) -> [u8; 256]
@@ -24,12 +18,9 @@ pub fn ranks(circuit: Circuit) -> [u8; 256]
     ensures { result ≡ tab 256 (used_below (wires_in circuit)) }
 {
     let marks = marks(circuit);
-    let mut ranks = no_ranks();
-    let mut p = 0;
-    while p < 255 {
-        let next = p + 1;
-        ranks[next] = ranks[p] + marks[p];
-        p = next;
+    let mut ranks = zeros();
+    for p in 0..255 {
+        ranks[p + 1] = ranks[p] + marks[p];
     }
     ranks
 }
@@ -39,8 +30,7 @@ pub fn offset_place(ranks: &[u8], p: u8, k: usize) -> usize
     requires { (p < length ranks.now) × (k ≤ 128) }
     ensures { result ≡ k * get_or ranks.now p 0 }
 {
-    let at = p as usize;
-    k * byte_index(ranks[at])
+    k * usize::from(ranks[usize::from(p)])
 }
 
 // K bytes for each modulus in use, and K + 1 for each key of the records.
@@ -48,8 +38,8 @@ pub fn contribution_size(circuit: Circuit, k: usize) -> usize
     requires { Room circuit × (k ≤ 128) }
     ensures { Counts 429056 (contribution_size k (wires_in circuit)) result }
 {
-    let moduli = number_index(moduli_used(circuit));
-    let keys = number_index(records(circuit));
+    let moduli = moduli_used(circuit) as usize;
+    let keys = records(circuit) as usize;
     k * moduli + (k + 1) * keys
 }
 
@@ -58,7 +48,7 @@ pub fn first_record(circuit: Circuit, k: usize) -> usize
     requires { Room circuit × (k ≤ 128) }
     ensures { result ≡ record_at k (wires_in circuit) 0 }
 {
-    k * number_index(moduli_used(circuit))
+    k * moduli_used(circuit) as usize
 }
 
 // The bytes of a record's keys: its mask shares stand behind them.
@@ -66,7 +56,7 @@ pub fn record_keys(wire: Wire, k: usize) -> usize
     requires { k ≤ 128 }
     ensures { result ≡ k * record_keys_by (recipe wire) }
 {
-    k * number_index(record_count(wire))
+    k * record_count(wire) as usize
 }
 
 // The bytes of a record: keys, and as many shares. The next wire's record stands behind them.
@@ -74,12 +64,5 @@ pub fn record_size(wire: Wire, k: usize) -> usize
     requires { k ≤ 128 }
     ensures { result ≡ (k + 1) * record_keys_by (recipe wire) }
 {
-    (k + 1) * number_index(record_count(wire))
-}
-
-// Room for the keys of all parties on one wire, which are at most 8 times 128 bytes.
-pub fn scratch() -> [u8; 1024]
-    ensures { length result ≡ 1024 }
-{
-    [0u8; 1024]
+    (k + 1) * record_count(wire) as usize
 }

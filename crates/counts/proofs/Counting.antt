@@ -1,6 +1,6 @@
 -- A loop that adds up f 0, f 1, … : the record that it holds to, with the laws that start it, take a turn and say what the total is.
 -- Assumes nothing.
-use mathlib.Core.Path.{◌≡◌, refl, ap, ap₂, ◌∙◌, sym, subst}
+use mathlib.Core.Path.{◌≡◌, refl, ap, ap₂, ◌∙◌, sym}
 use mathlib.Core.List.{List, ◌++◌}
 use Prim.Native.Nat.{ℕ, ◌+◌, ◌*◌, ◌≤◌, ◌<◌}
 use native.Mathlib.Nat.{le_trans, mul-le-mul_right}
@@ -37,6 +37,12 @@ summed-step {limit} {f} {n} {i} {total} {v} {count} r h k e =
       most = omega (arith, times-next i limit);
     }
 
+-- all turns are taken
+pub summed_all : {limit : ℕ} {f : ℕ → ℕ} {n i total : ℕ} (most : ℕ) → Summed limit f n i total → n ≤ i → n * limit ≤ most → Counts most (sum_to n f) total
+summed_all {limit} {f} {n} {i} {total} most r h k =
+    let e : i ≡ n = omega (arith, r.turns) in
+    record { is = r.is ∙ ap (λ (m : ℕ). sum_to m f) e; most = le_trans r.most (rw e k) }
+
 -- the wires of a circuit, all of them counted
 pub summed-done : {limit : ℕ} {f : ℕ → ℕ} {circuit : Circuit} {i total : ℕ} (most : ℕ) → Room circuit → Summed limit f circuit.made i total → circuit.made ≤ i → 1024 * limit ≡ most
     → Counts most (sum_to (length (wires_in circuit)) f) total
@@ -56,6 +62,12 @@ rows_same (Table lookup) f g p e = e lookup.a
 rows_same (Product pair) f g p e = refl
 rows_same (Choice choice) f g p e = refl
 
+pub rows_are : (wires : List Wire) (w n : ℕ) {table : List ℕ} → table ≡ moduli_of wires ++ replicate n 0
+    → rows_by (recipe (wire_at wires w)) (λ a. get_or table a 0) (modulus_at wires w) ≡ rows_of wires w
+rows_are wires w n {table} e =
+    rows_same (recipe (wire_at wires w)) (λ a. get_or table a 0) (modulus_at wires) (modulus_at wires w)
+    (λ a. ap (λ (l : List ℕ). get_or l a 0) e ∙ padded-modulus wires n a)
+
 pub rows_at : (wires : List Wire) (made w n : ℕ) (table : List ℕ) → w < made → table ≡ moduli_of (take made wires) ++ replicate n 0
     → rows_by (recipe (wire_at wires w)) (λ a. get_or table a 0) (modulus_at wires w) ≡ rows_of (take made wires) w
 rows_at wires made w n table h e =
@@ -65,10 +77,3 @@ rows_at wires made w n table h e =
 
 pub records-at : (wires : List Wire) (made w : ℕ) → w < made → record_keys_by (recipe (wire_at wires w)) ≡ record_keys_by (recipe (wire_at (take made wires) w))
 records-at wires made w h = ap (λ (wire : Wire). record_keys_by (recipe wire)) (sym (wire-at wires made w h))
-
--- where a recipe is known by another name
-pub rows-by : (f : ℕ → ℕ) (p : ℕ) {how how' : Recipe} {r : ℕ} → how ≡ how' → Counts 512 (rows_by how f p) r → Counts 512 (rows_by how' f p) r
-rows-by f p {r = r} e h = subst (λ (how : Recipe). Counts 512 (rows_by how f p) r) e h
-
-pub keys-by : {how how' : Recipe} {r : ℕ} → how ≡ how' → Counts 3 (record_keys_by how) r → Counts 3 (record_keys_by how') r
-keys-by {r = r} e h = subst (λ (how : Recipe). Counts 3 (record_keys_by how) r) e h

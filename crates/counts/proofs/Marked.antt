@@ -1,28 +1,24 @@
 -- Laws of the marks: a table of 0 and 1, one more wire at a time.
 -- Assumes nothing.
-use mathlib.Core.Path.{◌≡◌, refl, sym, ap, ◌∙◌}
-use mathlib.Core.Bool.{Bool, true, false, ◌||◌}
+use mathlib.Core.Path.{◌≡◌, refl, sym, ap, ap₂, ◌∙◌}
+use mathlib.Core.Bool.{Bool, true, false, cond, ◌||◌}
 use mathlib.Core.List.{List}
-use Prim.Native.Nat.{ℕ, ◌+◌, ◌≤◌, ◌<◌}
-use native.Mathlib.Nat.{mul-one}
+use Prim.Native.Nat.{ℕ, zero, suc, ◌+◌, ◌≤◌, ◌<◌}
 use native.Mathlib.Numerals.{add-one}
 use native.Mathlib.Omega.{arith}
 use native.Mathlib.Decide.{ℕ_discrete}
 use borrow.Author.Tests.{eq-eqb, ne_eqb}
 use lib.Dec.{eqb}
-use lib.ListN.{length, get_or, set, replicate, length-set}
-use lib.Seq.{get_or-set_same, get_or-set_other, length-take-le}
+use lib.ListN.{length, get_or, take, set, replicate, length-set}
+use lib.Seq.{take_all, get_or-set_same, get_or-set_other}
+use Rattle.std.specs.List.{filter, count_by}
+use Rattle.std.proofs.lemmas.List.Sums.{length-filter, count_by-le-length}
+use Rattle.std.proofs.lemmas.List.Filters.{length-filter_more}
 use Rattle.lists.specs.Blocks.{tab, sum_to}
 use Rattle.lists.proofs.Sums.{sum_to_ext}
 use Rattle.lists.proofs.Blocks.{length-tab, get_or-tab, is-tab, replicate-tab}
-use Rattle.words.specs.declared.gate.Wire.{Wire}
-use Rattle.circuit.specs.declared.Circuit.{Circuit}
-use Rattle.circuit.specs.Wires.{modulus_at}
-use Rattle.circuit.specs.Held.{wires_in, Room}
 use Rattle.counts.specs.Counts.{mark, Counts}
 use Rattle.counts.specs.Moduli.{some_below}
-use Rattle.counts.proofs.Wires.{modulus-at}
-use Rattle.counts.proofs.Counting.{Summed}
 
 -- which values f takes below i, among the numbers below n
 abbrev pub marked : ℕ → (ℕ → ℕ) → ℕ → List ℕ
@@ -66,15 +62,38 @@ marked_next n f i q h e =
             ∙ other_mark (some_below i (λ w. eqb (f w) p))
             ∙ ap (λ (b : Bool). mark (some_below i (λ w. eqb (f w) p) || b)) (sym (ne_eqb (f i) p (λ z. k (sym z ∙ sym e))))
 
+-- how many elements of a list pass a test is a sum of marks
+cond_mark : (b : Bool) → cond b 1 0 ≡ mark b
+cond_mark true = refl
+cond_mark false = refl
+
+front-summed : (test : ℕ → Bool) (xs : List ℕ) (i : ℕ) → i ≤ length xs → length (filter test (take i xs)) ≡ sum_to i (λ j. mark (test (get_or xs j 0)))
+unfolding sum_to
+front-summed test xs zero h = refl
+front-summed test xs (suc i) h =
+    rw (← add-one i) (length-filter_more test xs i 0 (omega arith))
+    ∙ ap₂ ◌+◌ (front-summed test xs i (omega arith)) (cond_mark (test (get_or xs i 0)))
+
+pub count-summed : (test : ℕ → Bool) (xs : List ℕ) (n : ℕ) {r : ℕ} → length xs ≡ n → r ≡ count_by test xs → Counts n (sum_to n (λ j. mark (test (get_or xs j 0)))) r
+count-summed test xs n {r} long e =
+    record {
+      is =
+          e ∙ sym (length-filter test xs)
+          ∙ ap (λ (l : List ℕ). length (filter test l)) (sym (take_all n xs (omega arith)))
+          ∙ front-summed test xs n (omega arith);
+      most = omega (arith, count_by-le-length test xs);
+    }
+
+-- all turns are taken
+pub marked_all : (f : ℕ → ℕ) {i n : ℕ} {out : List ℕ} → out ≡ marked 256 f i → i ≤ n → n ≤ i → out ≡ marked 256 f n
+marked_all f {i} {n} e h k =
+    let same : i ≡ n = omega arith in
+    e ∙ ap (λ (m : ℕ). marked 256 f m) same
+
 -- a mark is 1 or 0, so the marks that are 1 add up to the sum of all
 mark-again : (b : Bool) → mark (eqb (mark b) 1) ≡ mark b
 mark-again true = refl
 mark-again false = refl
-
-pub all-summed : {f : ℕ → ℕ} {n i total : ℕ} → Summed 1 f n i total → n ≤ i → Counts n (sum_to n f) total
-all-summed {f} {n} {i} {total} r h =
-    let k : i ≡ n = omega arith in
-    record { is = r.is ∙ ap (λ (m : ℕ). sum_to m f) k; most = omega (arith, mul-one i) }
 
 pub marks_summed : (n : ℕ) (test : ℕ → Bool) {marks : List ℕ} {total : ℕ} → marks ≡ tab n (λ p. mark (test p)) → Counts n (sum_to n (λ p. mark (eqb (get_or marks p 0) 1))) total
     → Counts n (sum_to n (λ p. mark (test p))) total
@@ -89,22 +108,3 @@ marks_summed n test {marks} {total} e r =
           ∙ mark-again (test p));
       most = r.most;
     }
-
--- the loop that marks the moduli of a circuit's wires
-module _ (circuit : Circuit) (room : Room circuit) where
-  abbrev wires : List Wire
-  wires = wires_in circuit
-
-  pub marks_start : (out : List ℕ) → out ≡ replicate 256 0 → out ≡ marked 256 (modulus_at wires) 0
-  marks_start out e = e ∙ marked_none 256 (modulus_at wires)
-
-  pub marks_step : {out : List ℕ} {w q : ℕ} → out ≡ marked 256 (modulus_at wires) w → w < circuit.made → q ≡ modulus_at circuit.wires w → q ≤ 255
-      → set out q 1 ≡ marked 256 (modulus_at wires) (w + 1)
-  marks_step {out} {w} {q} e h k l =
-      ap (λ (xs : List ℕ). set xs q 1) e
-      ∙ marked_next 256 (modulus_at wires) w q (omega arith) (k ∙ sym (modulus-at circuit.wires circuit.made w h))
-
-  pub marks_done : {out : List ℕ} {w : ℕ} → out ≡ marked 256 (modulus_at wires) w → w ≤ circuit.made → circuit.made ≤ w → out ≡ marked 256 (modulus_at wires) (length wires)
-  marks_done {out} {w} e h k =
-      let l : w ≡ circuit.made = omega arith in
-      e ∙ ap (λ (n : ℕ). marked 256 (modulus_at wires) n) (l ∙ sym (length-take-le circuit.made circuit.wires (omega arith)))

@@ -9,7 +9,6 @@ use lib.ListN.{length, get_or, take, drop, set, replicate, length-replicate}
 use lib.Seq.{get_or-take, length-take-le}
 use Rattle.lists.proofs.Filled.{Filled, filled_start, filled_step, filled_done}
 use Rattle.circuit.specs.declared.Circuit.{Circuit}
-use Rattle.circuit.specs.declared.Reading.{Reading}
 use Rattle.circuit.specs.File.{Read}
 use Rattle.circuit.proofs.More.{made, modulus-of}
 use Rattle.words.specs.declared.gate.Wire.{Wire}
@@ -41,27 +40,26 @@ get_or-padded (x ∷ xs) n (suc a) = get_or-padded xs n a
 pub padded-modulus : (wires : List Wire) (n a : ℕ) → get_or (moduli_of wires ++ replicate n 0) a 0 ≡ modulus_at wires a
 padded-modulus wires n a = get_or-padded (moduli_of wires) n a ∙ modulus-of wires a
 
--- the loop that writes the moduli down
-module _ (circuit : Circuit) (room : Room circuit) where
-  abbrev all : List ℕ
-  all = moduli_of (wires_in circuit)
+-- a circuit's array has room for its wires
+pub made-in : {circuit : Circuit} → Room circuit → length (wires_in circuit) ≡ circuit.made
+made-in {circuit} r = length-take-le circuit.made circuit.wires (omega (arith, r.made, r.wires))
 
-  length_all : length all ≡ circuit.made
-  length_all = made (wires_in circuit) ∙ length-take-le circuit.made circuit.wires (omega arith)
+pub few-wires : {circuit : Circuit} → Room circuit → length (wires_in circuit) ≤ 1024
+few-wires r = omega (arith, made-in r, r.made)
 
-  pub moduli_start : (out₀ : List ℕ) → out₀ ≡ replicate 1024 0 → Filled out₀ 0 circuit.made all out₀
-  moduli_start out₀ e = filled_start length_all (omega (arith, room.made, ap length e ∙ length-replicate {A = ℕ} 1024 0))
+-- the loop that writes the moduli of wires down
+module _ (wires : List Wire) {out₀ : List ℕ} (blank : out₀ ≡ replicate 1024 0) where
+  pub table_start : length wires ≤ 1024 → Filled out₀ 0 (length wires) (moduli_of wires) out₀
+  table_start h = filled_start (made wires) (omega (arith, h, ap length blank ∙ length-replicate {A = ℕ} 1024 0))
 
-  pub moduli-step : {out₀ out : List ℕ} {w : ℕ} → Filled out₀ w circuit.made all out → w < circuit.made → Filled out₀ (w + 1) circuit.made all (set out w (modulus_at circuit.wires w))
-  moduli-step {out₀} {out} {w} r h =
-      filled_step r h
-      (modulus-of (wires_in circuit) w ∙ modulus-at circuit.wires circuit.made w h)
+  pub table-step : {out : List ℕ} {w : ℕ} → Filled out₀ w (length wires) (moduli_of wires) out → w < length wires → Filled out₀ (w + 1) (length wires) (moduli_of wires) (set out w (modulus_at wires w))
+  table-step {out} {w} r h = filled_step r h (modulus-of wires w)
 
-  pub moduli-done : {out₀ out : List ℕ} {w : ℕ} → out₀ ≡ replicate 1024 0 → Filled out₀ w circuit.made all out → circuit.made ≤ w → out ≡ all ++ replicate (1024 - circuit.made) 0
-  moduli-done {out₀} {out} {w} e r h =
+  pub table-done : {out : List ℕ} {w : ℕ} → Filled out₀ w (length wires) (moduli_of wires) out → length wires ≤ w → out ≡ moduli_of wires ++ replicate (1024 - length wires) 0
+  table-done {out} {w} r h =
       filled_done r h
-      ∙ ap (λ (l : List ℕ). all ++ l) (ap (λ (l : List ℕ). drop circuit.made l) e ∙ drop-replicate 1024 circuit.made 0)
+      ∙ ap (λ (l : List ℕ). moduli_of wires ++ l) (ap (λ (l : List ℕ). drop (length wires) l) blank ∙ drop-replicate 1024 (length wires) 0)
 
 -- what the reader hands out has room for its wires
-pub room : {reading : Reading} {read : Read} → Holds reading read → Room reading.circuit
+pub room : {circuit : Circuit} {read : Read} → Holds circuit read → Room circuit
 room h = h.held.room

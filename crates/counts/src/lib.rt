@@ -4,11 +4,12 @@
 
 #![tactic(auto)]
 
+mod bytes;
 mod count;
 mod modulus;
-mod number;
 mod recipe;
 
+pub use bytes::row_bytes;
 pub use count::{inputs_of, modulus_of, owned, record_count, records, row_count, rows};
-pub use modulus::{marks, marks_set, moduli, moduli_used, no_marks, no_moduli};
+pub use modulus::{marks, marks_set, moduli, moduli_used};
 pub use recipe::{Images, Lookup, Recipe, recipe_of};

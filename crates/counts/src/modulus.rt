@@ -6,51 +6,29 @@ ghost use Rattle.circuit.specs.Held.{wires_in, Room};
 ghost use Rattle.counts.specs.Counts.{mark, Counts};
 ghost use Rattle.counts.specs.Moduli.{used, moduli_used, SetMarks};
 
-use super::number::same;
 use circuit::Circuit;
-use lists::{byte_index, byte_number};
-
-pub fn no_moduli() -> [u8; 1024]
-    ensures { result ≡ replicate 1024 0 }
-{
-    [0u8; 1024]
-}
+use lists::zeros;
 
 // Each wire's modulus, and 0 past the last wire.
 pub fn moduli(circuit: Circuit) -> [u8; 1024]
     requires { Room circuit }
     ensures { result ≡ moduli_of (wires_in circuit) ++ replicate (1024 - circuit.made) 0 }
 {
-    let mut moduli = no_moduli();
-    let made = circuit.made;
-    let mut w = 0;
-    while w < made {
-        let wire = circuit.wires[w];
+    let mut moduli = zeros();
+    for (w, wire) in circuit.wires[..circuit.made].iter().enumerate() {
         moduli[w] = wire.modulus;
-        w += 1;
     }
     moduli
 }
 
-pub fn no_marks() -> [u8; 256]
-    ensures { result ≡ replicate 256 0 }
-{
-    [0u8; 256]
-}
-
-// A mark for each byte: 1 where it is the modulus of some wire.
+// A mark for each byte: 1 where it is the modulus of some wire, else 0. A number and no `bool`, since the places of offsets are sums of marks.
 pub fn marks(circuit: Circuit) -> [u8; 256]
     requires { Room circuit }
     ensures { result ≡ tab 256 (λ p. mark (used (wires_in circuit) p)) }
 {
-    let mut marks = no_marks();
-    let made = circuit.made;
-    let mut w = 0;
-    while w < made {
-        let wire = circuit.wires[w];
-        let p = byte_index(wire.modulus);
-        marks[p] = 1;
-        w += 1;
+    let mut marks = zeros();
+    for wire in &circuit.wires[..circuit.made] {
+        marks[usize::from(wire.modulus)] = 1;
     }
     marks
 }
@@ -59,13 +37,7 @@ pub fn marks(circuit: Circuit) -> [u8; 256]
 pub fn marks_set(marks: [u8; 256]) -> u32
     ensures { SetMarks marks result }
 {
-    let mut total = 0;
-    let mut p = 0;
-    while p < 256 {
-        total += same(byte_number(marks[p]), 1);
-        p += 1;
-    }
-    total
+    marks.iter().filter(|mark| **mark == 1).count() as u32
 }
 
 // How many moduli the wires have.
@@ -73,6 +45,5 @@ pub fn moduli_used(circuit: Circuit) -> u32
     requires { Room circuit }
     ensures { Counts 256 (moduli_used (wires_in circuit)) result }
 {
-    let marks = marks(circuit);
-    marks_set(marks)
+    marks_set(marks(circuit))
 }

@@ -6,14 +6,14 @@ use words::{Choice, Gate, Pair, Scaling, Wire};
 
 // The images of a table. `File`: in the words of the circuit file, from the index of the image of 0 on. `Squares`: each value's
 // square, in no file.
-#[derive(Clone, Copy)]
+#[derive(Clone, Copy, Debug, PartialEq, Eq)]
 pub enum Images {
     File(u32),
     Squares,
 }
 
 // A table of the values of wire `a`.
-#[derive(Clone, Copy)]
+#[derive(Clone, Copy, Debug, PartialEq, Eq)]
 pub struct Lookup {
     pub a: u16,
     pub images: Images,
@@ -21,7 +21,7 @@ pub struct Lookup {
 
 // `Entered`: an input. `Sum` and `Multiple`: of the keys of lower wires, with no rows. `Table`: a row for each value of a wire.
 // `Product`: two rows for each value. `Choice`: a product with a bit, and the rows of the bit.
-#[derive(Clone, Copy)]
+#[derive(Clone, Copy, Debug, PartialEq, Eq)]
 pub enum Recipe {
     Entered,
     Sum(Pair),
@@ -36,10 +36,10 @@ fn square_of(a: u16, p: u8) -> Recipe
     ensures { result ≡ square_of a p }
 {
     if p == 2 {
-        Recipe::Multiple(Scaling { constant: 1, a: a })
+        Recipe::Multiple(Scaling { constant: 1, a })
     } else {
         Recipe::Table(Lookup {
-            a: a,
+            a,
             images: Images::Squares,
         })
     }
@@ -56,11 +56,11 @@ fn square_or_product(g: Pair, p: u8) -> Recipe
     }
 }
 
+#[tactic(auto, unfolding(crate::specs::Recipe::recipe))]
 pub fn recipe_of(wire: Wire) -> Recipe
     ensures { result ≡ recipe wire }
 {
-    let gate = wire.gate;
-    match gate {
+    match wire.gate {
         Gate::Input(_) => Recipe::Entered,
         Gate::Add(g) => Recipe::Sum(g),
         Gate::Scale(g) => Recipe::Multiple(g),

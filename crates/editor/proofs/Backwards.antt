@@ -10,7 +10,6 @@ use lib.Dec.{ltb, leb}
 use lib.ListN.{length}
 use borrow.Author.Tests.{leb-true, ltb-true, eqb-true}
 use Rattle.residue.proofs.Table.{and_left, and_right}
-use Rattle.checks.specs.declared.Answer.TheVariants.{Accepted}
 use Rattle.checks.proofs.Passed.{never}
 use Rattle.lists.specs.Blocks.{blocks, tab}
 use Rattle.words.specs.Bits.{word_at}
@@ -37,13 +36,14 @@ use Rattle.editor.proofs.BackwardsItems.{Does, did_so}
 use Rattle.editor.proofs.BackwardsLaid.{draft_at}
 use Rattle.editor.proofs.BackwardsAhead.{Ahead, Here, gates_on, make_one, begin_table, take-entry, begin_choice, take-branches, give_one, end_here}
 use Rattle.editor.proofs.BackwardsWrote.{records_ahead, Wrote}
+use Rattle.checks.specs.Answer.{accepts}
 
 -- in a table some entry is left
 some_left : {file : List ℕ} {at left q : ℕ} {wires : List Wire} {outputs : List ℕ} → State file at (Entries left q) wires outputs → 0 < left
 some_left (in_table s room table) = table.some
 
 -- one word of an accepted reading, where the rest of the reading is as it should be
-module _ (file : List ℕ) (read : Read) (good : read.answer ≡ Accepted) (at : ℕ) (inside : at < words_in file) (wires : List Wire) (outputs : List ℕ)
+module _ (file : List ℕ) (read : Read) (good : read.answer ≡ accepts) (at : ℕ) (inside : at < words_in file) (wires : List Wire) (outputs : List ℕ)
     (then : Due → List Wire → List ℕ → Read)
     (rest :
     (due : Due) (wires : List Wire) (outputs : List ℕ) → State file (suc at) due wires outputs → then due wires outputs ≡ read
@@ -96,7 +96,7 @@ module _ (file : List ℕ) (read : Read) (good : read.answer ≡ Accepted) (at :
 
 -- the words that are left
 from :
-    (file : List ℕ) (b : Bytes file) (read : Read) (good : read.answer ≡ Accepted) (left at : ℕ) (due : Due) (wires : List Wire) (outputs : List ℕ)
+    (file : List ℕ) (b : Bytes file) (read : Read) (good : read.answer ≡ accepts) (left at : ℕ) (due : Due) (wires : List Wire) (outputs : List ℕ)
     → at + left ≤ words_in file
     → State file at due wires outputs
     → read_from file left at due wires outputs ≡ read
@@ -120,7 +120,7 @@ module _ (file : List ℕ) (h : has_head file ≡ true) where
 begun :
     (file : List ℕ) (b : Bytes file) (h : Bool)
     → has_head file ≡ h
-    → (headed h file).answer ≡ Accepted
+    → (headed h file).answer ≡ accepts
     → Ahead file (headed h file) 1 Inputs [] [] × (word_at file 0 ≡ 0x1000_0000)
 unfolding headed
 begun file b true h e =

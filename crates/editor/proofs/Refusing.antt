@@ -3,11 +3,10 @@
 -- Assumes nothing.
 use mathlib.Core.Path.{◌≡◌, refl, sym, ap, subst, ◌∙◌}
 use mathlib.Core.List.{List, [], ◌∷◌, ◌++◌, append-nil, append_assoc}
-use Prim.Native.Nat.{ℕ, suc, ◌-◌, ◌<◌}
+use Prim.Native.Nat.{ℕ, suc, ◌-◌}
 use native.Mathlib.Omega.{arith}
-use lib.ListN.{length, take, drop, length-append}
+use lib.ListN.{length}
 use lib.Seq.{take-append_seam, drop-append_seam}
-use Rattle.checks.specs.declared.Answer.TheVariants.{Refused}
 use Rattle.checks.specs.declared.Refusal.{Refusal}
 use Rattle.words.specs.Encode.{word_of, file_of}
 use Rattle.words.specs.Fits.{Fits}
@@ -27,16 +26,17 @@ use Rattle.editor.proofs.ForwardsStep.{turned}
 use Rattle.editor.proofs.ForwardsRecords.{AllSayable}
 use Rattle.editor.proofs.RefusingRun.{Follows, follows_leaving, follows_items, says_sayable, follows_all, drafted_more}
 use Rattle.editor.proofs.RefusingStops.{stopped_item, Stopped, Stops, stopped_record}
+use Rattle.checks.specs.Answer.{refuses}
 
 -- ---- the reader at an item that is refused
 
-refuses :
+reads_refused :
     (next : Due → List Wire → List ℕ → Read) (file : List ℕ) (at : ℕ) (wires : List Wire) (outputs : List ℕ) {s : Step} {reason : Refusal} {read : Read}
     → s ≡ Step.Refused reason
     → after next file at wires outputs s ≡ read
-    → read.answer ≡ Refused reason at
+    → read.answer ≡ refuses reason at
 unfolding after
-refuses next file at wires outputs e h = ap (λ (r : Read). r.answer) (sym (rw e at h))
+reads_refused next file at wires outputs e h = ap (λ (r : Read). r.answer) (sym (rw e at h))
 
 module _ (d : Draft) (x : Item) (rest : List ℕ) where
   -- a file with the words so far and the item's word, and what follows
@@ -48,9 +48,9 @@ module _ (d : Draft) (x : Item) (rest : List ℕ) where
       → Follows (d.words ++ (word_of x ∷ rest)) d
       → Fits x
       → laid d x ≡ stopped reason
-      → (read_file (file_of (d.words ++ (word_of x ∷ rest)))).answer ≡ Refused reason (length d.words)
+      → (read_file (file_of (d.words ++ (word_of x ∷ rest)))).answer ≡ refuses reason (length d.words)
   refused_there p f h =
-      refuses
+      reads_refused
       (read_from (file_of (d.words ++ (word_of x ∷ rest))) (words_in (file_of (d.words ++ (word_of x ∷ rest))) - suc (length d.words)) (suc (length d.words)))
       (file_of (d.words ++ (word_of x ∷ rest))) (length d.words) p.wires p.outputs
       (stopped_item d x _ h) (turned p.in_step f goes_on)

@@ -3,7 +3,6 @@
 -- Assumes nothing.
 use Rattle.std.specs.Prelude.{◌≡◌, List, [], ◌∷◌, ◌++◌, ℕ, ◌<◌, length, get_or, take, drop}
 use Rattle.lists.specs.Blocks.{tab}
-use Rattle.checks.specs.declared.Answer.TheVariants.{Accepted, Refused}
 use Rattle.checks.specs.declared.Refusal.{Refusal}
 use Rattle.checks.specs.declared.Refusal.TheVariants.{UnknownWord, WrongLength}
 use Rattle.words.specs.declared.gate.Due.TheVariants.{Entries}
@@ -19,10 +18,11 @@ use Rattle.writer.specs.declared.entry.Record.{Record}
 use Rattle.writer.specs.Says.{nothing, items, speech_of}
 use Rattle.writer.specs.Written.{Draft, Drafted, drafted, blank, leaving, unless_stopped, laid_all, recorded, refused, wrote, write_records}
 use Rattle.writer.specs.Call.{records_read, tables_read}
+use Rattle.checks.specs.Answer.{accepts, refuses}
 
 -- written and read: the file of the words is accepted, and its list is the editor's
 pub record ReadBack (records : List Record) (tables words : List ℕ) : Type 0 where
-  pub accepted : (read_file (file_of words)).answer ≡ Accepted
+  pub accepted : (read_file (file_of words)).answer ≡ accepts
   pub records_are : records_read (file_of words) ≡ records
   pub tables_are : tables_read (file_of words) ≡ tables
 
@@ -39,7 +39,7 @@ pub record WrittenBack (file : List ℕ) : Type 0 where
   pub bytes : file_of (tab (words_in file) (word_at file)) ≡ file
 
 abbrev pub ReadIsWritten : Type 0
-ReadIsWritten = (file : List ℕ) → Bytes file → (read_file file).answer ≡ Accepted → WrittenBack file
+ReadIsWritten = (file : List ℕ) → Bytes file → (read_file file).answer ≡ accepts → WrittenBack file
 
 -- writing the first records, up to an index, comes to a draft
 unfoldable pub drafted_to : List Record → Draft → Drafted
@@ -91,7 +91,7 @@ pub data RefusedSo (records : List Record) (tables : List ℕ) (reason : Refusal
       {d : Draft} {x : Item}
       → Reached records tables place d x
       → judged d.moduli d.given (length d.words) d.due x ≡ Step.Refused reason
-      → (Fits x → (rest : List ℕ) → (read_file (file_of (d.words ++ (word_of x ∷ rest)))).answer ≡ Refused reason (length d.words))
+      → (Fits x → (rest : List ℕ) → (read_file (file_of (d.words ++ (word_of x ∷ rest)))).answer ≡ refuses reason (length d.words))
       → RefusedSo records tables reason place
 
 abbrev pub RefusedIsRefused : Type 0

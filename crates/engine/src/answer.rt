@@ -1,8 +1,9 @@
 // An answer as C has it.
 ghost use Rattle.std.specs.Prelude.{◌≡◌};
-ghost use Rattle.checks.specs.Answer.{number_in, place_in};
+ghost use Rattle.checks.specs.Answer.{number_of, number_in, place_in};
+ghost use Rattle.engine.specs.Told.{Told};
 
-use checks::{Answer, answer_number, answer_place};
+use checks::{Answer, Refused};
 
 // Number and place, 0 and 0 where the call was accepted: `lupiknam_answer` of the header.
 #[repr(C)]
@@ -12,12 +13,40 @@ pub struct Reported {
     pub place: usize,
 }
 
-// What the calls answer, so.
-pub fn told(answer: Answer) -> Reported
-    ensures { (result.number ≡ number_in answer) × (result.place ≡ place_in answer) }
+impl From<Refused> for Reported {
+    ghost from_gives = { λ why reported. (reported.number ≡ number_of why.reason) × (reported.place ≡ why.place) };
+
+    fn from(why: Refused) -> Reported {
+        Reported {
+            number: why.reason.into(),
+            place: why.place,
+        }
+    }
+}
+
+impl From<Answer> for Reported {
+    ghost from_gives = { λ answer reported. (reported.number ≡ number_in answer) × (reported.place ≡ place_in answer) };
+
+    fn from(answer: Answer) -> Reported {
+        match answer {
+            Ok(()) => Reported {
+                number: 0,
+                place: 0,
+            },
+            Err(why) => why.into(),
+        }
+    }
+}
+
+// The answer of a call that gives a number where it is accepted: the number goes to its place, which a refused call leaves as it was.
+pub fn tell<T: Copy>(found: Result<T, Refused>, out: &mut T) -> Reported
+    ensures { Told found out.old result.number result.place out.new }
 {
-    Reported {
-        number: answer_number(answer),
-        place: answer_place(answer),
+    match found {
+        Ok(value) => {
+            *out = value;
+            Ok(()).into()
+        }
+        Err(why) => why.into(),
     }
 }

@@ -8,6 +8,5 @@ use meter::carried;
 pub fn lupiknam_meter_carry(total: u32, meter: &mut [u32; 8])
     ensures { meter.new ≡ carried total }
 {
-    let totals = carried(total);
-    *meter = totals;
+    *meter = carried(total);
 }

@@ -2,7 +2,7 @@
 ghost use Rattle.calls.specs.Garble.{GarbleCall};
 ghost use Rattle.calls.specs.Open.{OpenCall};
 
-use super::answer::{Reported, told};
+use super::answer::Reported;
 use row_calls::{garble, open_rows};
 use session::{AskedSeat, AskedSession};
 
@@ -23,7 +23,7 @@ pub fn lupiknam_garble(
         (record { totals = meter.old; account = account }) result.number result.place rows.new input_masks.new output_masks.new meter.new }
 {
     let asked = AskedSession { n, k, round };
-    let answer = garble(
+    garble(
         file,
         asked,
         contributions,
@@ -32,8 +32,8 @@ pub fn lupiknam_garble(
         output_masks,
         account,
         meter,
-    );
-    told(answer)
+    )
+    .into()
 }
 
 // The keys and external value of every wire at a party, from the rows of a round: 1 to 13, 28, 14 to 20.
@@ -54,7 +54,7 @@ pub fn lupiknam_open(
         wire_keys.old wire_externals.old result.number result.place wire_keys.new wire_externals.new }
 {
     let asked = AskedSeat { n, k, party, round };
-    let answer = open_rows(
+    open_rows(
         file,
         asked,
         contribution,
@@ -63,6 +63,6 @@ pub fn lupiknam_open(
         rows,
         wire_keys,
         wire_externals,
-    );
-    told(answer)
+    )
+    .into()
 }

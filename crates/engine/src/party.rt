@@ -3,7 +3,7 @@ ghost use Rattle.calls.specs.Externals.{ExternalsCall};
 ghost use Rattle.calls.specs.InputKeys.{InputKeysCall};
 ghost use Rattle.calls.specs.Decode.{DecodeCall};
 
-use super::answer::{Reported, told};
+use super::answer::Reported;
 use party_calls::{decode, input_keys};
 
 // The external values of a party's own inputs, from their values and masks: 1 to 10, 11 for n, 12, 13, 28, 14, 15.
@@ -17,8 +17,7 @@ pub fn lupiknam_externals(
 ) -> Reported
     ensures { ExternalsCall file.now n party values.now masks.now externals.old result.number result.place externals.new }
 {
-    let answer = party_calls::externals(file, n, party, values, masks, externals);
-    told(answer)
+    party_calls::externals(file, n, party, values, masks, externals).into()
 }
 
 // A party's keys on all inputs, from its contribution and the external values: 1 to 13, 28, 14 to 17.
@@ -33,8 +32,7 @@ pub fn lupiknam_input_keys(
 ) -> Reported
     ensures { InputKeysCall file.now n k party contribution.now externals.now keys.old result.number result.place keys.new }
 {
-    let answer = input_keys(file, n, k, party, contribution, externals, keys);
-    told(answer)
+    input_keys(file, n, k, party, contribution, externals, keys).into()
 }
 
 // The values of the outputs that a party may read, from external values and its sheet of output masks, 255 for the others: 1 to 10, 11 for n, 12, 13, 28, 14,
@@ -49,6 +47,5 @@ pub fn lupiknam_decode(
 ) -> Reported
     ensures { DecodeCall file.now n party externals.now masks.now outputs.old result.number result.place outputs.new }
 {
-    let answer = decode(file, n, party, externals, masks, outputs);
-    told(answer)
+    decode(file, n, party, externals, masks, outputs).into()
 }

@@ -1,8 +1,7 @@
 // The calls that read a circuit and count in it.
 ghost use Rattle.read_calls.specs.Read.{ReadCall, InputsOfCall};
 
-use super::answer::{Reported, told};
-use checks::Answer;
+use super::answer::{Reported, tell};
 use read_calls::{inputs_of, summary_of};
 
 // Reads a circuit: 1 to 10.
@@ -18,19 +17,17 @@ pub fn lupiknam_read(
     ensures { ReadCall file.now wires.old inputs.old outputs.old rows.old moduli.old record_keys.old
         result.number result.place wires.new inputs.new outputs.new rows.new moduli.new record_keys.new }
 {
-    let found = summary_of(file);
-    let answer = found.answer;
-    match answer {
-        Answer::Accepted => {
+    match summary_of(file) {
+        Ok(found) => {
             *wires = found.wires;
             *inputs = found.inputs;
             *outputs = found.outputs;
             *rows = found.rows;
             *moduli = found.moduli;
             *record_keys = found.records;
-            told(Answer::Accepted)
+            Ok(()).into()
         }
-        Answer::Refused(reason, place) => told(Answer::Refused(reason, place)),
+        Err(why) => why.into(),
     }
 }
 
@@ -38,13 +35,5 @@ pub fn lupiknam_read(
 pub fn lupiknam_inputs_of(file: &[u8], n: u32, party: u32, count: &mut u32) -> Reported
     ensures { InputsOfCall file.now n party count.old result.number result.place count.new }
 {
-    let found = inputs_of(file, n, party);
-    let answer = found.answer;
-    match answer {
-        Answer::Accepted => {
-            *count = found.count;
-            told(Answer::Accepted)
-        }
-        Answer::Refused(reason, place) => told(Answer::Refused(reason, place)),
-    }
+    tell(inputs_of(file, n, party), count)
 }

@@ -5,23 +5,14 @@ ghost use Rattle.pair.specs.InputKeys.{PairInputKeysCall};
 ghost use Rattle.pair.specs.Open.{PairOpenCall};
 ghost use Rattle.pair.specs.Decode.{PairDecodeCall};
 
-use super::answer::{Reported, told};
-use checks::Answer;
+use super::answer::{Reported, tell};
 use pair_calls::{AskedRound, pair_decode, pair_garble, pair_input_keys, pair_open, pair_read};
 
 // The rows that a circuit has in the two-party form: 1 to 10, 26.
 pub fn lupiknam_pair_read(file: &[u8], rows: &mut u32) -> Reported
     ensures { PairReadCall file.now rows.old result.number result.place rows.new }
 {
-    let found = pair_read(file);
-    let answer = found.answer;
-    match answer {
-        Answer::Accepted => {
-            *rows = found.rows;
-            told(Answer::Accepted)
-        }
-        Answer::Refused(reason, place) => told(Answer::Refused(reason, place)),
-    }
+    tell(pair_read(file), rows)
 }
 
 // Rows and output masks of a round, from what the garbler drew, and the named account charged: 1 to 10, 26, 11 for k, 13, 14, 25, 16, 27, 21.
@@ -39,8 +30,7 @@ pub fn lupiknam_pair_garble(
         (record { totals = meter.old; account = account }) result.number result.place rows.new output_masks.new meter.new }
 {
     let asked = AskedRound { k, round };
-    let answer = pair_garble(file, asked, draw, rows, output_masks, account, meter);
-    told(answer)
+    pair_garble(file, asked, draw, rows, output_masks, account, meter).into()
 }
 
 // The keys of all inputs, from what the garbler drew and one value per input: 1 to 10, 26, 11 for k, 13, 14, 15, 16, 27.
@@ -53,8 +43,7 @@ pub fn lupiknam_pair_input_keys(
 ) -> Reported
     ensures { PairInputKeysCall file.now k draw.now values.now keys.old result.number result.place keys.new }
 {
-    let answer = pair_input_keys(file, k, draw, values, keys);
-    told(answer)
+    pair_input_keys(file, k, draw, values, keys).into()
 }
 
 // The key and the external value of every wire, from the input keys and the rows of a round: 1 to 10, 26, 11 for k, 13, 14, 18.
@@ -71,8 +60,7 @@ pub fn lupiknam_pair_open(
         result.number result.place wire_keys.new wire_externals.new }
 {
     let asked = AskedRound { k, round };
-    let answer = pair_open(file, asked, keys, rows, wire_keys, wire_externals);
-    told(answer)
+    pair_open(file, asked, keys, rows, wire_keys, wire_externals).into()
 }
 
 // The outputs' values, from external values and output masks: 1 to 10, 14, 15.
@@ -84,6 +72,5 @@ pub fn lupiknam_pair_decode(
 ) -> Reported
     ensures { PairDecodeCall file.now externals.now masks.now outputs.old result.number result.place outputs.new }
 {
-    let answer = pair_decode(file, externals, masks, outputs);
-    told(answer)
+    pair_decode(file, externals, masks, outputs).into()
 }

@@ -67,23 +67,23 @@ module _ {file : List ℕ} {circuit : Circuit} {n K size : ℕ} {contributions :
 
   module _ {keys masks : List ℕ} (z : ZeroKeys circuit n K contributions keys) (m : Masks circuit n K contributions masks) where
     module _ {ranks moduli : List ℕ} (er : ranks ≡ tab 256 (used_below wires)) (em : moduli ≡ moduli_of wires ++ replicate (1024 - circuit.made) 0)
-        {w at y b : ℕ} (h : w < circuit.made) (here : at ≡ record_at K wires w)
-        (e : y ≡ rows_by (recipe (wire_at circuit.wires w)) (λ a. get_or moduli a 0) (wire_at circuit.wires w).modulus * b) (f : b ≡ n * K) where
+        {w at y b : ℕ} (h : w < length wires) (here : at ≡ record_at K wires w)
+        (e : y ≡ rows_by (recipe (wire_at wires w)) (λ a. get_or moduli a 0) (wire_at wires w).modulus * b) (f : b ≡ n * K) where
       -- y bytes are those of the wire's rows
       pub turn-size : y ≡ size_at w
       turn-size = e ∙ ap₂ ◌*◌ (rows-counted r z m er em h here) f
 
-      module _ (round number count : ℕ) (en : number ≡ w) (ec : Counts 3 (record_keys_by (recipe (wire_at circuit.wires w))) count) where
+      module _ (round number count : ℕ) (en : number ≡ w) (ec : Counts 3 (record_keys_by (recipe (wire_at wires w))) count) where
         abbrev turn : Turn
-        turn = record { n = n; k = K; round = round; wire = number; modulus = (wire_at circuit.wires w).modulus; size = size; at = at; count = count }
+        turn = record { n = n; k = K; round = round; wire = number; modulus = (wire_at wires w).modulus; size = size; at = at; count = count }
 
-        pub turn-ready : {how : Recipe} {out : List ℕ} → how ≡ recipe (wire_at circuit.wires w) → length out ≡ size_at w
+        pub turn-ready : {how : Recipe} {out : List ℕ} → how ≡ recipe (wire_at wires w) → length out ≡ size_at w
             → Sourced turn contributions ranks moduli keys masks file how out
         turn-ready {out = out} g l =
             subst (λ (q : Recipe). Sourced turn contributions ranks moduli keys masks file q out) (sym g)
             (sourced r z m er em h here round number count en ec.is ec.most (l ∙ ap (λ (i : ℕ). i * (n * K)) (sym (rows-counted r z m er em h here))))
 
-        pub turn-rows : {how : Recipe} {xs : List ℕ} → how ≡ recipe (wire_at circuit.wires w)
+        pub turn-rows : {how : Recipe} {xs : List ℕ} → how ≡ recipe (wire_at wires w)
             → xs ≡ rows_here turn contributions ranks moduli keys masks file how → xs ≡ rows_at round w
         turn-rows g k = k ∙ ap (rows_here turn contributions ranks moduli keys masks file) g ∙ rows_are r z m er em h here round number count en ec.is
 

@@ -1,7 +1,6 @@
 -- The laws of garbling.
 pub mod Fronts
 pub mod Looked
-pub mod Called
 pub mod Arms
 pub mod Garbled
 pub mod Sheets

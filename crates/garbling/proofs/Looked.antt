@@ -18,9 +18,8 @@ use Rattle.circuit.specs.Held.{wires_in}
 use Rattle.counts.specs.declared.recipe.Recipe.{Recipe}
 use Rattle.counts.specs.Recipe.{recipe}
 use Rattle.counts.specs.Counts.{record_keys_by, record_keys_of, rows_by, rows_of}
-use Rattle.counts.specs.Images.{ImagesFit}
 use Rattle.counts.specs.Moduli.{used, used_below}
-use Rattle.counts.proofs.Wires.{wire-at, padded-modulus}
+use Rattle.counts.proofs.Wires.{padded-modulus}
 use Rattle.counts.proofs.Counting.{rows_same}
 use Rattle.counts.proofs.Recipes.{RecipeFits, recipe-fits}
 use Rattle.counts.proofs.Recipes.RecipeFits.{entered, sum, multiple, table, product, choice}
@@ -34,10 +33,10 @@ use Rattle.scheme.specs.Gate.{table_rows, product_rows, choice_rows, Source, row
 use Rattle.scheme.specs.Rows.{source_of, gate_rows}
 use Rattle.scheme.proofs.Bounds.{prime}
 use Rattle.scheme.proofs.Used.{used-modulus}
-use Rattle.scheme.proofs.Places.{offset-fits}
+use Rattle.scheme.proofs.Places.{offset-fits, record_fits}
 use Rattle.zero.specs.Ready.{Contributed, ZeroKeys, Masks, drawn_in}
 use Rattle.zero.specs.Turn.{keys_at, mask_at}
-use Rattle.contribution.proofs.Cursor.{within, cursor_fits}
+use Rattle.contribution.proofs.Cursor.{record_next}
 use Rattle.zero.proofs.Made.{zero_key_size, mask_below, zero_keys_at, masks-at, masks-kept}
 use Rattle.garbling.specs.declared.turn.Turn.{Turn}
 use Rattle.garbling.specs.Source.{source_here, rows_here, Offsets, Reduced, OfRecipe, Sourced}
@@ -159,33 +158,29 @@ module _ {file : List ℕ} {circuit : Circuit} {n K size : ℕ} {contributions :
       pub moduli-long : length moduli ≡ 1024
       moduli-long = ap length em ∙ simp length-append (omega (arith, length-replicate {A = ℕ} (1024 - circuit.made) 0, made wires, made-is r.held, r.held.room.made))
 
-      -- ---- a wire of the code's array, at its turn
+      -- ---- a wire, at its turn
 
-      module _ {w at : ℕ} (h : w < circuit.made) (here : at ≡ record_at K wires w) where
+      module _ {w at : ℕ} (h : w < length wires) (here : at ≡ record_at K wires w) where
         abbrev wire : Wire
-        wire = wire_at circuit.wires w
-
-        same : wire_at wires w ≡ wire
-        same = wire-at circuit.wires circuit.made w h
-
-        inside : w < length wires
-        inside = within r.held h
+        wire = wire_at wires w
 
         lower : {a : ℕ} → a < w → a < length wires
-        lower l = omega (arith, inside)
+        lower l = omega (arith, h)
 
         pub rows-counted : rows_by (recipe wire) (λ a. get_or moduli a 0) wire.modulus ≡ rows_of wires w
-        rows-counted = rows_same (recipe wire) _ (modulus_at wires) wire.modulus modulus_is ∙ ap (λ (v : Wire). rows_by (recipe v) (modulus_at wires) v.modulus) (sym same)
+        rows-counted = rows_same (recipe wire) _ (modulus_at wires) wire.modulus modulus_is
+
+        -- the next record, and where this one ends
+        module _ {step : ℕ} (e : step ≡ (K + 1) * record_keys_by (recipe wire)) where
+          pub record-past : at + step ≡ record_at K wires (w + 1)
+          record-past = omega (arith, record_next K wires w)
+
+          pub record-inside : at + step ≤ size
+          record-inside = omega (arith, record_fits K wires w h, r.each)
 
         module _ (round number count : ℕ) (en : number ≡ w) (ec : count ≡ record_keys_by (recipe wire)) where
           abbrev turn : Turn
           turn = record { n = n; k = K; round = round; wire = number; modulus = wire.modulus; size = size; at = at; count = count }
-
-          p_is : modulus_at wires w ≡ wire.modulus
-          p_is = ap (λ (v : Wire). v.modulus) same
-
-          pairs : record_keys_of wires w ≡ count
-          pairs = ap (λ (v : Wire). record_keys_by (recipe v)) same ∙ sym ec
 
           operands : {how : Recipe} → RecipeFits file wires w how → OfRecipe turn ranks moduli keys masks file how
           operands (entered f) = OfRecipe.entered
@@ -201,19 +196,19 @@ module _ {file : List ℕ} {circuit : Circuit} {n K size : ℕ} {contributions :
                       modulus = (prime r.accepted g.a (lower f.lower)).two;
                       operand = operand turn refl g.a (lower f.lower) refl;
                       offsets = offsets_there er turn refl refl g.a (lower f.lower) refl;
-                      images = subst (λ (q : ℕ). ImagesFit file g.images (modulus_at wires g.a) q) p_is f.images;
+                      images = f.images;
                     });
               })
           operands (product {g} f) =
               OfRecipe.product {g = g}
-              (record { a = operand turn refl g.a (lower f.a.lower) (f.a.same ∙ p_is); b = operand turn refl g.b (lower f.b.lower) (f.b.same ∙ p_is) })
+              (record { a = operand turn refl g.a (lower f.a.lower) f.a.same; b = operand turn refl g.b (lower f.b.lower) f.b.same })
           operands (choice {g} f) =
               OfRecipe.choice {g = g}
               (record {
                 bit = operand turn refl g.bit (lower f.lower) f.binary;
                 pair = offsets_there er turn refl refl g.bit (lower f.lower) f.binary;
-                a = operand turn refl g.a (lower f.a.lower) (f.a.same ∙ p_is);
-                b = operand turn refl g.b (lower f.b.lower) (f.b.same ∙ p_is);
+                a = operand turn refl g.a (lower f.a.lower) f.a.same;
+                b = operand turn refl g.b (lower f.b.lower) f.b.same;
               })
 
           pub sourced : count ≤ 3 → {out : List ℕ} → length out ≡ rows_by (recipe wire) (λ a. get_or moduli a 0) wire.modulus * (n * K)
@@ -223,14 +218,14 @@ module _ {file : List ℕ} {circuit : Circuit} {n K size : ℕ} {contributions :
                 drawn = record {
                   own = record {
                     gathers = record { sizes = r.sizes; all = r.all };
-                    modulus = rw (← p_is) (prime r.accepted w inside).two;
+                    modulus = (prime r.accepted w h).two;
                     few = few;
-                    fits = cursor_fits r.held K h here r.each (ap (λ (m : ℕ). (K + 1) * m) ec);
+                    fits = record-inside (ap (λ (m : ℕ). (K + 1) * m) ec);
                   };
                   count = ec;
-                  offsets = offsets_there er turn refl refl w inside p_is;
+                  offsets = offsets_there er turn refl refl w h refl;
                 };
-                operands = subst (λ (v : Wire). OfRecipe turn ranks moduli keys masks file (recipe v)) same (operands (recipe-fits r.accepted w inside));
+                operands = operands (recipe-fits r.accepted w h);
                 room = e;
               }
 
@@ -241,12 +236,11 @@ module _ {file : List ℕ} {circuit : Circuit} {n K size : ℕ} {contributions :
                 modulus = modulus_is;
                 modulus' = λ a. refl;
                 wire = λ a l. pair_is (zero_is a (lower l)) (mask_is a (lower l));
-                drawn = λ j l. pair_is (key-is w here j) (ap (λ (q : ℕ). mask_at n size contributions q (at + K * count + j)) (sym p_is) ∙ share_is w here count j pairs);
+                drawn = λ j l. pair_is (key-is w here j) (share_is w here count j (sym ec));
               }
 
           pub rows_are : rows_here turn contributions ranks moduli keys masks file (recipe wire) ≡ gate_rows (shake_pad round) n K file wires drew w
           unfolding gate_rows
           rows_are =
               ap (λ (i : ℕ). rows_from (shake_pad round) n K i wire.modulus file (source_here turn contributions ranks moduli keys masks) (recipe wire)) en
-              ∙ ap (λ (v : Wire). rows_from (shake_pad round) n K w v.modulus file (source_here turn contributions ranks moduli keys masks) (recipe v)) (sym same)
-              ∙ from_same (shake_pad round) n K (recipe-fits r.accepted w inside) (λ a l. (r.accepted.fits a (omega (arith, inside))).byte) agree
+              ∙ from_same (shake_pad round) n K (recipe-fits r.accepted w h) (λ a l. (r.accepted.fits a (omega (arith, h))).byte) agree

@@ -93,10 +93,6 @@ pub record Front (turn : Turn) (xs r : List ℕ) : Type 0 where
   pub kept : length r ≡ 1024
   pub front : take (turn.n * turn.k) r ≡ xs
 
-pub record CopiedFront (piece r : List ℕ) : Type 0 where
-  pub kept : length r ≡ 1024
-  pub front : take (length piece) r ≡ piece
-
 -- a pair stands for keys and mask
 pub record HeldOf (turn : Turn) (x : Keyed) (r : Held) : Type 0 where
   pub long : length r.key ≡ 1024

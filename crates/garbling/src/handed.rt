@@ -5,7 +5,6 @@ ghost use Rattle.circuit.specs.Named.{may_read};
 ghost use Rattle.garbling.specs.Sheets.{sheet_here, Hands};
 
 use circuit::{Circuit, may_read};
-use lists::{index_number, wire_index};
 
 // Inputs are the first wires.
 pub fn put_input_masks(masks: &[u8], inputs: &mut [u8])
@@ -13,7 +12,7 @@ pub fn put_input_masks(masks: &[u8], inputs: &mut [u8])
     ensures { inputs.new ≡ take (length inputs.old) masks.now }
 {
     let count = inputs.len();
-    lists::copy(inputs, &masks[..count]);
+    inputs.copy_from_slice(&masks[..count]);
 }
 
 // What a party is shown of an output's mask.
@@ -28,12 +27,9 @@ fn put_sheet(circuit: Circuit, masks: &[u8], party: u32, sheet: &mut [u8])
     requires { Hands circuit masks.now × (length sheet.old ≡ circuit.given) }
     ensures { sheet.new ≡ sheet_here circuit masks.now party }
 {
-    let given = circuit.given;
-    let mut i = 0;
-    while i < given {
-        let at = wire_index(circuit.outputs[i]);
-        sheet[i] = shown(circuit.named[i], party, masks[at]);
-        i += 1;
+    for (i, byte) in sheet.iter_mut().enumerate() {
+        let at = usize::from(circuit.outputs[i]);
+        *byte = shown(circuit.named[i], party, masks[at]);
     }
 }
 
@@ -44,11 +40,9 @@ pub fn put_sheets(circuit: Circuit, masks: &[u8], n: usize, sheets: &mut [u8])
 {
     let given = circuit.given;
     let mut at = 0;
-    let mut party = 0;
-    while party < n {
+    for party in 0..n {
         let to = at + given;
-        put_sheet(circuit, masks, index_number(party), &mut sheets[at..to]);
+        put_sheet(circuit, masks, party as u32, &mut sheets[at..to]);
         at = to;
-        party += 1;
     }
 }

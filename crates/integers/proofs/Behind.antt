@@ -10,7 +10,6 @@ use lib.ListN.{length, get_or, take, drop, length-append, take-append-drop}
 use lib.Seq.{length-take-le, get_or-append-add, take-append-add}
 use borrow.Author.Tests.{lt-ltb, le-leb}
 use Rattle.lists.proofs.Blocks.{length-tab, get_or-tab, is-tab}
-use Rattle.checks.specs.declared.Answer.TheVariants.{Accepted}
 use Rattle.words.specs.Bits.{word_at, named as named_in}
 use Rattle.words.specs.Items.{gate_due, output_due}
 use Rattle.words.specs.Encode.{word_of, file_of}
@@ -37,6 +36,7 @@ use Rattle.integers.proofs.Reaching.{read_on, itself, SameTo, fewer, moved, turn
 use Rattle.integers.proofs.Suits.{modulus_of, AllSuit, Arrived, wire-modulus, advance, part_wires, length_part_wires, said, first_word, passed}
 use Rattle.integers.proofs.Computes.{holds, part_suits}
 use Rattle.integers.proofs.GatesEnd.{Ended, gates_end}
+use Rattle.checks.specs.Answer.{accepts}
 
 -- ---- outputs and the end word behind the last gate
 
@@ -186,7 +186,7 @@ module _ (file new rest : List ℕ) (is : new ≡ gates file ++ rest) {at : ℕ}
 
 -- ---- the file with the part
 
-module _ (file : List ℕ) (operation : Operation) (r a : ℕ) (outputs named : List ℕ) (good : (read_file file).answer ≡ Accepted)
+module _ (file : List ℕ) (operation : Operation) (r a : ℕ) (outputs named : List ℕ) (good : (read_file file).answer ≡ accepts)
     {bytes : ℕ} (c : PartPassed operation r (length (read_file file).wires) a bytes) where
   abbrev before : List Wire
   before = (read_file file).wires
@@ -275,8 +275,8 @@ module _ (file : List ℕ) (operation : Operation) (r a : ℕ) (outputs named : 
           bytes = fit.bytes;
         }
 
-    accepts : read_file new ≡ accepted (before ++ more) outputs named
-    accepts =
+    reads_so : read_file new ≡ accepted (before ++ more) outputs named
+    reads_so =
         let at : ℕ = end.at + length part in
         closes new (before ++ more) few_wires outputs named [] at (at + length outputs) arrived.due arrived.reach
         (gates-outputs arrived.due arrived.here) behind_part size refl left_all
@@ -284,7 +284,7 @@ module _ (file : List ℕ) (operation : Operation) (r a : ℕ) (outputs named : 
 
     -- the gates now end behind the part
     gates_now : words_to_gates new ≡ end.at + length part
-    gates_now = omega (arith, size, length-closing outputs named fit.each, ap (λ (read : Read). length read.outputs) accepts)
+    gates_now = omega (arith, size, length-closing outputs named fit.each, ap (λ (read : Read). length read.outputs) reads_so)
 
     has_part : Among new (length before) (file_of part)
     has_part =
@@ -312,7 +312,7 @@ module _ (file : List ℕ) (operation : Operation) (r a : ℕ) (outputs named : 
         record {
           more = more;
           made = length_part_wires (part_of operation r a) end.at ∙ count;
-          reads = accepts;
+          reads = reads_so;
           bundle = made_bundle;
           has = has_part;
           stays = stay;
@@ -323,7 +323,7 @@ behind file operation r a size outputs named good checks given fit =
     behind_it file operation r a outputs named good (part_passed operation r (length (read_file file).wires) a size refl checks) given fit
 
 -- the outputs that the circuit had fit, with the parties that they name: they may stand behind the part too
-pub own-outputs : (file : List ℕ) (r : ℕ) → (read_file file).answer ≡ Accepted
+pub own-outputs : (file : List ℕ) (r : ℕ) → (read_file file).answer ≡ accepts
     → OutputsFit (read_file file).outputs (read_file file).named (length (read_file file).wires + r)
 own-outputs file r good =
     let circuit = circuit-of file good in

@@ -15,7 +15,6 @@ use Rattle.residue.specs.Residue.{add, mul}
 use Rattle.residue.proofs.Table.{and_left, and_right}
 use Rattle.residue.proofs.Ring.{ring}
 use Rattle.residue.proofs.Ring.Expr.{var, ◌⊕◌, ◌⊗◌}
-use Rattle.checks.specs.declared.Answer.TheVariants.{Accepted}
 use Rattle.words.specs.Items.{gate_due, is_modulus}
 use Rattle.words.specs.Encode.{word_of, file_of}
 use Rattle.words.specs.declared.gate.Wire.{Wire}
@@ -37,6 +36,7 @@ use Rattle.integers.proofs.Reaching.{wires_stay, Longer}
 use Rattle.integers.proofs.Suits as suit
 use Rattle.integers.proofs.Suits.{modulus_of, Suits, AllSuit, Arrived, apart, starts}
 use Rattle.integers.proofs.Meets.{Meets, value_at, value_of, Ranged, each_at, meets}
+use Rattle.checks.specs.Answer.{accepts}
 
 -- ---- the gates suit a circuit that has the bundles
 
@@ -150,13 +150,13 @@ given (Carried.scale f) = Given.scale f.bundle
 -- ---- the theorem
 
 -- where the part stands, a gate is due
-module _ (file : List ℕ) (good : (read_file file).answer ≡ Accepted) {at : ℕ} {due : Due} {before : List Wire} {outputs : List ℕ} (reach : Reach file at due before outputs) where
+module _ (file : List ℕ) (good : (read_file file).answer ≡ accepts) {at : ℕ} {due : Due} {before : List Wire} {outputs : List ℕ} (reach : Reach file at due before outputs) where
   due_there : {gates : List PartGate} → AllSuit (moduli_of before) gates → 0 < length gates → length before ≤ 1024 → Stands file at (words_of gates) → gate_due due ≡ true
   unfolding words_of
   due_there AllSuit.none h most s = absurd (omega arith)
   due_there {gates = gate ∷ gates} (AllSuit.more f fs) h most s = starts reach good most f (stands_left (map word_of (items_of gate)) (words_of gates) s)
 
-module _ (file values : List ℕ) (operation : Operation) (r first a x y : ℕ) (good : (read_file file).answer ≡ Accepted)
+module _ (file values : List ℕ) (operation : Operation) (r first a x y : ℕ) (good : (read_file file).answer ≡ accepts)
     {size : ℕ} (c : PartPassed operation r first a size) (has : Has file first (file_of (part_words operation r a))) (carried : Carried file values r a x y operation) where
   there : Stands file has.at (part_words operation r a)
   there = subst (λ (f : List ℕ). Stands f has.at (part_words operation r a)) (sym has.is) (stands has.front (part_words operation r a) has.rest has.at has.whole)

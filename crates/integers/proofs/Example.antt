@@ -12,7 +12,6 @@ use Rattle.lists.specs.First.{first_from, first}
 use Rattle.lists.specs.Grown.{extended, grown}
 use Rattle.residue.specs.Prime.{remainders_below, is_prime, prime_within, prime_from}
 use Rattle.residue.specs.Residue.{add, mul}
-use Rattle.checks.specs.declared.Answer.TheVariants.{Accepted}
 use Rattle.checks.specs.Checked.{unless, and_then}
 use Rattle.words.specs.Items.{check, after_entry}
 use Rattle.words.specs.Reading.{said, read_word}
@@ -34,10 +33,11 @@ use Rattle.integers.specs.Example.{file, values, inputs}
 use Rattle.integers.proofs.Computes.{computes}
 use Rattle.integers.proofs.Figures.{entered}
 use Rattle.integers.proofs.Behind.{behind}
+use Rattle.checks.specs.Answer.{accepts}
 
-accepts : (read_file file).answer ≡ Accepted
+reads_so : (read_file file).answer ≡ accepts
 unfolding file file_of read_file headed read_from after ended read_word said check after_entry is_prime remainders_below
-accepts = refl
+reads_so = refl
 
 three : (P : ℕ → Type 0) → P 0 → P 1 → P 2 → (i : ℕ) → i < 3 → P i
 three P a b c zero h = a
@@ -56,16 +56,16 @@ second-bundle = record { made = omega arith; moduli = three (λ i. modulus_at (r
 
 seventeen : Carries file values 3 0 17
 unfolding file file_of read_file headed read_from after ended read_word said check after_entry is_prime remainders_below prime prime_from prime_within inputs_in values split part blocks
-seventeen = entered file values 3 0 17 accepts first-bundle (omega arith) refl
+seventeen = entered file values 3 0 17 reads_so first-bundle (omega arith) refl
 
 nine : Carries file values 3 3 9
 unfolding file file_of read_file headed read_from after ended read_word said check after_entry is_prime remainders_below prime prime_from prime_within inputs_in values split part blocks
-nine = entered file values 3 3 9 accepts second-bundle (omega arith) refl
+nine = entered file values 3 3 9 reads_so second-bundle (omega arith) refl
 
 -- ---- one part appended after the other
 
 -- the inputs alone, with one of them as output; the sum appended, with one of its wires as output; and the multiple behind that
-inputs_accept : (read_file inputs).answer ≡ Accepted
+inputs_accept : (read_file inputs).answer ≡ accepts
 unfolding inputs file_of read_file headed read_from after ended read_word said check is_prime remainders_below
 inputs_accept = refl
 
@@ -140,11 +140,11 @@ has_multiple =
 
 sum : Carries file values 3 6 26
 unfolding part_checked range_checked unless and_then words_of blocks prime prime_from prime_within is_prime remainders_below
-sum = computes file values (Operation.Add 3) 3 6 0 17 9 12 accepts refl has_sum (Carried.add seventeen nine)
+sum = computes file values (Operation.Add 3) 3 6 0 17 9 12 reads_so refl has_sum (Carried.add seventeen nine)
 
 pub multiple : Carries file values 3 9 104
 unfolding part_checked range_checked unless and_then words_of scaled blocks prime prime_from prime_within is_prime remainders_below product_to
-multiple = computes file values (Operation.Scale 4) 3 9 6 26 0 20 accepts refl has_multiple (Carried.scale sum)
+multiple = computes file values (Operation.Scale 4) 3 9 6 26 0 20 reads_so refl has_multiple (Carried.scale sum)
 
 -- 104 modulo 30
 pub joins_to : join 3 (plain_outputs file (read_file file).wires (read_file file).outputs values) ≡ 14

@@ -9,7 +9,6 @@ use lib.Dec.{ltb, leb}
 use lib.ListN.{length}
 use borrow.Author.Tests.{leb-true, ltb-true}
 use Rattle.residue.proofs.Table.{and_left}
-use Rattle.checks.specs.declared.Answer.TheVariants.{Accepted}
 use Rattle.checks.proofs.Passed.{never}
 use Rattle.words.specs.Bits.{word_at}
 use Rattle.words.specs.Items.{gate_due, output_due, after_entry}
@@ -25,6 +24,7 @@ use Rattle.circuit.proofs.State.{not-true}
 use Rattle.circuit.proofs.Word.{Did, did}
 use Rattle.circuit.proofs.More.{length_more}
 use Rattle.integers.specs.Reach.{Reach}
+use Rattle.checks.specs.Answer.{accepts}
 
 -- ---- behind the first output
 
@@ -62,15 +62,15 @@ record Tail (file : List ℕ) (wires : List Wire) (outputs : List ℕ) (at : ℕ
 at_end : (b : Bool) (file : List ℕ) (at : ℕ) (wires : List Wire) (outputs named : List ℕ)
     → leb (length file) (4 * suc at) ≡ b
     → at < words_in file
-    → (ended b at wires outputs named).answer ≡ Accepted
+    → (ended b at wires outputs named).answer ≡ accepts
     → Tail file wires outputs at (ended b at wires outputs named)
 unfolding ended
 at_end true file at wires outputs named e l a = record { wires_are = refl; count = omega (arith, leb-true (length file) (4 * suc at) e) }
 at_end false file at wires outputs named e l a = never a
 
 module _ (file : List ℕ) (wires : List Wire) (at : ℕ) (inside : at < words_in file) (outputs : List ℕ) (then : Due → List Wire → List ℕ → Read)
-    (rest : (outputs : List ℕ) → (then Outputs wires outputs).answer ≡ Accepted → Tail file wires outputs (suc at) (then Outputs wires outputs)) where
-  tail_step : {s : Step} → Late s → (after then file at wires outputs s).answer ≡ Accepted → Tail file wires outputs at (after then file at wires outputs s)
+    (rest : (outputs : List ℕ) → (then Outputs wires outputs).answer ≡ accepts → Tail file wires outputs (suc at) (then Outputs wires outputs)) where
+  tail_step : {s : Step} → Late s → (after then file at wires outputs s).answer ≡ accepts → Tail file wires outputs at (after then file at wires outputs s)
   unfolding after
   tail_step (Late.stops {s} {reason} e) a = never (ap (λ (s : Step). (after then file at wires outputs s).answer) (sym e) ∙ a)
   tail_step (Late.gives {wire}) a =
@@ -80,7 +80,7 @@ module _ (file : List ℕ) (wires : List Wire) (at : ℕ) (inside : at < words_i
 
 tail : (file : List ℕ) (wires : List Wire) (left at : ℕ) (outputs : List ℕ)
     → at + left ≡ words_in file
-    → (read_from file left at Outputs wires outputs).answer ≡ Accepted
+    → (read_from file left at Outputs wires outputs).answer ≡ accepts
     → Tail file wires outputs at (read_from file left at Outputs wires outputs)
 unfolding read_from
 tail file wires zero at outputs e a = never a
@@ -111,12 +111,12 @@ early_entry (suc zero) modulus = refl
 early_entry (suc (suc others)) modulus = refl
 
 module _ (file : List ℕ) (left at : ℕ) (count : at + suc left ≡ words_in file) (due : Due) (fresh : early due ≡ true) (wires : List Wire) (reach : Reach file at due wires [])
-    (rest : (due : Due) (wires : List Wire) → early due ≡ true → Reach file (suc at) due wires [] → (read_from file left (suc at) due wires []).answer ≡ Accepted
+    (rest : (due : Due) (wires : List Wire) → early due ≡ true → Reach file (suc at) due wires [] → (read_from file left (suc at) due wires []).answer ≡ accepts
     → Ended file (read_from file left (suc at) due wires [])) where
   abbrev Found : Step → Type 0
   Found s =
       read_word (moduli_of wires) 0 at due (word_at file at) ≡ s
-      → (after (read_from file left (suc at)) file at wires [] s).answer ≡ Accepted
+      → (after (read_from file left (suc at)) file at wires [] s).answer ≡ accepts
       → Ended file (after (read_from file left (suc at)) file at wires [] s)
 
   made : (wire : Wire) (next : Due) → early next ≡ true → Found (Makes wire next)
@@ -157,7 +157,7 @@ find : (file : List ℕ) (left at : ℕ) (due : Due) (wires : List Wire)
     → at + left ≡ words_in file
     → early due ≡ true
     → Reach file at due wires []
-    → (read_from file left at due wires []).answer ≡ Accepted
+    → (read_from file left at due wires []).answer ≡ accepts
     → Ended file (read_from file left at due wires [])
 unfolding read_from
 find file zero at due wires e f r a = never a
@@ -165,12 +165,12 @@ find file (suc left) at due wires e f r a =
     found file left at e due f wires r (λ due wires f r a. find file left (suc at) due wires (omega arith) f r a)
     (did (moduli_of wires) 0 at due (word_at file at)) refl a
 
-begun : (b : Bool) (file : List ℕ) → has_head file ≡ b → (headed b file).answer ≡ Accepted → Ended file (headed b file)
+begun : (b : Bool) (file : List ℕ) → has_head file ≡ b → (headed b file).answer ≡ accepts → Ended file (headed b file)
 unfolding headed
 begun true file e a =
     find file (words_in file - 1) 1 Inputs [] (omega (arith, ltb-true 0 (words_in file) (and_left (ltb 0 (words_in file)) _ e))) refl (Reach.begun e) a
 begun false file e a = never a
 
-pub gates_end : (file : List ℕ) → (read_file file).answer ≡ Accepted → Ended file (read_file file)
+pub gates_end : (file : List ℕ) → (read_file file).answer ≡ accepts → Ended file (read_file file)
 unfolding read_file
 gates_end file a = begun (has_head file) file refl a

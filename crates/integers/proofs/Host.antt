@@ -11,7 +11,6 @@ use lib.Seq.{take_at}
 use borrow.Author.Tests.{le-leb, lt-ltb, eq-eqb}
 use Rattle.lists.specs.Blocks.{tab}
 use Rattle.lists.proofs.Blocks.{length-tab, get_or-tab}
-use Rattle.checks.specs.declared.Answer.TheVariants.{Accepted}
 use Rattle.checks.proofs.Numbers.{zero_passed, passed_zero}
 use Rattle.checks.proofs.Passed.{and_then_passed, unless_passed, afterwards_passed}
 use Rattle.words.specs.Encode.{file_of}
@@ -29,6 +28,7 @@ use Rattle.integers.specs.Bundle.{result}
 use Rattle.integers.specs.Host.{SplitIsCarried, JoinedTo, SplitThenJoined, JoinedThenSplit, JoinedIsCarried, JoinedIsResult}
 use Rattle.integers.proofs.Computes.{computes}
 use Rattle.integers.proofs.Figures.{entered, decoded_are}
+use Rattle.checks.specs.Answer.{accepts}
 
 -- what a call that accepts has written
 split_wrote : {r x place : ℕ} {residues₀ residues : List ℕ} → SplitCall r x residues₀ 0 place residues → residues ≡ split r x
@@ -57,7 +57,7 @@ module _ (r z : ℕ) (ten : r ≤ 10) where
       (lt-ltb (get_or (tab r (λ i. z % prime i)) k 0) (prime k)
       (rw (get_or-tab r (λ i. z % prime i) k 0 (omega arith)) (mod-lt z (prime-positive k (omega arith)))))
 
-  joins : 2 ≤ r → join_checked r (split r z) ≡ Accepted
+  joins : 2 ≤ r → join_checked r (split r z) ≡ accepts
   unfolding join_checked range_checked split
   joins two =
       and_then_passed (unless_passed _ 0 (ap₂ ◌&&◌ (le-leb 2 r two) (le-leb r 10 ten)))
@@ -66,7 +66,7 @@ module _ (r z : ℕ) (ten : r ≤ 10) where
 joined_to : (r z : ℕ) {bytes : List ℕ} {integer₀ number place integer : ℕ} → 2 ≤ r → r ≤ 10 → bytes ≡ split r z → JoinCall r bytes integer₀ number place integer
     → JoinedTo (z % product r) number integer
 joined_to r z {bytes} {integer₀} two ten e c =
-    let good : join_checked r bytes ≡ Accepted = ap (join_checked r) e ∙ joins r z ten two in
+    let good : join_checked r bytes ≡ accepts = ap (join_checked r) e ∙ joins r z ten two in
     record {
       accepted = passed_zero c.answer good;
       is = c.integer_is ∙ afterwards_passed good (join r bytes) integer₀ ∙ ap (join r) e ∙ join_any r ten z;
@@ -84,7 +84,7 @@ split_then_joined residues₀ residues r x place integer₀ number place' intege
 join-small : (r : ℕ) (residues : List ℕ) → r ≤ 10 → residues ≡ split r (join r residues) → join r residues < product r
 join-small r residues ten e = omega (arith, ap (join r) e ∙ join_any r ten (join r residues), mod-lt (join r residues) (products_positive r ten))
 
-split_accepts : (r x size : ℕ) → InRange r → size ≡ r → x < product r → split_checked r x size ≡ Accepted
+split_accepts : (r x size : ℕ) → InRange r → size ≡ r → x < product r → split_checked r x size ≡ accepts
 unfolding split_checked range_checked
 split_accepts r x size range e below =
     and_then_passed (unless_passed _ 0 (ap₂ ◌&&◌ (le-leb 2 r range.two) (le-leb r 10 range.ten)))

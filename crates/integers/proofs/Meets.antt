@@ -9,7 +9,6 @@ use native.Mathlib.Omega.{arith}
 use lib.ListN.{length, get_or, length-append}
 use lib.Seq.{get_or-append_seam}
 use Rattle.residue.specs.Residue.{add, mul}
-use Rattle.checks.specs.declared.Answer.TheVariants.{Accepted}
 use Rattle.words.specs.Bits.{word_at, image}
 use Rattle.words.specs.Encode.{word_of}
 use Rattle.words.specs.declared.gate.Wire.{Wire}
@@ -24,6 +23,7 @@ use Rattle.bundles.specs.Part.{PartGate, Sum, Product, Multiple, Image, items_of
 use Rattle.integers.proofs.Places.{Stands, stands_left}
 use Rattle.integers.proofs.Reaching.{wires_stay}
 use Rattle.integers.proofs.Suits.{modulus_of, Suits, AllSuit, part_wire, wire-modulus, suits_wires, moduli_on, entry_word, Arrived, step_on, stands_on, room_on}
+use Rattle.checks.specs.Answer.{accepts}
 
 -- what a gate computes
 abbrev pub value_of : PartGate → (ℕ → ℕ) → ℕ
@@ -82,7 +82,7 @@ module _ (file values : List ℕ) where
       ∙ ap image (entry_word p q a table s v t)
       ∙ entry-image (table v) (omega (arith, small, images.below v t))
 
-  module _ (good : (read_file file).answer ≡ Accepted) where
+  module _ (good : (read_file file).answer ≡ accepts) where
     -- one gate
     module _ {at : ℕ} {before : List Wire} {outputs : List ℕ} {gate : PartGate} (gates : List PartGate)
         (arrived : Arrived file at before outputs) (suit : Suits (moduli_of before) gate) (room : length before + suc (length gates) ≤ 1024)

@@ -10,7 +10,6 @@ use lib.Dec.{ltb, eqb}
 use lib.ListN.{length}
 use borrow.Author.Tests.{lt-ltb}
 use Rattle.residue.proofs.Table.{and_right}
-use Rattle.checks.specs.declared.Answer.TheVariants.{Accepted, Refused}
 use Rattle.checks.specs.declared.Refusal.{Refusal}
 use Rattle.checks.proofs.Passed.{never}
 use Rattle.words.specs.Bits.{word_at}
@@ -23,6 +22,7 @@ use Rattle.circuit.specs.Wires.{moduli_of}
 use Rattle.circuit.specs.File.{Read, words_in, ended, after, read_from, headed, read_file}
 use Rattle.circuit.proofs.Turn.{unrolled}
 use Rattle.integers.specs.Reach.{Reach}
+use Rattle.checks.specs.Answer.{accepts}
 
 -- one word more
 module _ (file : List ℕ) (at : ℕ) (due : Due) (wires : List Wire) (outputs : List ℕ) (inside : at < words_in file) where
@@ -60,7 +60,7 @@ itself xs = record { more = []; is = sym (append-nil xs) }
 
 -- of an accepted file the wires so far stay
 abbrev Keeps : List Wire → Read → Type 0
-Keeps wires read = read.answer ≡ Accepted → Longer wires read.wires
+Keeps wires read = read.answer ≡ accepts → Longer wires read.wires
 
 at_end : (b : Bool) (at : ℕ) (wires : List Wire) (outputs named : List ℕ) → Keeps wires (ended b at wires outputs named)
 unfolding ended
@@ -83,7 +83,7 @@ keeps file zero at due wires outputs e = never e
 keeps file (suc left) at due wires outputs e =
     step_keeps file at wires outputs (read_from file left (suc at)) (λ due wires outputs. keeps file left (suc at) due wires outputs) _ e
 
-module _ {file : List ℕ} {at : ℕ} {due : Due} {wires : List Wire} {outputs : List ℕ} (r : Reach file at due wires outputs) (good : (read_file file).answer ≡ Accepted) where
+module _ {file : List ℕ} {at : ℕ} {due : Due} {wires : List Wire} {outputs : List ℕ} (r : Reach file at due wires outputs) (good : (read_file file).answer ≡ accepts) where
   pub wires_stay : at ≤ words_in file → Longer wires (read_file file).wires
   wires_stay l =
       let e = read_on r l in

@@ -11,7 +11,6 @@ use lib.ListN.{length, get_or, length-append, get_or-append}
 use borrow.Author.Tests.{lt-ltb, eq-eqb}
 use Rattle.lists.specs.Blocks.{tab}
 use Rattle.lists.proofs.Blocks.{length-tab, get_or-tab, map-tab}
-use Rattle.checks.specs.declared.Answer.TheVariants.{Accepted}
 use Rattle.checks.specs.declared.Refusal.{Refusal}
 use Rattle.checks.specs.declared.Refusal.TheVariants.{NotDue}
 use Rattle.words.specs.Bits.{word_at}
@@ -37,6 +36,7 @@ use Rattle.bundles.specs.Part.{PartGate, Sum, Product, Multiple, Image, items_of
 use Rattle.integers.specs.Reach.{Reach}
 use Rattle.integers.proofs.Places.{Stands, stands_left, stands_right}
 use Rattle.integers.proofs.Reaching.{not-refused}
+use Rattle.checks.specs.Answer.{accepts}
 
 -- the modulus of the wire that a gate makes
 abbrev pub modulus_of : PartGate → ℕ
@@ -204,7 +204,7 @@ unfolding check
 due-from true next n = refl
 due-from false next n = absurd (n refl)
 
-module _ {file : List ℕ} {at : ℕ} {due : Due} {wires : List Wire} {outputs : List ℕ} (reach : Reach file at due wires outputs) (good : (read_file file).answer ≡ Accepted) (most : length wires ≤ 1024) where
+module _ {file : List ℕ} {at : ℕ} {due : Due} {wires : List Wire} {outputs : List ℕ} (reach : Reach file at due wires outputs) (good : (read_file file).answer ≡ accepts) (most : length wires ≤ 1024) where
   fits_wire : {p a : ℕ} → Has (moduli_of wires) p a → a < 1024
   fits_wire f = omega (arith, f.made, made wires, most)
 

@@ -2,7 +2,6 @@
 -- Assumes nothing.
 use Rattle.std.specs.Prelude.{◌≡◌, List, ℕ, ◌+◌, ◌*◌, ◌%◌, ◌≤◌, ◌<◌, length, take}
 use Rattle.lists.specs.Blocks.{part}
-use Rattle.checks.specs.declared.Answer.TheVariants.{Accepted}
 use Rattle.meter.specs.Meter.{Charge}
 use Rattle.circuit.specs.Wires.{inputs_in}
 use Rattle.circuit.specs.File.{read_file}
@@ -15,12 +14,13 @@ use Rattle.round.specs.Played.{Results, Played}
 use Rattle.integers.specs.Reach.{Has}
 use Rattle.integers.specs.Bundle.{Bundle, Carries, Carried, result}
 use Rattle.integers.specs.Promise.{Shown, MayReadAll}
+use Rattle.checks.specs.Answer.{accepts}
 
 -- splitting has accepted an integer, and its residues are the values of a bundle of inputs: the bundle carries the integer
 abbrev pub SplitIsCarried : Type 0
 SplitIsCarried =
     (file values residues₀ residues : List ℕ) (r first x place : ℕ)
-    → (read_file file).answer ≡ Accepted
+    → (read_file file).answer ≡ accepts
     → Bundle (read_file file).wires r first
     → first + r ≤ inputs_in (read_file file).wires
     → SplitCall r x residues₀ 0 place residues

@@ -3,7 +3,6 @@
 -- Assumes nothing.
 use Rattle.std.specs.Prelude.{◌≡◌, List, ℕ, ◌%◌, ◌≤◌}
 use Rattle.lists.specs.Blocks.{part}
-use Rattle.checks.specs.declared.Answer.TheVariants.{Accepted}
 use Rattle.meter.specs.Meter.{Charge}
 use Rattle.words.specs.Encode.{file_of}
 use Rattle.circuit.specs.File.{read_file}
@@ -18,6 +17,7 @@ use Rattle.pair_round.specs.Played.{Results, Played}
 use Rattle.integers.specs.Reach.{Has}
 use Rattle.integers.specs.Bundle.{Carries, Carried, result}
 use Rattle.integers.specs.Promise.{Shown}
+use Rattle.checks.specs.Answer.{accepts}
 
 -- the decoded bytes of a bundle, joined, are an integer modulo the product; and so are those of plain evaluation
 pub record PairRead (results : Results) (r at z : ℕ) : Type 0 where
@@ -42,7 +42,7 @@ PairPooledIsRead =
     (operation : Operation) (r first a x y size at : ℕ)
     → Conditions file K draw values meter lent
     → Played file K round draw values meter lent results
-    → part_checked operation r first a size ≡ Accepted
+    → part_checked operation r first a size ≡ accepts
     → Has file first (file_of (part_words operation r a))
     → Carried file values r a x y operation
     → Shown (read_file file).outputs at r first

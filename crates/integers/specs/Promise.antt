@@ -4,7 +4,6 @@
 use Rattle.std.specs.Prelude.{◌≡◌, true, ℕ, ◌+◌, ◌-◌, ◌*◌, ◌%◌, ◌≤◌, ◌<◌, length, get_or, take}
 use mathlib.Core.List.{List, [], ◌∷◌, ◌++◌, map, zip_with}
 use Rattle.lists.specs.Blocks.{part}
-use Rattle.checks.specs.declared.Answer.TheVariants.{Accepted}
 use Rattle.meter.specs.Meter.{Charge}
 use Rattle.words.specs.declared.gate.Wire.{Wire}
 use Rattle.words.specs.declared.item.Item.TheVariants.{Output, End}
@@ -22,12 +21,13 @@ use Rattle.round.specs.Claim.{Conditions}
 use Rattle.round.specs.Played.{Results, Played}
 use Rattle.integers.specs.Reach.{Has}
 use Rattle.integers.specs.Bundle.{Bundle, Carries, Given, Carried, result}
+use Rattle.checks.specs.Answer.{accepts}
 
 -- inputs in a row whose values are an integer's residues: a bundle that carries it
 abbrev pub EnteredIsCarried : Type 0
 EnteredIsCarried =
     (file values : List ℕ) (r first x : ℕ)
-    → (read_file file).answer ≡ Accepted
+    → (read_file file).answer ≡ accepts
     → Bundle (read_file file).wires r first
     → first + r ≤ inputs_in (read_file file).wires
     → part values first r ≡ split r x
@@ -38,8 +38,8 @@ EnteredIsCarried =
 abbrev pub PartComputes : Type 0
 PartComputes =
     (file values : List ℕ) (operation : Operation) (r first a x y size : ℕ)
-    → (read_file file).answer ≡ Accepted
-    → part_checked operation r first a size ≡ Accepted
+    → (read_file file).answer ≡ accepts
+    → part_checked operation r first a size ≡ accepts
     → Has file first (file_of (part_words operation r a))
     → Carried file values r a x y operation
     → Carries file values r first (result operation x y)
@@ -76,7 +76,7 @@ PooledIsRead =
     (operation : Operation) (r first a x y size at : ℕ)
     → Conditions file n K contributions values meter lent
     → Played file n K round contributions values meter lent results
-    → part_checked operation r first a size ≡ Accepted
+    → part_checked operation r first a size ≡ accepts
     → Has file first (file_of (part_words operation r a))
     → Carried file values r a x y operation
     → Shown (read_file file).outputs at r first
@@ -124,8 +124,8 @@ pub record AcceptedBehind (file words outputs named : List ℕ) (r : ℕ) : Type
 abbrev pub AppendedIsAccepted : Type 0
 AppendedIsAccepted =
     (file : List ℕ) (operation : Operation) (r a size : ℕ) (outputs named : List ℕ)
-    → (read_file file).answer ≡ Accepted
-    → part_checked operation r (length (read_file file).wires) a size ≡ Accepted
+    → (read_file file).answer ≡ accepts
+    → part_checked operation r (length (read_file file).wires) a size ≡ accepts
     → Given (read_file file).wires r a operation
     → OutputsFit outputs named (length (read_file file).wires + r)
     → AcceptedBehind file (part_words operation r a) outputs named r

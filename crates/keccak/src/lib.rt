@@ -1,6 +1,6 @@
 // Keccak-f[1600], the permutation of FIPS 202, on a state of 25 lanes: lane (x, y) stands at place 5·y + x, as in specs/Lanes.antt.
 // Each function's result is given outright by the definitions of specs/, which follow FIPS 202 formula by formula. The steps are unrolled,
-// and each reads a lane once into a local: the compiler then keeps the state in registers and on the stack, as it does for unrolled C.
+// and each takes the state apart into 25 locals: the compiler then keeps it in registers and on the stack, as it does for unrolled C.
 // Rests on nothing but the library's bit operations.
 
 #![tactic(auto)]
@@ -41,41 +41,43 @@ const RC: [u64; 24] = [
 fn theta(a: [u64; 25]) -> [u64; 25]
     ensures { result ≡ theta_step a }
 {
-    let a00 = a[0];
-    let a10 = a[1];
-    let a20 = a[2];
-    let a30 = a[3];
-    let a40 = a[4];
-    let a01 = a[5];
-    let a11 = a[6];
-    let a21 = a[7];
-    let a31 = a[8];
-    let a41 = a[9];
-    let a02 = a[10];
-    let a12 = a[11];
-    let a22 = a[12];
-    let a32 = a[13];
-    let a42 = a[14];
-    let a03 = a[15];
-    let a13 = a[16];
-    let a23 = a[17];
-    let a33 = a[18];
-    let a43 = a[19];
-    let a04 = a[20];
-    let a14 = a[21];
-    let a24 = a[22];
-    let a34 = a[23];
-    let a44 = a[24];
+    let [
+        a00,
+        a10,
+        a20,
+        a30,
+        a40,
+        a01,
+        a11,
+        a21,
+        a31,
+        a41,
+        a02,
+        a12,
+        a22,
+        a32,
+        a42,
+        a03,
+        a13,
+        a23,
+        a33,
+        a43,
+        a04,
+        a14,
+        a24,
+        a34,
+        a44,
+    ] = a;
     let c0 = a00 ^ a01 ^ a02 ^ a03 ^ a04;
     let c1 = a10 ^ a11 ^ a12 ^ a13 ^ a14;
     let c2 = a20 ^ a21 ^ a22 ^ a23 ^ a24;
     let c3 = a30 ^ a31 ^ a32 ^ a33 ^ a34;
     let c4 = a40 ^ a41 ^ a42 ^ a43 ^ a44;
-    let d0 = c4 ^ ((c1 << 1) | (c1 >> 63));
-    let d1 = c0 ^ ((c2 << 1) | (c2 >> 63));
-    let d2 = c1 ^ ((c3 << 1) | (c3 >> 63));
-    let d3 = c2 ^ ((c4 << 1) | (c4 >> 63));
-    let d4 = c3 ^ ((c0 << 1) | (c0 >> 63));
+    let d0 = c4 ^ c1.rotate_left(1);
+    let d1 = c0 ^ c2.rotate_left(1);
+    let d2 = c1 ^ c3.rotate_left(1);
+    let d3 = c2 ^ c4.rotate_left(1);
+    let d4 = c3 ^ c0.rotate_left(1);
     [
         a00 ^ d0,
         a10 ^ d1,
@@ -109,57 +111,59 @@ fn theta(a: [u64; 25]) -> [u64; 25]
 fn rho_pi(a: [u64; 25]) -> [u64; 25]
     ensures { result ≡ pi_step (rho_step a) }
 {
-    let a00 = a[0];
-    let a10 = a[1];
-    let a20 = a[2];
-    let a30 = a[3];
-    let a40 = a[4];
-    let a01 = a[5];
-    let a11 = a[6];
-    let a21 = a[7];
-    let a31 = a[8];
-    let a41 = a[9];
-    let a02 = a[10];
-    let a12 = a[11];
-    let a22 = a[12];
-    let a32 = a[13];
-    let a42 = a[14];
-    let a03 = a[15];
-    let a13 = a[16];
-    let a23 = a[17];
-    let a33 = a[18];
-    let a43 = a[19];
-    let a04 = a[20];
-    let a14 = a[21];
-    let a24 = a[22];
-    let a34 = a[23];
-    let a44 = a[24];
+    let [
+        a00,
+        a10,
+        a20,
+        a30,
+        a40,
+        a01,
+        a11,
+        a21,
+        a31,
+        a41,
+        a02,
+        a12,
+        a22,
+        a32,
+        a42,
+        a03,
+        a13,
+        a23,
+        a33,
+        a43,
+        a04,
+        a14,
+        a24,
+        a34,
+        a44,
+    ] = a;
     [
         a00,
-        (a11 << 44) | (a11 >> 20),
-        (a22 << 43) | (a22 >> 21),
-        (a33 << 21) | (a33 >> 43),
-        (a44 << 14) | (a44 >> 50),
-        (a30 << 28) | (a30 >> 36),
-        (a41 << 20) | (a41 >> 44),
-        (a02 << 3) | (a02 >> 61),
-        (a13 << 45) | (a13 >> 19),
-        (a24 << 61) | (a24 >> 3),
-        (a10 << 1) | (a10 >> 63),
-        (a21 << 6) | (a21 >> 58),
-        (a32 << 25) | (a32 >> 39),
-        (a43 << 8) | (a43 >> 56),
-        (a04 << 18) | (a04 >> 46),
-        (a40 << 27) | (a40 >> 37),
-        (a01 << 36) | (a01 >> 28),
-        (a12 << 10) | (a12 >> 54),
-        (a23 << 15) | (a23 >> 49),
-        (a34 << 56) | (a34 >> 8),
-        (a20 << 62) | (a20 >> 2),
-        (a31 << 55) | (a31 >> 9),
-        (a42 << 39) | (a42 >> 25),
-        (a03 << 41) | (a03 >> 23),
-        (a14 << 2) | (a14 >> 62),
+        a11.rotate_left(44),
+        a22.rotate_left(43),
+        a33.rotate_left(21),
+        a44.rotate_left(14),
+        a30.rotate_left(28),
+        a41.rotate_left(20),
+        a02.rotate_left(3),
+        a13.rotate_left(45),
+        a24.rotate_left(61),
+        a10.rotate_left(1),
+        a21.rotate_left(6),
+        a32.rotate_left(25),
+        a43.rotate_left(8),
+        a04.rotate_left(18),
+        a40.rotate_left(27),
+        a01.rotate_left(36),
+        a12.rotate_left(10),
+        a23.rotate_left(15),
+        a34.rotate_left(56),
+        a20.rotate_left(62),
+        a31.rotate_left(55),
+        a42.rotate_left(39),
+        a03.rotate_left(41),
+        a14.rotate_left(2),
     ]
 }
 
@@ -167,31 +171,33 @@ fn rho_pi(a: [u64; 25]) -> [u64; 25]
 fn chi(a: [u64; 25]) -> [u64; 25]
     ensures { result ≡ chi_step a }
 {
-    let a00 = a[0];
-    let a10 = a[1];
-    let a20 = a[2];
-    let a30 = a[3];
-    let a40 = a[4];
-    let a01 = a[5];
-    let a11 = a[6];
-    let a21 = a[7];
-    let a31 = a[8];
-    let a41 = a[9];
-    let a02 = a[10];
-    let a12 = a[11];
-    let a22 = a[12];
-    let a32 = a[13];
-    let a42 = a[14];
-    let a03 = a[15];
-    let a13 = a[16];
-    let a23 = a[17];
-    let a33 = a[18];
-    let a43 = a[19];
-    let a04 = a[20];
-    let a14 = a[21];
-    let a24 = a[22];
-    let a34 = a[23];
-    let a44 = a[24];
+    let [
+        a00,
+        a10,
+        a20,
+        a30,
+        a40,
+        a01,
+        a11,
+        a21,
+        a31,
+        a41,
+        a02,
+        a12,
+        a22,
+        a32,
+        a42,
+        a03,
+        a13,
+        a23,
+        a33,
+        a43,
+        a04,
+        a14,
+        a24,
+        a34,
+        a44,
+    ] = a;
     [
         a00 ^ (!a10 & a20),
         a10 ^ (!a20 & a30),
@@ -226,11 +232,12 @@ fn iota(a: [u64; 25], rc: u64) -> [u64; 25]
     ensures { result ≡ iota_step rc a }
 {
     let mut b = a;
-    b[0] = a[0] ^ rc;
+    b[0] ^= rc;
     b
 }
 
 // The round whose constant is given.
+#[tactic(auto, unfolding(crate::specs::Keccak::round))]
 fn round(a: [u64; 25], rc: u64) -> [u64; 25]
     ensures { result ≡ round_step rc a }
 {
@@ -241,14 +248,11 @@ fn round(a: [u64; 25], rc: u64) -> [u64; 25]
 pub fn keccak_f(state: [u64; 25]) -> [u64; 25]
     ensures { result ≡ keccak_f state }
 {
-    // Read from a local: the constant itself, indexed in the loop, would be copied at each turn.
-    let rc = RC;
     let mut a = state;
-    let mut i = 0;
-    while i < 24 {
-        let b = round(a, rc[i]);
+    for rc in RC {
+        // A call's result cannot be written straight into an array of the loop: no proof is made of it.
+        let b = round(a, rc);
         a = b;
-        i += 1;
     }
     a
 }

@@ -1,6 +1,6 @@
 -- Laws of the lowest number of which a test holds.
 -- Assumes nothing.
-use mathlib.Core.Path.{◌≡◌, refl, sym, ◌∙◌, subst}
+use mathlib.Core.Path.{◌≡◌, refl, sym, ap₂, ◌∙◌, subst}
 use mathlib.Core.Logic.{⊎_elim}
 use mathlib.Core.Bool.{Bool, true, false, cond}
 use Prim.Native.Nat.{ℕ, zero, suc, ◌+◌, ◌≤◌, ◌<◌}
@@ -86,3 +86,15 @@ from-here (suc left) from test l = go (test from) refl (from-here left (suc from
 pub first-here : (n : ℕ) (test : ℕ → Bool) → first n test < n → test (first n test) ≡ true
 unfolding first
 first-here n test l = from-here n 0 test (omega arith)
+
+-- tests that agree below n have the same first
+from-ext : (left from : ℕ) (f g : ℕ → Bool) → ((i : ℕ) → from ≤ i → i < from + left → f i ≡ g i) → first_from from left f ≡ first_from from left g
+unfolding first_from
+from-ext zero from f g same = refl
+from-ext (suc left) from f g same =
+    ap₂ (λ (b : Bool) (m : ℕ). cond b from m) (same from (omega arith) (omega arith))
+    (from-ext left (suc from) f g (λ i h l. same i (omega arith) (omega arith)))
+
+pub first_ext : (n : ℕ) (f g : ℕ → Bool) → ((i : ℕ) → i < n → f i ≡ g i) → first n f ≡ first n g
+unfolding first
+first_ext n f g same = from-ext n 0 f g (λ i h l. same i (omega arith))

@@ -8,4 +8,5 @@ pub mod Steps
 pub mod Grown
 pub mod First
 pub mod Search
+pub mod Positions
 pub mod Windows

@@ -1,44 +1,12 @@
-// Bytes of lent buffers: copied, filled, cut out and put in. Every crate that fills a buffer rests on these functions, on the definitions in
+// Bytes of lent buffers: cut out and put in, and arrays of zeros. Every crate that fills a buffer rests on these functions, on the definitions in
 // `specs/Blocks` (blocks one after another, a table, a part, a list written into another), and on the laws in `proofs/`: of a part (`Parts`), of sums
 // of sizes (`Sums`), of blocks (`Blocks`) and of what was written (`Written`). `Filled`, `Wrote` and `Steps` there are loop invariants with their laws,
-// and each says at its top how a loop that fills a buffer is proved with it. Here too stand the functions that widen a number (`numbers`), one set for
-// all crates. This crate rests on the kit alone.
+// and each says at its top how a loop that fills a buffer is proved with it. This crate rests on the kit alone.
 
 #![tactic(auto)]
 
 ghost use Rattle.std.specs.Prelude.{◌≡◌, ◌+◌, ◌*◌, ◌≤◌, length, replicate};
 ghost use Rattle.lists.specs.Blocks.{part, nth_piece, written};
-
-mod numbers;
-
-pub use numbers::{
-    byte_index, byte_number, byte_wide, index_number, number_index, wire_index, wire_number,
-};
-
-// Copies `from` to `out`, which is as long.
-pub fn copy(out: &mut [u8], from: &[u8])
-    requires { length out.old ≡ length from.now }
-    ensures { out.new ≡ from.now }
-{
-    let n = out.len();
-    let mut i = 0;
-    while i < n {
-        out[i] = from[i];
-        i += 1;
-    }
-}
-
-// Writes `v` to every byte of `out`.
-pub fn fill(out: &mut [u8], v: u8)
-    ensures { out.new ≡ replicate (length out.old) v }
-{
-    let n = out.len();
-    let mut i = 0;
-    while i < n {
-        out[i] = v;
-        i += 1;
-    }
-}
 
 // The `n` bytes of `s` from place `at` on. The length is said beside the list, so that a caller may index what it got.
 pub fn piece(s: &[u8], at: usize, n: usize) -> &[u8]
@@ -63,5 +31,12 @@ pub fn put_at(out: &mut [u8], at: usize, from: &[u8])
     ensures { out.new ≡ written out.old at from.now }
 {
     let to = at + from.len();
-    copy(&mut out[at..to], from);
+    out[at..to].copy_from_slice(from);
+}
+
+// So many zero bytes. A function of its own, so that a proof about an array has its length and not its elements before it.
+pub fn zeros<const N: usize>() -> [u8; N]
+    ensures { result ≡ replicate N 0 }
+{
+    [0; N]
 }

@@ -8,13 +8,13 @@ use native.Mathlib.Omega.{arith}
 use borrow.Author.Tests.{eqb-true, eqb-false}
 use lib.Dec.{eqb}
 use lib.ListN.{get_or, get_or-replicate}
-use Rattle.checks.specs.declared.Answer.TheVariants.{Accepted, Refused}
-use Rattle.checks.specs.declared.Answer.{Answer}
 use Rattle.checks.specs.Checked.{afterwards}
 use Rattle.checks.proofs.Passed.{and_then-right}
 use Rattle.meter.specs.Meter.{meter_limit, accounts, carried, Charge, IsMeter, meter_checked, charged}
 use Rattle.meter.specs.Garblings.{Garbling, charge_of, checks_at, handed_back, added_to, totals_after, rows_naming}
 use Rattle.meter.proofs.Totals.{passed_space, charged-length, charged-named, charged_other}
+use Rattle.std.specs.Prelude.{Ok, Err}
+use Rattle.checks.specs.Answer.{Answer, accepts}
 
 -- ---- one garbling
 
@@ -24,8 +24,8 @@ unfolding handed_back afterwards
 others_stay totals garbling account h = go (checks_at totals garbling)
   where
     go : (checks : Answer) → get_or (afterwards checks (charged (charge_of totals garbling) garbling.rows) totals) account 0 ≡ get_or totals account 0
-    go Accepted = charged_other (charge_of totals garbling) garbling.rows account h
-    go (Refused reason place) = refl
+    go (Ok done) = charged_other (charge_of totals garbling) garbling.rows account h
+    go (Err why) = refl
 
 module _ {totals : List ℕ} (is : IsMeter totals) (garbling : Garbling) where
   abbrev charge : Charge
@@ -51,14 +51,14 @@ module _ {totals : List ℕ} (is : IsMeter totals) (garbling : Garbling) where
     where
       go : (checks : Answer) → get_or (afterwards checks after totals) account 0
           ≡ get_or totals account 0 + afterwards checks (cond (eqb garbling.account account) garbling.rows 0) 0
-      go Accepted = charged_is account h
-      go (Refused reason place) = omega arith
+      go (Ok done) = charged_is account h
+      go (Err why) = omega arith
 
   back_meter : IsMeter (handed_back totals garbling)
   unfolding handed_back afterwards checks_at
   back_meter = go (checks_at totals garbling) refl
     where
-      within : meter_checked charge garbling.rows ≡ Accepted → (account : ℕ) → account < accounts → get_or after account 0 ≤ meter_limit
+      within : meter_checked charge garbling.rows ≡ accepts → (account : ℕ) → account < accounts → get_or after account 0 ≤ meter_limit
       within e account h = go (eqb garbling.account account) refl
         where
           go : (b : Bool) → eqb garbling.account account ≡ b → get_or after account 0 ≤ meter_limit
@@ -69,12 +69,12 @@ module _ {totals : List ℕ} (is : IsMeter totals) (garbling : Garbling) where
               rw (charged_other charge garbling.rows account (λ p. eqb-false garbling.account account q (sym p))) (is.within account h)
 
       go : (checks : Answer) → checks_at totals garbling ≡ checks → IsMeter (afterwards checks after totals)
-      go Accepted e =
+      go (Ok done) e =
           record {
             eight = charged-length charge garbling.rows ∙ is.eight;
             within = within (and_then-right garbling.earlier (meter_checked charge garbling.rows) e);
           }
-      go (Refused reason place) e = is
+      go (Err why) e = is
 
 -- ---- any number of them
 

@@ -2,9 +2,9 @@
 -- it, plus the carried start."
 -- Assumes nothing.
 use Rattle.std.specs.Prelude.{cond, List, [], ◌∷◌, ℕ, ◌+◌, eqb}
-use Rattle.checks.specs.declared.Answer.{Answer}
 use Rattle.checks.specs.Checked.{and_then, afterwards}
 use Rattle.meter.specs.Meter.{Charge, meter_checked, charged}
+use Rattle.checks.specs.Answer.{Answer}
 
 -- a garbling: what all checks before the meter's limit come to, the account that it names, and the circuit's rows
 pub record Garbling : Type 0 where

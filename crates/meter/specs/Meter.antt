@@ -4,8 +4,8 @@
 -- Assumes nothing.
 use Rattle.std.specs.Prelude.{◌≡◌, List, ◌∷◌, ℕ, ◌+◌, ◌≤◌, ◌<◌, leb, ltb, length, get_or, set, replicate}
 use Rattle.checks.specs.declared.Refusal.TheVariants.{MeterFull, NoSuchAccount}
-use Rattle.checks.specs.declared.Answer.{Answer}
 use Rattle.checks.specs.Checked.{unless}
+use Rattle.checks.specs.Answer.{Answer}
 
 abbrev pub meter_limit : ℕ
 meter_limit = 4294967295

@@ -16,35 +16,28 @@ pub fn carried(total: u32) -> [u32; 8]
 }
 
 // Whether there is such an account.
+#[tactic(auto, unfolding(crate::specs::Meter::account_checked, checks::specs::Checked::unless))]
 pub fn account_checked(account: u32) -> Answer
     ensures { result ≡ account_checked account }
 {
     if account < 8 {
-        Answer::Accepted
+        Ok(())
     } else {
-        Answer::Refused(Refusal::NoSuchAccount, 0)
+        Err(Refusal::NoSuchAccount.at(0))
     }
 }
 
-// An account's total; 0 where there is no such account, which 25 has refused by then. By value: of an array behind a reference the prover does not
-// know the length.
-fn named_total(totals: [u32; 8], account: u32) -> u32
-    ensures { result ≡ get_or totals account 0 }
-{
-    let place = account as usize;
-    if place < 8 { totals[place] } else { 0 }
-}
-
 // Whether the named total has space for so many rows. The sum might not fit in 32 bits, so the total is held against what the rows leave.
+#[tactic(auto, unfolding(crate::specs::Meter::meter_checked, checks::specs::Checked::unless))]
 pub fn meter_checked(meter: &[u32; 8], account: u32, rows: u32) -> Answer
     ensures { result ≡ meter_checked (record { totals = meter.now; account = account }) rows }
 {
-    let total = named_total(*meter, account);
-    let space = 4294967295 - rows;
+    let total = meter.get(account as usize).copied().unwrap_or(0);
+    let space = u32::MAX - rows;
     if total <= space {
-        Answer::Accepted
+        Ok(())
     } else {
-        Answer::Refused(Refusal::MeterFull, 0)
+        Err(Refusal::MeterFull.at(0))
     }
 }
 
@@ -53,7 +46,5 @@ pub fn charge(meter: &mut [u32; 8], account: u32, rows: u32)
     requires { (account < accounts) × HasSpace (record { totals = meter.old; account = account }) rows }
     ensures { meter.new ≡ charged (record { totals = meter.old; account = account }) rows }
 {
-    let at = account as usize;
-    let total = meter[at];
-    meter[at] = total + rows;
+    meter[account as usize] += rows;
 }

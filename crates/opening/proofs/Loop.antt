@@ -17,14 +17,14 @@ use Rattle.counts.specs.declared.recipe.Recipe.{Recipe}
 use Rattle.counts.specs.Recipe.{recipe}
 use Rattle.counts.specs.Counts.{rows_by, rows_of, record_keys_by}
 use Rattle.counts.specs.Moduli.{used_below}
-use Rattle.counts.proofs.Wires.{wire-at, padded-modulus}
-use Rattle.counts.proofs.Counting.{rows_at}
+use Rattle.counts.proofs.Wires.{padded-modulus}
+use Rattle.counts.proofs.Counting.{rows_same}
 use Rattle.session.proofs.Circuits.{made-is}
 use Rattle.scheme.specs.Contribution.{record_at, offset_at}
-use Rattle.contribution.proofs.Cursor.{records-here, cursor_fits}
+use Rattle.scheme.proofs.Places.{record_fits}
 use Rattle.scheme.specs.Opening.{Opened, own_rows}
 use Rattle.opening.specs.declared.turn.Turn.{Turn}
-use Rattle.opening.specs.Given.{Given, OpensAll}
+use Rattle.opening.specs.Given.{Given}
 use Rattle.opening.specs.Step.{over_by, open_at}
 use Rattle.opening.specs.Ready.{Seated, Ready}
 use Rattle.opening.specs.Swept.{Room, Stored, Swept}
@@ -67,24 +67,15 @@ module _ {circuit : Circuit} {n K party : ℕ} {contribution externals keys rows
   places_size e = ap length e ∙ length-tab 256 (used_below wires)
 
   -- a wire that the loop has come to
-  module _ {round w zero from : ℕ} {wkeys wexternals : List ℕ} (h : w < circuit.made) (r : Stands round w zero from wkeys wexternals) where
+  module _ {round w zero from : ℕ} {wkeys wexternals : List ℕ} (within : w < length wires) (r : Stands round w zero from wkeys wexternals) where
     abbrev wire : Wire
-    wire = wire_at circuit.wires w
-
-    within : w < length wires
-    within = omega (arith, made-is given.held)
-
-    wire_same : wire_at wires w ≡ wire
-    wire_same = wire-at circuit.wires circuit.made w h
-
-    pub small : w < 1024
-    small = omega (arith, within, given.accepted.wires_limit)
+    wire = wire_at wires w
 
     pub cursor_room : {step : ℕ} → step ≡ (K + 1) * record_keys_by (recipe wire) → zero + step ≤ length contribution
-    cursor_room e = cursor_fits given.held K h r.zero_is given.own_size e
+    cursor_room e = omega (arith, record_fits K wires w within, r.zero_is, given.own_size)
 
     pub places_room : {places : List ℕ} → places ≡ tab 256 (used_below wires) → wire.modulus < length places
-    places_room e = omega (arith, places_size e, (given.accepted.fits w within).byte, ap (λ (x : Wire). x.modulus) wire_same)
+    places_room e = omega (arith, places_size e, (given.accepted.fits w within).byte)
 
     module _ {table : List ℕ} (table_is : table ≡ moduli_of wires ++ replicate (1024 - circuit.made) 0) where
       moduli_are : (a : ℕ) → get_or table a 0 ≡ modulus_at wires a
@@ -92,7 +83,7 @@ module _ {circuit : Circuit} {n K party : ℕ} {contribution externals keys rows
 
       module _ {size : ℕ} (size-eq : size ≡ rows_by (recipe wire) (λ a. get_or table a 0) wire.modulus * m) where
         size_here : size ≡ rows_of wires w * m
-        size_here = size-eq ∙ ap (λ (x : ℕ). x * m) (rows_at circuit.wires circuit.made w (1024 - circuit.made) table h table_is)
+        size_here = size-eq ∙ ap (λ (x : ℕ). x * m) (rows_same (recipe wire) (λ a. get_or table a 0) (modulus_at wires) wire.modulus moduli_are)
 
         pub rows-room : from + size ≤ length rows
         rows-room = omega (arith, rows_inside n K wires rows given.rows_size w within, r.from_is, size_here)
@@ -103,14 +94,11 @@ module _ {circuit : Circuit} {n K party : ℕ} {contribution externals keys rows
           turn = record { n = n; k = K; party = party; round = round; wire = number; modulus = wire.modulus; over = over; zero = zero; offset = offset }
 
           how_same : how ≡ recipe (wire_at wires w)
-          how_same = how-is ∙ ap recipe (sym wire_same)
+          how_same = how-is
 
           own_same : own ≡ own_rows n K wires rows w
           unfolding own_rows
           own_same = own_is ∙ ap₂ (part rows) r.from_is size_here
-
-          modulus_same : wire.modulus ≡ modulus_at wires w
-          modulus_same = ap (λ (x : Wire). x.modulus) (sym wire_same)
 
           over_there : over ≡ over_by (recipe (wire_at wires w)) (modulus_at wires)
           over_there = over-is ∙ over_same how (λ a. get_or table a 0) (modulus_at wires) moduli_are ∙ ap (λ (h : Recipe). over_by h (modulus_at wires)) how_same
@@ -120,11 +108,11 @@ module _ {circuit : Circuit} {n K party : ℕ} {contribution externals keys rows
           offset_same =
               offset_is
               ∙ ap (λ (x : ℕ). K * x)
-              (ap₂ (λ (l : List ℕ) (q : ℕ). get_or l q 0) places-are modulus_same
+              (ap (λ (l : List ℕ). get_or l wire.modulus 0) places-are
               ∙ get_or-tab 256 (used_below wires) (modulus_at wires w) 0 (given.accepted.fits w within).byte)
 
           turn_same : turn ≡ turn_at n K party round wires w
-          turn_same = rw (number_is, modulus_same, over_there, r.zero_is, offset_same)
+          turn_same = rw (number_is, over_there, r.zero_is, offset_same)
 
           pub turn-seated : Seated turn
           turn-seated = subst (λ (t : Turn). Seated t) (sym turn_same) (seated given round w within)
@@ -162,8 +150,8 @@ module _ {circuit : Circuit} {n K party : ℕ} {contribution externals keys rows
 
             pub loop-next : {step : ℕ} → e < wire.modulus → step ≡ (K + 1) * record_keys_by (recipe wire) → Stands round (w + 1) (zero + step) (from + size) wkeys' wexternals'
             loop-next {step} l s =
-                reached-step n K party round wires contribution externals keys rows r within put_same (subst (λ (q : ℕ). e < q) modulus_same l)
-                (ap (λ (x : ℕ). zero + x) (s ∙ ap (λ (x : ℕ). (K + 1) * x) (records-here given.held h))) (ap (λ (x : ℕ). from + x) size_here)
+                reached-step n K party round wires contribution externals keys rows r within put_same l
+                (ap (λ (x : ℕ). zero + x) s) (ap (λ (x : ℕ). from + x) size_here)
 
             -- the buffers keep their sizes, whether a multiplier fits or not
             pub loop-keys : length wkeys' ≡ length wires * m
@@ -174,33 +162,10 @@ module _ {circuit : Circuit} {n K party : ℕ} {contribution externals keys rows
 
             pub loop-short : wire.modulus ≤ e → Swept n K party round wires contribution externals keys rows w wkeys' wexternals'
             loop-short l =
-                swept_short n K party round wires contribution externals keys rows r within put_same (subst (λ (q : ℕ). q ≤ e) modulus_same l)
+                swept_short n K party round wires contribution externals keys rows r within put_same l
 
-  pub loop-all : {round w zero from : ℕ} {wkeys wexternals : List ℕ} → Stands round w zero from wkeys wexternals → circuit.made ≤ w
-      → Swept n K party round wires contribution externals keys rows w wkeys wexternals
-  loop-all {round} r h = swept_all n K party round wires contribution externals keys rows r (omega (arith, made-is given.held))
-
-  -- ---- what the call leaves
-
-  module _ {round r : ℕ} {wkeys wexternals : List ℕ} (s : Swept n K party round wires contribution externals keys rows r wkeys wexternals) {wkeys₀ wexternals₀ : List ℕ} where
-    pub opens-all : circuit.made ≤ r → OpensAll circuit n K party round contribution externals keys rows wkeys₀ wexternals₀ r wkeys wexternals
-    opens-all h =
-        record {
-          found = s.found;
-          all_keys = s.all_keys;
-          all_externals = s.all_externals;
-          no_keys = λ l. absurd (omega (arith, made-is given.held));
-          no_externals = λ l. absurd (omega (arith, made-is given.held));
-        }
-
-    pub opens-short : {wkeys' wexternals' : List ℕ} → r < circuit.made → length wkeys₀ ≡ circuit.made * m → length wexternals₀ ≡ circuit.made
-        → wkeys' ≡ replicate (length wkeys) 0 → wexternals' ≡ replicate (length wexternals) 0
-        → OpensAll circuit n K party round contribution externals keys rows wkeys₀ wexternals₀ r wkeys' wexternals'
-    opens-short h ek ee fk fe =
-        record {
-          found = s.found;
-          all_keys = λ l. absurd (omega (arith, made-is given.held));
-          all_externals = λ l. absurd (omega (arith, made-is given.held));
-          no_keys = λ _. (fk ∙ ap (λ (x : ℕ). replicate x 0) (same_keys s.keys_size ek));
-          no_externals = λ _. (fe ∙ ap (λ (x : ℕ). replicate x 0) (same-externals s.externals_size ee));
-        }
+  pub loop-all : {round w zero from : ℕ} {wkeys wexternals : List ℕ} → Stands round w zero from wkeys wexternals → length wires ≤ w
+      → Swept n K party round wires contribution externals keys rows circuit.made wkeys wexternals
+  loop-all {round} {wkeys = wkeys} {wexternals = wexternals} r h =
+      subst (λ (i : ℕ). Swept n K party round wires contribution externals keys rows i wkeys wexternals) (omega (arith, made-is given.held, r.turns))
+      (swept_all n K party round wires contribution externals keys rows r h)

@@ -11,7 +11,6 @@ use Rattle.search.specs.Search.{multiplier}
 use Rattle.words.specs.declared.gate.Wire.{Wire}
 use Rattle.circuit.specs.Wires.{wire_at, modulus_at}
 use Rattle.circuit.specs.Accepted.{AcceptedCircuit}
-use Rattle.counts.specs.declared.recipe.Lookup.{Lookup}
 use Rattle.counts.specs.declared.recipe.Recipe.{Recipe}
 use Rattle.counts.specs.declared.recipe.Recipe.TheVariants.{Entered, Sum, Multiple, Table, Product, Choice}
 use Rattle.counts.specs.Recipe.{recipe}
@@ -35,9 +34,6 @@ over_same (Multiple o) f g e = refl
 over_same (Table o) f g e = e o.a
 over_same (Product o) f g e = refl
 over_same (Choice o) f g e = refl
-
-pub over-at : {how : Recipe} {g : Lookup} (f : ℕ → ℕ) → how ≡ Table g → over_by how f ≡ f g.a
-over-at f e = ap (λ (h : Recipe). over_by h f) e
 
 -- no other modulus of a lower wire is looked up
 module _ (round n K w p : ℕ) (modulus_of : ℕ → ℕ) (found : List ℕ → ℕ) (rows : List ℕ) (given : Opened) (look : ℕ → Opened) where

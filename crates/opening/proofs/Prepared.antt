@@ -14,7 +14,6 @@ use Rattle.lists.proofs.Blocks.{get_or-runs}
 use Rattle.residue.specs.Vector.{AllBelow}
 use Rattle.checks.specs.declared.Refusal.TheVariants.{ValueTooLarge, KeyOrRowTooLarge}
 use Rattle.checks.proofs.Passed.{none_bad_none}
-use Rattle.checks.specs.declared.Answer.TheVariants.{Accepted}
 use Rattle.words.specs.declared.gate.Wire.{Wire}
 use Rattle.circuit.specs.declared.Circuit.{Circuit}
 use Rattle.circuit.specs.Wires.{wire_at, modulus_at, inputs_in}
@@ -39,6 +38,7 @@ use Rattle.opening.specs.Step.{over_by}
 use Rattle.opening.specs.Ready.{Seated, Inside, Lower, Ready}
 use Rattle.opening.proofs.Reached.{Reached}
 use Rattle.opening.proofs.Opens.{turn_at}
+use Rattle.checks.specs.Answer.{accepts}
 
 -- the rows of a wire among all, in bytes: where they start, and that they lie inside
 module _ (n K : ℕ) (wires : List Wire) where
@@ -57,7 +57,7 @@ module _ (n K : ℕ) (wires : List Wire) where
     rows_inside = omega (arith, sum_to-fits w (length wires) bytes_of h, rows_place w, rows_place (length wires), size)
 
     -- the checked bytes
-    rows-below : rows_checked n K wires rows ≡ Accepted → AllBelow (modulus_at wires w) (own_rows n K wires rows w)
+    rows-below : rows_checked n K wires rows ≡ accepts → AllBelow (modulus_at wires w) (own_rows n K wires rows w)
     unfolding counted_rows_checked bytes_checked own_rows
     rows-below e =
         below-part (modulus_at wires w) rows (row_at wires w * (n * K)) (bytes_of w) rows_inside

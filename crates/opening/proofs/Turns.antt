@@ -25,7 +25,6 @@ use Rattle.contribution.proofs.Once.{add_once, key_once}
 use Rattle.opening.specs.declared.turn.Turn.{Turn}
 use Rattle.opening.specs.Step.{Made, held, lower, multiplier_at, open_by, open_at, held_back}
 use Rattle.opening.specs.Swept.{Stored}
-use Rattle.opening.specs.Ready.{Ready}
 
 module _ (turn : Turn) where
   abbrev p : ℕ
@@ -133,11 +132,6 @@ pub below_as : {x y p : ℕ} → x ≡ y → y < p → x < p
 below_as e h = omega (arith, e, h)
 
 -- ---- any wire: each arm knows the recipe
-
-pub ready_at : (turn : Turn) (contribution externals keys rows wkeys wexternals : List ℕ) {how how' : Recipe} → how ≡ how'
-    → Ready turn contribution externals keys rows wkeys wexternals how → Ready turn contribution externals keys rows wkeys wexternals how'
-ready_at turn contribution externals keys rows wkeys wexternals e r =
-    subst (λ (h : Recipe). Ready turn contribution externals keys rows wkeys wexternals h) e r
 
 pub made_by : (turn : Turn) (contribution externals keys rows wkeys wexternals : List ℕ) {how how' : Recipe} {out : List ℕ} {r : ℕ} → how ≡ how'
     → Made turn (open_at turn contribution externals keys rows wkeys wexternals how') out r

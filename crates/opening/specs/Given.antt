@@ -3,7 +3,6 @@
 use Rattle.std.specs.Prelude.{◌≡◌, not, List, ℕ, ◌*◌, ◌≤◌, ◌<◌, length, get_or, replicate}
 use Rattle.lists.specs.First.{first}
 use Rattle.residue.specs.Vector.{AllBelow}
-use Rattle.checks.specs.declared.Answer.TheVariants.{Accepted}
 use Rattle.circuit.specs.declared.Circuit.{Circuit}
 use Rattle.circuit.specs.Wires.{modulus_at, inputs_in}
 use Rattle.circuit.specs.Accepted.{AcceptedCircuit}
@@ -16,6 +15,7 @@ use Rattle.scheme.specs.Contribution.{contribution_size}
 use Rattle.scheme.specs.Draw.{drawn}
 use Rattle.scheme.specs.Opening.{opened, wire_keys, wire_externals, nothing}
 use Rattle.scheme.specs.Bytes.{contributions_checked, keys_checked, rows_checked}
+use Rattle.checks.specs.Answer.{accepts}
 
 -- rows of modulus p, which is above 1
 pub record Rows (n K p : ℕ) (rows : List ℕ) (count : ℕ) : Type 0 where
@@ -34,10 +34,10 @@ pub record Given (circuit : Circuit) (n K party : ℕ) (contribution externals k
   pub externals_size : length externals ≡ inputs_in (wires_in circuit)
   pub keys_size : length keys ≡ inputs_in (wires_in circuit) * (n * K)
   pub rows_size : length rows ≡ rows_in (wires_in circuit) * (n * K)
-  pub externals_below : values_checked externals (modulus_at (wires_in circuit)) ≡ Accepted
-  pub contribution_below : contributions_checked 1 K (wires_in circuit) contribution ≡ Accepted
-  pub keys_below : keys_checked n K (wires_in circuit) keys ≡ Accepted
-  pub rows_below : rows_checked n K (wires_in circuit) rows ≡ Accepted
+  pub externals_below : values_checked externals (modulus_at (wires_in circuit)) ≡ accepts
+  pub contribution_below : contributions_checked 1 K (wires_in circuit) contribution ≡ accepts
+  pub keys_below : keys_checked n K (wires_in circuit) keys ≡ accepts
+  pub rows_below : rows_checked n K (wires_in circuit) rows ≡ accepts
 
 -- the first wire on which no multiplier fits, the number of wires where there is none; and the two buffers written, all zero where there is one
 pub record OpensAll (circuit : Circuit) (n K party round : ℕ) (contribution externals keys rows wkeys₀ wexternals₀ : List ℕ) (r : ℕ) (wkeys wexternals : List ℕ) : Type 0 where

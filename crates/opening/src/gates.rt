@@ -9,7 +9,7 @@ ghost use Rattle.opening.specs.Ready.{Seated};
 
 use super::row::{add_bare, bare};
 use super::turn::Turn;
-use lists::{byte_index, nth_piece, piece};
+use lists::{nth_piece, piece};
 use pads::Bound;
 use residue::add_multiple;
 use search::chosen_corrector;
@@ -22,7 +22,7 @@ pub fn open_table(turn: Turn, a: &[u8], ea: u8, rows: &[u8], out: &mut [u8])
 {
     let n = turn.n;
     let k = turn.k;
-    let row = nth_piece(rows, n * k, byte_index(ea));
+    let row = nth_piece(rows, n * k, usize::from(ea));
     let bound = Bound {
         round: turn.round,
         modulus: turn.over,
@@ -48,7 +48,7 @@ pub fn open_product(turn: Turn, a: &[u8], ea: u8, b: &[u8], eb: u8, rows: &[u8],
         wire: turn.wire,
         component: 0,
     };
-    let row = nth_piece(rows, m, byte_index(ea));
+    let row = nth_piece(rows, m, usize::from(ea));
     bare(n, k, p, first, a, row, &mut *out);
     let next = Bound {
         round: turn.round,
@@ -56,7 +56,7 @@ pub fn open_product(turn: Turn, a: &[u8], ea: u8, b: &[u8], eb: u8, rows: &[u8],
         wire: turn.wire,
         component: 1,
     };
-    let second = nth_piece(rows, m, byte_index(p) + byte_index(eb));
+    let second = nth_piece(rows, m, usize::from(p) + usize::from(eb));
     add_bare(n, k, p, next, b, second, &mut *out);
     add_multiple(p, eb, a, out);
 }
@@ -69,7 +69,7 @@ fn open_chooser(turn: Turn, v: &[u8], bit: u8, d: &[u8], rows: &[u8], out: &mut 
 {
     let n = turn.n;
     let k = turn.k;
-    let row = nth_piece(rows, n * k, byte_index(bit));
+    let row = nth_piece(rows, n * k, usize::from(bit));
     let bound = Bound {
         round: turn.round,
         modulus: 2,
@@ -88,11 +88,11 @@ fn corrector_row(rows: &[u8], m: usize, p: u8, bit: u8, alpha: u8) -> &[u8]
     requires { (length rows.now ≡ (2 * p + 2) * m) × ((alpha < p) × (m ≤ 1024)) }
     ensures { (result.now ≡ nth_piece rows.now m (corrector p bit alpha)) × (length result.now ≡ m) }
 {
-    let width = byte_index(p) * m;
+    let width = usize::from(p) * m;
     let from = 2 * m;
     let first = piece(rows, from, width);
     let second = piece(rows, from + width, width);
-    chosen_corrector(first, second, bit, byte_index(alpha) * m, m)
+    chosen_corrector(first, second, bit, usize::from(alpha) * m, m)
 }
 
 // A choice: the chooser's row, under the bit's keys, and the row of the corrector that the bit's external value names, under those

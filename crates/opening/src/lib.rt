@@ -4,6 +4,7 @@
 
 #![tactic(auto)]
 
+mod before;
 mod free;
 mod gates;
 mod own;

@@ -8,6 +8,7 @@ use super::turn::Turn;
 use lists::{nth_piece, piece};
 use search::multiplier;
 
+// The modulus stands for none, as the definition `multiplier` has it and the search gives it.
 // The multiplier of the party's own key among all parties' keys of the wire, the wire's modulus where none fits.
 pub fn own_multiplier(turn: Turn, contribution: &[u8], all: &[u8]) -> u8
     requires { Seated turn × (Inside turn contribution.now × Vector turn.n turn.k all.now) }

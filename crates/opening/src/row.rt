@@ -5,7 +5,6 @@ ghost use Rattle.session.specs.Sizes.{Sizes, Vector};
 ghost use Rattle.pads.specs.Pad.{shake_pad, pad_row};
 ghost use Rattle.pads.specs.Binding.{under_of};
 
-use lists::copy;
 use pads::{Bound, sub_pad_row};
 use residue::add_multiple;
 
@@ -15,7 +14,7 @@ pub fn bare(n: usize, k: usize, p: u8, bound: Bound, senders: &[u8], row: &[u8],
     requires vector { Vector n k senders.now × (Vector n k row.now × Vector n k out.old) }
     ensures { out.new ≡ sub_v p row.now (pad_row (shake_pad bound.round) k p (under_of bound) senders.now n) }
 {
-    copy(&mut *out, row);
+    out.copy_from_slice(row);
     sub_pad_row(p, bound, n, k, senders, out);
 }
 

@@ -5,11 +5,10 @@ ghost use Rattle.scheme.specs.Opening.{open_input};
 ghost use Rattle.opening.specs.Step.{Made, open_at};
 ghost use Rattle.opening.specs.Ready.{Seated, InputReady, Ready};
 
-use super::free::{multiple, sum};
-use super::rowed::{by_choice, by_product, by_table};
+use super::before::{Before, Lent};
 use super::turn::Turn;
 use counts::Recipe;
-use lists::{copy, nth_piece};
+use lists::nth_piece;
 
 // An input's keys and external value are given.
 fn input(turn: Turn, externals: &[u8], keys: &[u8], out: &mut [u8]) -> u8
@@ -18,34 +17,25 @@ fn input(turn: Turn, externals: &[u8], keys: &[u8], out: &mut [u8]) -> u8
     ensures { Made turn (open_input turn.n turn.k externals.now keys.now turn.wire) out.new result }
 {
     let w = turn.wire as usize;
-    let own = nth_piece(keys, turn.n * turn.k, w);
-    copy(out, own);
+    out.copy_from_slice(nth_piece(keys, turn.n * turn.k, w));
     externals[w]
 }
 
-// All parties' keys of the wire at hand, and its external value: the wire's modulus where no multiplier fits. `rows` are those of its own gate.
-pub fn open_wire(
-    turn: Turn,
-    how: Recipe,
-    contribution: &[u8],
-    externals: &[u8],
-    keys: &[u8],
-    rows: &[u8],
-    wkeys: &[u8],
-    wexternals: &[u8],
-    out: &mut [u8],
-) -> u8
-    requires seated { Seated turn × Vector turn.n turn.k out.old }
-    requires ready { Ready turn contribution.now externals.now keys.now rows.now wkeys.now wexternals.now how }
-    ensures { Made turn (open_at turn contribution.now externals.now keys.now rows.now wkeys.now wexternals.now how)
-        out.new result }
-{
-    match how {
-        Recipe::Entered => input(turn, externals, keys, out),
-        Recipe::Sum(g) => sum(turn, g, wkeys, wexternals, out),
-        Recipe::Multiple(g) => multiple(turn, g, wkeys, wexternals, out),
-        Recipe::Table(g) => by_table(turn, g, contribution, rows, wkeys, wexternals, out),
-        Recipe::Product(g) => by_product(turn, g, contribution, rows, wkeys, wexternals, out),
-        Recipe::Choice(g) => by_choice(turn, g, contribution, rows, wkeys, wexternals, out),
+impl Before<'_> {
+    // All parties' keys of the wire at hand, and its external value: the wire's modulus where no multiplier fits.
+    pub fn open_wire(self, turn: Turn, how: Recipe, lent: Lent, out: &mut [u8]) -> u8
+        requires seated { Seated turn × Vector turn.n turn.k out.old }
+        requires ready { Ready turn lent.contribution.now lent.externals.now lent.keys.now lent.rows.now self.keys.now self.externals.now how }
+        ensures { Made turn (open_at turn lent.entry.contribution.now lent.entry.externals.now lent.entry.keys.now lent.entry.rows.now self.entry.keys.now self.entry.externals.now how)
+            out.new result }
+    {
+        match how {
+            Recipe::Entered => input(turn, lent.externals, lent.keys, out),
+            Recipe::Sum(g) => self.sum(turn, g, out),
+            Recipe::Multiple(g) => self.multiple(turn, g, out),
+            Recipe::Table(g) => self.by_table(turn, g, lent, out),
+            Recipe::Product(g) => self.by_product(turn, g, lent, out),
+            Recipe::Choice(g) => self.by_choice(turn, g, lent, out),
+        }
     }
 }

@@ -2,14 +2,14 @@
 -- modulo q. Twice folded, at 2^32 and at 2^24, a number of 64 bits is below 2^25. With m the reciprocal 2^34 / q + 1, the quotient of z below 2^26
 -- is z * m / 2^34 exactly. Assumes nothing.
 use mathlib.Core.Path.{◌≡◌, ◌∙◌, sym, ap}
-use mathlib.Core.Bool.{Bool, true, false}
+use mathlib.Core.Bool.{true, false}
 use Prim.Native.Nat.{ℕ, ◌+◌, ◌-◌, ◌*◌, ◌/◌, ◌%◌, ◌≤◌, ◌<◌}
-use native.Mathlib.Nat.{mod-lt, div-add-mod', div-le_self, mul-le-mul, lt_of_mul-lt-mul_left, add-mul-mod_self_right, mod-add-mod, mod-mod, add_comm, le-pred_of_lt}
+use native.Mathlib.Nat.{mod-lt, div-add-mod', mul-le-mul, lt_of_mul-lt-mul_left, add-mul-mod_self_right, mod-add-mod, mod-mod, add_comm, le-pred_of_lt}
 use native.Mathlib.Omega.{arith}
 use lib.Arith.{digits_div}
 use lib.Dec.{lit<}
 use Rattle.residue.specs.Residue.{add, sub}
-use Rattle.pads.specs.Factored.{FactorsOf, Folded}
+use Rattle.pads.specs.Factored.{Folded}
 use Rattle.pads.specs.Moved.{shifted}
 use Rattle.pads.specs.declared.remainder.Factors.{Factors}
 
@@ -42,21 +42,21 @@ once f x = x % 4294967296 + x / 4294967296 * f.high
 abbrev pub twice : Factors → ℕ → ℕ
 twice f x = once f x % 16777216 + once f x / 16777216 * f.low
 
-module _ {q : ℕ} {f : Factors} (o : FactorsOf q f) (byte : q < 256) (x : ℕ) (fits : x < 18446744073709551616) where
+module _ (f : Factors) (byte : f.modulus < 256) (x : ℕ) (fits : x < 18446744073709551616) where
   pub once_small : once f x < 1099511627776
-  once_small = first_fold fits (omega (arith, o.modulus, o.high, mod-lt 4294967296 {m = q} (omega (arith, o.modulus))))
+  once_small = first_fold fits (omega (arith, f.above_one, f.high_is, mod-lt 4294967296 {m = f.modulus} (omega (arith, f.above_one))))
 
   pub twice_small : twice f x < 33554432
-  twice_small = second_fold once_small (omega (arith, o.modulus, o.low, mod-lt 16777216 {m = q} (omega (arith, o.modulus))))
+  twice_small = second_fold once_small (omega (arith, f.above_one, f.low_is, mod-lt 16777216 {m = f.modulus} (omega (arith, f.above_one))))
 
-  pub twice_folded : Folded q x (twice f x)
+  pub twice_folded : Folded f.modulus x (twice f x)
   twice_folded =
       record {
         same =
-            ap (λ (l : ℕ). (once f x % 16777216 + once f x / 16777216 * l) % q) o.low
-            ∙ folds q 16777216 (once f x)
-            ∙ ap (λ (h : ℕ). (x % 4294967296 + x / 4294967296 * h) % q) o.high
-            ∙ folds q 4294967296 x;
+            ap (λ (l : ℕ). (once f x % 16777216 + once f x / 16777216 * l) % f.modulus) f.low_is
+            ∙ folds f.modulus 16777216 (once f x)
+            ∙ ap (λ (h : ℕ). (x % 4294967296 + x / 4294967296 * h) % f.modulus) f.high_is
+            ∙ folds f.modulus 4294967296 x;
         small = twice_small;
       }
 
@@ -80,11 +80,6 @@ module _ (q m e z a r : ℕ) (byte : q < 256) (up : m * q ≡ 17179869184 + e) (
   exact = ap (λ (n : ℕ). n / 17179869184) product ∙ digits_div a within
 
 module _ (q m z : ℕ) (modulus : 1 < q) (byte : q < 256) (reciprocal : m ≡ 17179869184 / q + 1) (small : z < 67108864) where
-  pub product-fits : z * m < 18446744073709551616
-  product-fits =
-      let most : z * m ≤ 67108863 * 17179869185 = mul-le-mul {n₂ = 67108863} {m₂ = 17179869185} (le-pred_of_lt small) (omega (arith, div-le_self 17179869184 q)) in
-      omega arith
-
   quotient : z * m / 17179869184 ≡ z / q
   quotient =
       let base : 17179869184 / q * q + 17179869184 % q ≡ 17179869184 = div-add-mod' 17179869184 q in
@@ -100,11 +95,10 @@ module _ (q m z : ℕ) (modulus : 1 < q) (byte : q < 256) (reciprocal : m ≡ 17
 
 -- ---- a residue joined to a folded number
 
-pub put_on : (minus : Bool) (a : ℕ) {q x z r : ℕ} → minus ≡ false → Folded q x z → r ≡ (z + a) % q → r ≡ shifted minus q a (x % q)
+pub put_on : (a : ℕ) {q x z r : ℕ} → Folded q x z → r ≡ (z + a) % q → r ≡ shifted false q a (x % q)
 unfolding shifted add
-put_on minus a {q} {x} {z} {r} b s e =
+put_on a {q} {x} {z} {r} s e =
     e ∙ sym (mod-add-mod z q a) ∙ ap (λ (n : ℕ). (n + a) % q) s.same ∙ ap (λ (n : ℕ). n % q) (add_comm (x % q) a)
-    ∙ ap (λ (m : Bool). shifted m q a (x % q)) (sym b)
 
 apart : (a q t u d r z top : ℕ) → top ≡ t * q → u * q + r ≡ z → t ≡ u + 1 + d → r ≤ q → top - z + a ≡ a + (q - r) + d * q
 apart a q t u d r z top e f g h =
@@ -122,9 +116,9 @@ top_above {q} {top} h e =
     let whole : top ≡ 33554432 / q * q + q = e ∙ omega arith in
     (omega arith, omega arith)
 
-pub taken_off : (minus : Bool) (a : ℕ) {q x z top r : ℕ} → minus ≡ true → 1 < q → top ≡ (33554432 / q + 1) * q → Folded q x z → r ≡ (top - z + a) % q → r ≡ shifted minus q a (x % q)
+pub taken_off : (a : ℕ) {q x z top r : ℕ} → 1 < q → top ≡ (33554432 / q + 1) * q → Folded q x z → r ≡ (top - z + a) % q → r ≡ shifted true q a (x % q)
 unfolding shifted sub
-taken_off minus a {q} {x} {z} {top} {r} b h e s d =
+taken_off a {q} {x} {z} {top} {r} h e s d =
     let above : z < top = omega (arith, s.small, (top_above h e).0) in
     let u : ℕ = z / q in
     let t : ℕ = 33554432 / q + 1 in
@@ -135,4 +129,3 @@ taken_off minus a {q} {x} {z} {top} {r} b h e s d =
     ∙ ap (λ (n : ℕ). n % q) (apart a q t u (t - (u + 1)) (z % q) z top e parts (omega arith) (omega arith))
     ∙ add-mul-mod_self_right (a + (q - z % q)) (t - (u + 1)) q
     ∙ ap (λ (n : ℕ). (a + (q - n)) % q) (s.same ∙ sym (mod-mod x q))
-    ∙ ap (λ (m : Bool). shifted m q a (x % q)) (sym b)

@@ -1,20 +1,29 @@
 -- What the sponge takes for a pad: seven fields one after another are the pad input, which is a list of bytes.
 -- Assumes nothing.
-use mathlib.Core.Path.{◌≡◌, ◌∙◌}
+use mathlib.Core.Path.{◌≡◌, refl, ◌∙◌}
 use mathlib.Core.List.{List, [], ◌∷◌, ◌++◌}
 use Prim.Native.Nat.{ℕ, zero, suc, ◌/◌, ◌%◌, ◌<◌}
 use native.Mathlib.Nat.{mod-lt}
 use lib.Dec.{lit<}
+use native.Mathlib.Omega.{arith}
+use Rattle.std.specs.Int.{w32, to_le_bytes}
 use Rattle.shake.specs.Numbers.{bytes_of}
-use Rattle.shake.specs.Stream.{with_field, empty}
-use Rattle.shake.specs.declared.Sponge.{Sponge}
+use Rattle.shake.specs.Stream.{Soaked, with_field, empty}
 use Rattle.shake.proofs.Bytes.{Bytes, bytes_none, bytes_cons, bytes_append}
 use Rattle.shake.proofs.Fields.{fields}
 use Rattle.pads.specs.Pad.{rowpad, Under, bound, pad_input}
 use Rattle.pads.specs.Binding.{seven_fields}
 
+-- a number in 4 bytes, the least significant first
+pub little_endian : (n : ℕ) → to_le_bytes w32 n ≡ bytes_of 4 n
+unfolding bytes_of
+little_endian n =
+    let two : n / 256 / 256 ≡ n / 65536 = omega arith in
+    let three : n / 256 / 256 / 256 ≡ n / 16777216 = omega arith in
+    rw (three, two) refl
+
 -- one field each for modulus, component and receiver
-pub one_message : (s : Sponge) (tag round : List ℕ) (modulus : ℕ) (wire : List ℕ) (component receiver : ℕ) (key : List ℕ)
+pub one_message : (s : Soaked) (tag round : List ℕ) (modulus : ℕ) (wire : List ℕ) (component receiver : ℕ) (key : List ℕ)
     → with_field (with_field (with_field (with_field (with_field (with_field (with_field s tag) round) (modulus ∷ [])) wire) (component ∷ [])) (receiver ∷ [])) key
     ≡ with_field s (tag ++ (round ++ (modulus ∷ (wire ++ (component ∷ receiver ∷ key)))))
 one_message s tag round modulus wire component receiver key =
@@ -23,7 +32,7 @@ one_message s tag round modulus wire component receiver key =
     ∙ fields s tag (round ++ (modulus ∷ (wire ++ (component ∷ receiver ∷ key))))
 
 -- the sponge after the seven fields of a pad input
-pub takes_input : (number : ℕ) (under : Under) (receiver : ℕ) (key round wire : List ℕ) {r : Sponge} → round ≡ bytes_of 4 number → wire ≡ bytes_of 4 under.wire
+pub takes_input : (number : ℕ) (under : Under) (receiver : ℕ) (key round wire : List ℕ) {r : Soaked} → round ≡ bytes_of 4 number → wire ≡ bytes_of 4 under.wire
     → r ≡ seven_fields rowpad round (under.modulus ∷ []) wire (under.component ∷ []) (receiver ∷ []) key
     → r ≡ with_field empty (pad_input number (bound under receiver key))
 unfolding pad_input bound

@@ -1,6 +1,6 @@
 // What the sponge takes for a pad: seven fields, one after another, into one sponge that is lent for each; and the numbers that it gives.
 ghost use Rattle.std.specs.Prelude.{◌≡◌, ◌*◌, length};
-ghost use Rattle.shake.specs.Numbers.{numbers, bytes_of};
+ghost use Rattle.shake.specs.Numbers.{numbers};
 ghost use Rattle.shake.specs.Shake.{shake256};
 ghost use Rattle.shake.specs.Stream.{with_field, empty};
 ghost use Rattle.pads.specs.Pad.{pad_input};
@@ -18,7 +18,6 @@ pub struct Bound {
 }
 
 // One sponge, lent for each of seven fields in turn.
-#[tactic(auto, using(shake::proofs::Whole::start_place, shake::proofs::Whole::next_place))]
 fn seven_fields(
     tag: &[u8],
     round: &[u8],
@@ -41,28 +40,13 @@ fn seven_fields(
     sponge
 }
 
-// A number in 4 bytes, the least significant first.
-fn number_bytes(number: u32) -> [u8; 4]
-    ensures { result ≡ bytes_of 4 number }
-{
-    let second = number / 256;
-    let third = second / 256;
-    let fourth = third / 256;
-    [
-        (number % 256) as u8,
-        (second % 256) as u8,
-        (third % 256) as u8,
-        (fourth % 256) as u8,
-    ]
-}
-
 // The sponge that has taken in a pad's input.
 fn pad_sponge(bound: Bound, receiver: u8, key: &[u8]) -> Sponge
     ensures { result ≡ with_field empty (pad_input bound.round (bound_by bound receiver key.now)) }
 {
-    let rounds = number_bytes(bound.round);
+    let rounds = bound.round.to_le_bytes();
     let moduli = [bound.modulus];
-    let wires = number_bytes(bound.wire);
+    let wires = bound.wire.to_le_bytes();
     let components = [bound.component];
     let receivers = [receiver];
     seven_fields(

@@ -7,6 +7,7 @@
 
 mod entries;
 mod input;
+mod memory;
 mod remainder;
 mod row;
 

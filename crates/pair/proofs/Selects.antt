@@ -12,7 +12,6 @@ use borrow.Author.Tests.{ltb-true}
 use Rattle.residue.proofs.Table.{and_left}
 use Rattle.checks.specs.declared.Refusal.{Refusal}
 use Rattle.checks.specs.declared.Refusal.TheVariants.{SelectPresent}
-use Rattle.checks.specs.declared.Answer.TheVariants.{Accepted}
 use Rattle.checks.proofs.Passed.{none_bad_none}
 use Rattle.words.specs.Bits.{kind, image, wire_a, wire_b, word_at}
 use Rattle.words.specs.Items.{check, judged, after_entry, entry_item, branches_item}
@@ -29,6 +28,7 @@ use Rattle.circuit.proofs.More.{each, wire-kept, wire-new}
 use Rattle.circuit.proofs.State.{not-true}
 use Rattle.pair.specs.Bytes.{is_select_word, selects_checked}
 use Rattle.pair.specs.Undone.{is_select, NoSelects}
+use Rattle.checks.specs.Answer.{accepts}
 
 -- ---- one word
 
@@ -140,7 +140,7 @@ module _ (file : List ℕ) (free : (i : ℕ) → i < words_in file → is_select
   begun false h = nothing
 
 -- where check 26 passes, no wire is a select; a file that is refused has no wires at all
-pub no_selects : (file : List ℕ) → selects_checked file ≡ Accepted → NoSelects (read_file file).wires
+pub no_selects : (file : List ℕ) → selects_checked file ≡ accepts → NoSelects (read_file file).wires
 unfolding read_file selects_checked
 no_selects file e =
     begun file (none_bad_none (words_in file) (is_select_word file) SelectPresent e) _

@@ -2,7 +2,6 @@
 -- Assumes nothing.
 use Rattle.std.specs.Prelude.{Bool, not, ◌&&◌, List, ℕ, eqb}
 use Rattle.checks.specs.declared.Refusal.TheVariants.{SelectPresent, ContributionTooLarge, OffsetNotOne}
-use Rattle.checks.specs.declared.Answer.{Answer}
 use Rattle.checks.specs.Checked.{and_then, none_bad}
 use Rattle.words.specs.Bits.{kind, word_at}
 use Rattle.words.specs.declared.gate.Wire.{Wire}
@@ -13,6 +12,7 @@ use Rattle.scheme.specs.Bytes.{bytes_checked, keys_checked, counted_rows_checked
 use Rattle.pair.specs.Key.{external_of}
 use Rattle.pair.specs.Draw.{draw_moduli, offset_in}
 use Rattle.pair.specs.Count.{pair_rows_of}
+use Rattle.checks.specs.Answer.{Answer}
 
 -- 26: "names the first selector's word": kind 8
 abbrev pub is_select_word : List ℕ → ℕ → Bool

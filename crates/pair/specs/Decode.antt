@@ -2,12 +2,12 @@
 -- from external values of all wires and output masks (no n, K or party).
 -- Assumes nothing.
 use Rattle.std.specs.Prelude.{◌≡◌, Bool, true, List, ℕ, length}
-use Rattle.checks.specs.declared.Answer.{Answer}
 use Rattle.checks.specs.Checked.{Reports, and_then, afterwards}
 use Rattle.words.specs.declared.gate.Wire.{Wire}
 use Rattle.circuit.specs.File.{read_file}
 use Rattle.session.specs.Session.{file_checked}
 use Rattle.calls.specs.Decode.{decode_lent, decode_made}
+use Rattle.checks.specs.Answer.{Answer}
 
 -- every output may be read
 abbrev pub any_output : ℕ → Bool

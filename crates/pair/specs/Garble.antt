@@ -1,7 +1,6 @@
 -- The call for garbling in the two-party form: rows and output masks from what the garbler drew, "metered as before".
 -- Assumes nothing.
 use Rattle.std.specs.Prelude.{◌≡◌, List, [], ◌∷◌, ℕ, ◌*◌, length}
-use Rattle.checks.specs.declared.Answer.{Answer}
 use Rattle.checks.specs.Checked.{Reports, and_then, afterwards}
 use Rattle.meter.specs.Meter.{Charge, account_checked, meter_checked, charged}
 use Rattle.words.specs.declared.gate.Wire.{Wire}
@@ -12,6 +11,7 @@ use Rattle.pair.specs.Count.{pair_rows_in}
 use Rattle.pair.specs.Draw.{draw_size}
 use Rattle.pair.specs.Rows.{pair_rows, pair_masks}
 use Rattle.pair.specs.Bytes.{pair_file_checked, drawn_checked}
+use Rattle.checks.specs.Answer.{Answer}
 
 -- on the wires and outputs of a circuit
 module _ (K : ℕ) (wires : List Wire) (outputs draw : List ℕ) where

@@ -3,7 +3,6 @@
 use Rattle.std.specs.Prelude.{◌≡◌, List, [], ◌∷◌, ℕ, ◌*◌, length, get_or}
 use Rattle.lists.specs.Blocks.{blocks}
 use Rattle.residue.specs.Vector.{key_v}
-use Rattle.checks.specs.declared.Answer.{Answer}
 use Rattle.checks.specs.Checked.{Reports, and_then, afterwards}
 use Rattle.words.specs.declared.gate.Wire.{Wire}
 use Rattle.circuit.specs.Wires.{modulus_at, inputs_in}
@@ -11,6 +10,7 @@ use Rattle.circuit.specs.File.{read_file}
 use Rattle.session.specs.Session.{session_checked, owners_checked, lengths_checked, values_checked}
 use Rattle.pair.specs.Draw.{draw_size, offset_in, zero_in}
 use Rattle.pair.specs.Bytes.{pair_file_checked, drawn_checked}
+use Rattle.checks.specs.Answer.{Answer}
 
 -- on the wires of a circuit
 module _ (K : ℕ) (wires : List Wire) (draw values : List ℕ) where

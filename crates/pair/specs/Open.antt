@@ -1,7 +1,6 @@
 -- The call for opening in the two-party form, from the input keys and the rows: one key and one external byte per wire.
 -- Assumes nothing.
 use Rattle.std.specs.Prelude.{◌≡◌, List, [], ◌∷◌, ℕ, ◌*◌, length}
-use Rattle.checks.specs.declared.Answer.{Answer}
 use Rattle.checks.specs.Checked.{Reports, and_then, afterwards}
 use Rattle.words.specs.declared.gate.Wire.{Wire}
 use Rattle.circuit.specs.Wires.{inputs_in}
@@ -11,6 +10,7 @@ use Rattle.session.specs.Session.{session_checked, owners_checked, lengths_check
 use Rattle.pair.specs.Count.{pair_rows_in}
 use Rattle.pair.specs.Opening.{pair_wire_keys, pair_wire_externals}
 use Rattle.pair.specs.Bytes.{pair_file_checked, pair_bytes_checked}
+use Rattle.checks.specs.Answer.{Answer}
 
 -- on the wires of a circuit
 module _ (K : ℕ) (wires : List Wire) (keys rows : List ℕ) where

@@ -5,12 +5,13 @@ use mathlib.Core.Bool.{Bool}
 use mathlib.Core.List.{List}
 use Prim.Native.Nat.{ℕ, zero, suc}
 use lib.ListN.{length, get_or, take, replicate, length-replicate}
-use Rattle.checks.specs.declared.Answer.{Answer}
-use Rattle.checks.specs.Answer.{number_in, place_in}
-use Rattle.checks.specs.Checked.{and_then}
+use Rattle.checks.specs.Answer.{Answer, number_in, place_in}
+use Rattle.std.specs.Prelude.{Err}
+use Rattle.checks.specs.declared.Refused.{Refused}
+use Rattle.checks.proofs.Answers.{and_then_stop}
+use Rattle.party_calls.proofs.Ending.{behind_file, ends-refused}
 use Rattle.words.specs.declared.gate.Wire.{Wire}
 use Rattle.circuit.specs.declared.Circuit.{Circuit}
-use Rattle.circuit.specs.declared.Reading.{Reading}
 use Rattle.circuit.specs.Named.{readable}
 use Rattle.circuit.specs.File.{read_file}
 use Rattle.circuit.specs.Held.{wires_in, outputs_in, circuit_of, Holds}
@@ -31,41 +32,48 @@ everyone given party {named} e =
     fun_ext
     (λ i. sym (everyone_may (get_or (take given named) i 0) party (ap (λ (l : List ℕ). get_or (take given l) i 0) e ∙ zeros_front given 256 i)))
 
--- the reading's circuit, with these names
-abbrev pub naming : Reading → List ℕ → Circuit
-naming reading named =
-    let circuit = reading.circuit in circuit_of circuit.wires circuit.outputs named circuit.made circuit.inputs circuit.given
+-- a circuit with other names
+abbrev pub naming : Circuit → List ℕ → Circuit
+naming circuit named = circuit_of circuit.wires circuit.outputs named circuit.made circuit.inputs circuit.given
 
-module _ {reading : Reading} (file externals masks before : List ℕ) (h : Holds reading (read_file file)) {named : List ℕ} (e : named ≡ replicate 256 0) where
-  pub pair-ready : Ready (naming reading named) reading.answer
-  pair-ready =
-      let r = ready_of file h {earlier = reading.answer} (λ a. a) in
-      let held = r.held in
-      record {
-        held = record {
-          room = record { made = held.room.made; wires = held.room.wires };
-          inputs = held.inputs;
-          given = held.given;
-          outputs = held.outputs;
-          named = ap length e ∙ length-replicate {A = ℕ} 256 0;
-        };
-        made = r.made;
-      }
+module _ (file externals masks before : List ℕ) where
+  pub pair_unread : {answer : Answer} {why : Refused} → answer ≡ Err why → (read_file file).answer ≡ Err why
+      → PairDecodeCall file externals masks before (number_in answer) (place_in answer) before
+  unfolding pair_decode_checked pair_decode_after
+  pair_unread e r =
+      let d = ends-refused (decode_made (read_file file).wires (read_file file).outputs any_output externals masks) before e (and_then_stop _ r) in
+      record { answer = d.0; results_is = d.1 }
 
-  -- on the file's wires and outputs, of which every one may be read
-  module _ {X : Type 0} (by : List Wire → List ℕ → (ℕ → Bool) → X) where
-    same : by (wires_in reading.circuit) (outputs_in reading.circuit) (readable (take reading.circuit.given named) 0) ≡ by (read_file file).wires (read_file file).outputs any_output
-    same =
-        ap₂ (λ (w : List Wire) (o : List ℕ). by w o (readable (take reading.circuit.given named) 0)) h.wires h.outputs
-        ∙ ap (by (read_file file).wires (read_file file).outputs) (everyone reading.circuit.given 0 e)
+  module _ {circuit : Circuit} (h : Holds circuit (read_file file)) {named : List ℕ} (e : named ≡ replicate 256 0) where
+    pub pair-ready : Ready (naming circuit named)
+    pair-ready =
+        let r = ready_of file h in
+        let held = r.held in
+        record {
+          held = record {
+            room = record { made = held.room.made; wires = held.room.wires };
+            inputs = held.inputs;
+            given = held.given;
+            outputs = held.outputs;
+            named = ap length e ∙ length-replicate {A = ℕ} 256 0;
+          };
+          made = r.made;
+        }
 
-  checks_is : and_then reading.answer (lent_by (naming reading named) 0 externals masks (length before)) ≡ pair_decode_checked file externals masks before
-  unfolding pair_decode_checked
-  checks_is = ap₂ and_then h.answer (same (λ w o may. decode_lent w o may externals masks (length before)))
+    -- on the file's wires and outputs, of which every one may be read
+    module _ {X : Type 0} (by : List Wire → List ℕ → (ℕ → Bool) → X) where
+      same : by (wires_in circuit) (outputs_in circuit) (readable (take circuit.given named) 0) ≡ by (read_file file).wires (read_file file).outputs any_output
+      same =
+          ap₂ (λ (w : List Wire) (o : List ℕ). by w o (readable (take circuit.given named) 0)) h.wires h.outputs
+          ∙ ap (by (read_file file).wires (read_file file).outputs) (everyone circuit.given 0 e)
 
-  pub pair-decoded : {answer : Answer} {out : List ℕ} → Decoded (naming reading named) 0 reading.answer externals masks before answer out
-      → PairDecodeCall file externals masks before (number_in answer) (place_in answer) out
-  unfolding pair_decode_after
-  pair-decoded d =
-      let c = behind_as d checks_is (same (λ w o may. decode_made w o may externals masks)) in
-      record { answer = c.0; results_is = c.1 }
+    checks_is : lent_by (naming circuit named) 0 externals masks (length before) ≡ pair_decode_checked file externals masks before
+    unfolding pair_decode_checked
+    checks_is = behind_file file _ h (same (λ w o may. decode_lent w o may externals masks (length before)))
+
+    pub pair-decoded : {answer : Answer} {out : List ℕ} → Decoded (naming circuit named) 0 externals masks before answer out
+        → PairDecodeCall file externals masks before (number_in answer) (place_in answer) out
+    unfolding pair_decode_after
+    pair-decoded d =
+        let c = behind_as d checks_is (same (λ w o may. decode_made w o may externals masks)) in
+        record { answer = c.0; results_is = c.1 }

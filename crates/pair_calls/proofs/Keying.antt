@@ -11,15 +11,12 @@ use Rattle.lists.proofs.Blocks.{length-tab, get_or-tab}
 use Rattle.lists.proofs.Steps.{Level, level_start, level_whole}
 use Rattle.residue.specs.Vector.{key_v}
 use Rattle.residue.proofs.Moduli.{is_prime→Prime}
-use Rattle.checks.specs.declared.Answer.{Answer}
-use Rattle.checks.specs.declared.Answer.TheVariants.{Accepted, Refused}
 use Rattle.checks.specs.declared.Refusal.{Refusal}
-use Rattle.checks.specs.Answer.{number_of}
+use Rattle.checks.specs.Answer.{Answer, number_in, place_in, accepts}
 use Rattle.checks.specs.Checked.{and_then}
 use Rattle.checks.proofs.Passed.{and_then-left, and_then-right}
 use Rattle.words.specs.declared.gate.Wire.{Wire}
 use Rattle.circuit.specs.declared.Circuit.{Circuit}
-use Rattle.circuit.specs.declared.Reading.{Reading}
 use Rattle.circuit.specs.Wires.{modulus_at, inputs_in}
 use Rattle.circuit.specs.File.{read_file}
 use Rattle.circuit.specs.Accepted.{AcceptedCircuit}
@@ -32,12 +29,16 @@ use Rattle.scheme.proofs.Used.{used-modulus}
 use Rattle.scheme.proofs.Places.{offset_past}
 use Rattle.session.specs.Session.{session_checked, owners_checked, lengths_checked}
 use Rattle.session.proofs.Circuits.{held_of, made-is, inputs-made}
-use Rattle.party_calls.proofs.Ending.{lent_is, stage_next, stage_refused, stage_followed, ends-written, ends-refused}
+use Rattle.party_calls.proofs.Ending.{lent_is, circuit-accepted, ends-written, ends-refused}
+use Rattle.checks.proofs.Answers.{and_then_stop}
 use Rattle.pair.specs.Draw.{draw_size, input_at, offset_in, zero_in}
 use Rattle.pair.specs.Bytes.{pair_file_checked}
 use Rattle.pair.specs.InputKeys.{pair_input_key, pair_keys_bytes, pair_keys_lent, pair_keys_asked, pair_keys_made, pair_keys_checked, pair_keys_after, PairInputKeysCall}
 use Rattle.pair_calls.specs.Lent.{Ranged, KeysLent, KeysFit, keys_owned}
-use Rattle.pair_calls.proofs.Shared.{circuit-accepted, ranged}
+use Rattle.pair_calls.proofs.Shared.{two_behind, ranged}
+use Rattle.pair_calls.specs.Counted.{ReadsForTwo}
+use Rattle.std.specs.Prelude.{Err}
+use Rattle.checks.specs.declared.Refused.{Refused}
 
 -- ---- the keys
 
@@ -118,84 +119,83 @@ module _ {circuit : Circuit} {K : ℕ} {draw values : List ℕ} {bytes : ℕ} (f
 
 module _ {circuit : Circuit} {K : ℕ} (range : Ranged circuit K) (draw values : List ℕ) (bytes : ℕ) {size : ℕ} (c : Counts 163840 (draw_size K (wires_in circuit)) size)
     {answer : Answer} (m : answer ≡ lengths_checked (length draw ∷ length values ∷ bytes ∷ []) (size ∷ circuit.inputs ∷ circuit.inputs * K ∷ [])) where
-  abbrev rest : Answer
-  rest = pair_keys_bytes K (wires_in circuit) draw values
-
   abbrev lent : List ℕ
   lent = length draw ∷ length values ∷ bytes ∷ []
 
-  lengths_met : answer ≡ lengths_checked lent (draw_size K (wires_in circuit) ∷ inputs_in (wires_in circuit) ∷ inputs_in (wires_in circuit) * K ∷ [])
-  lengths_met = m ∙ ap (lengths_checked lent) (ap₂ (λ (a b : ℕ). a ∷ b ∷ b * K ∷ []) c.is range.held.inputs)
+  pub keys-lengths : answer ≡ lengths_checked lent (draw_size K (wires_in circuit) ∷ inputs_in (wires_in circuit) ∷ inputs_in (wires_in circuit) * K ∷ [])
+  keys-lengths = m ∙ ap (lengths_checked lent) (ap₂ (λ (a b : ℕ). a ∷ b ∷ b * K ∷ []) c.is range.held.inputs)
 
-  pub keys-lent : answer ≡ Accepted → KeysLent circuit K draw values
+  pub keys-lent : answer ≡ accepts → KeysLent circuit K draw values
   keys-lent e =
       let same = lent_is _ _ (sym m ∙ e) in record { drawn = record { ranged = range; size = same 0 ∙ c.is }; values_length = same 1 }
 
-  pub keys-next : answer ≡ Accepted → {r : Answer} → r ≡ rest → r ≡ pair_keys_lent K (wires_in circuit) draw values bytes
-  keys-next e n = stage_next lengths_met e n
-
-  pub keys_stop : {reason : Refusal} {place : ℕ} → answer ≡ Refused reason place → Refused reason place ≡ pair_keys_lent K (wires_in circuit) draw values bytes
-  keys_stop e = stage_refused lengths_met rest e
-
 -- ---- the whole call
 
-module _ {reading : Reading} (file : List ℕ) (K : ℕ) (draw values before : List ℕ) (h : Holds reading (read_file file)) {filed check answer : Answer}
-    (f : filed ≡ pair_file_checked file) (checked : check ≡ pair_keys_asked K (wires_in reading.circuit) draw values (length before)) (joined : answer ≡ and_then filed check) where
-  abbrev circuit : Circuit
-  circuit = reading.circuit
-
-  abbrev wires : List Wire
-  wires = wires_in reading.circuit
-
-  met : answer ≡ pair_keys_checked file K draw values before
-  unfolding pair_keys_checked
-  met = stage_followed f (checked ∙ ap (λ (w : List Wire). pair_keys_asked K w draw values (length before)) h.wires) joined
-
-  pub call_refused : {reason : Refusal} {place : ℕ} → answer ≡ Refused reason place → PairInputKeysCall file K draw values before (number_of reason) place before
+module _ (file : List ℕ) (K : ℕ) (draw values before : List ℕ) where
+  refused_call : {answer : Answer} {why : Refused} → answer ≡ Err why → Err why ≡ pair_keys_checked file K draw values before
+      → PairInputKeysCall file K draw values before (number_in answer) (place_in answer) before
   unfolding pair_keys_after
-  call_refused e = let d = ends-refused (pair_keys_made K (read_file file).wires draw values) before met e in record { answer = d.0; keys_is = d.1 }
+  refused_call e m = let d = ends-refused (pair_keys_made K (read_file file).wires draw values) before e m in record { answer = d.0; keys_is = d.1 }
 
-  module _ (e : answer ≡ Accepted) {long : ℕ} (k : long ≡ K) where
-    abbrev lengths : Answer
-    lengths = lengths_checked (length draw ∷ length values ∷ length before ∷ []) (draw_size K wires ∷ inputs_in wires ∷ inputs_in wires * K ∷ [])
+  abbrev asked_read : Answer
+  asked_read = pair_keys_asked K (read_file file).wires draw values (length before)
 
-    abbrev owned : Answer
-    owned = keys_owned K wires draw values (length before)
+  pub keys_unread : {answer : Answer} {why : Refused} → answer ≡ Err why → pair_file_checked file ≡ Err why
+      → PairInputKeysCall file K draw values before (number_in answer) (place_in answer) before
+  unfolding pair_keys_checked
+  keys_unread e r = refused_call e (and_then_stop asked_read r)
 
-    all : pair_keys_asked K wires draw values (length before) ≡ Accepted
-    all = sym checked ∙ and_then-right filed check (sym joined ∙ e)
+  module _ {circuit : Circuit} (read : ReadsForTwo file circuit) {check : Answer}
+      (checked : check ≡ pair_keys_asked K (wires_in circuit) draw values (length before)) where
+    abbrev wires : List Wire
+    wires = wires_in circuit
 
-    lengths_passed : lengths ≡ Accepted
-    lengths_passed =
-        and_then-left lengths (pair_keys_bytes K wires draw values)
-        (and_then-right (owners_checked 2 wires) (pair_keys_lent K wires draw values (length before)) (and_then-right (session_checked 2 K) owned all))
+    met : check ≡ pair_keys_checked file K draw values before
+    unfolding pair_keys_checked
+    met = two_behind file asked_read read (checked ∙ ap (λ (w : List Wire). pair_keys_asked K w draw values (length before)) read.holds.wires)
 
-    fine : AcceptedCircuit file (wires_in reading.circuit) (outputs_in reading.circuit)
-    fine = circuit-accepted file h f (and_then-left filed check (sym joined ∙ e))
+    pub keys_refused : {answer : Answer} {why : Refused} → answer ≡ Err why → check ≡ Err why
+        → PairInputKeysCall file K draw values before (number_in answer) (place_in answer) before
+    keys_refused e k = refused_call e (sym k ∙ met)
 
-    count : circuit.inputs ≡ inputs_in wires
-    count = (held_of h).inputs
+    module _ (e : check ≡ accepts) where
+      abbrev lengths : Answer
+      lengths = lengths_checked (length draw ∷ length values ∷ length before ∷ []) (draw_size K wires ∷ inputs_in wires ∷ inputs_in wires * K ∷ [])
 
-    inside : (w : ℕ) → w < circuit.inputs → w < length wires
-    inside w l = omega (arith, inputs-made (held_of h), made-is (held_of h))
+      abbrev owned : Answer
+      owned = keys_owned K wires draw values (length before)
 
-    fit : KeysFit reading.circuit K draw values (length before)
-    fit =
-        record {
-          lent = record {
-            drawn = record { ranged = ranged K (held_of h) (and_then-left (session_checked 2 K) owned all) refl; size = lent_is _ _ lengths_passed 0 };
-            values_length = lent_is _ _ lengths_passed 1 ∙ sym count;
-          };
-          size = lent_is _ _ lengths_passed 2 ∙ ap (λ (m : ℕ). m * K) (sym count);
-          positive = λ w l. omega (arith, (is_prime→Prime (modulus_at wires w) (fine.fits w (inside w l)).prime).two);
-          byte = λ w l. (fine.fits w (inside w l)).byte;
-        }
+      all : and_then (session_checked 2 K) owned ≡ accepts
+      all = sym checked ∙ e
 
-    pub keys_fit : KeysFit reading.circuit long draw values (length before)
-    keys_fit = subst (λ (j : ℕ). KeysFit reading.circuit j draw values (length before)) (sym k) fit
+      lengths_passed : lengths ≡ accepts
+      lengths_passed =
+          and_then-left lengths (pair_keys_bytes K wires draw values)
+          (and_then-right (owners_checked 2 wires) (pair_keys_lent K wires draw values (length before)) (and_then-right (session_checked 2 K) owned all))
 
-    pub call_written : {out : List ℕ} → out ≡ pair_keys_made long wires draw values → PairInputKeysCall file K draw values before 0 0 out
-    unfolding pair_keys_after
-    call_written o =
-        let d = ends-written before met e (o ∙ ap₂ (λ (j : ℕ) (w : List Wire). pair_keys_made j w draw values) k h.wires) in
-        record { answer = d.0; keys_is = d.1 }
+      fine : AcceptedCircuit file (wires_in circuit) (outputs_in circuit)
+      fine = circuit-accepted file read.holds
+
+      count : circuit.inputs ≡ inputs_in wires
+      count = (held_of read.holds).inputs
+
+      inside : (w : ℕ) → w < circuit.inputs → w < length wires
+      inside w l = omega (arith, inputs-made (held_of read.holds), made-is (held_of read.holds))
+
+      pub keys_fit : KeysFit circuit K draw values (length before)
+      keys_fit =
+          record {
+            lent = record {
+              drawn = record { ranged = ranged K (held_of read.holds) (and_then-left (session_checked 2 K) owned all); size = lent_is _ _ lengths_passed 0 };
+              values_length = lent_is _ _ lengths_passed 1 ∙ sym count;
+            };
+            size = lent_is _ _ lengths_passed 2 ∙ ap (λ (m : ℕ). m * K) (sym count);
+            positive = λ w l. omega (arith, (is_prime→Prime (modulus_at wires w) (fine.fits w (inside w l)).prime).two);
+            byte = λ w l. (fine.fits w (inside w l)).byte;
+          }
+
+      pub keys-written : {out : List ℕ} → out ≡ pair_keys_made K wires draw values → PairInputKeysCall file K draw values before 0 0 out
+      unfolding pair_keys_after
+      keys-written o =
+          let d = ends-written before (sym met ∙ e) (o ∙ ap (λ (w : List Wire). pair_keys_made K w draw values) read.holds.wires) in
+          record { answer = d.0; keys_is = d.1 }

@@ -4,16 +4,13 @@ use mathlib.Core.Path.{◌≡◌, refl, sym, ap, ap₂, subst, ◌∙◌}
 use mathlib.Core.List.{List, [], ◌∷◌}
 use Prim.Native.Nat.{ℕ, ◌*◌}
 use lib.ListN.{length}
-use Rattle.checks.specs.declared.Answer.{Answer}
-use Rattle.checks.specs.declared.Answer.TheVariants.{Accepted, Refused}
 use Rattle.checks.specs.declared.Refusal.{Refusal}
-use Rattle.checks.specs.Answer.{number_in, place_in}
+use Rattle.checks.specs.Answer.{Answer, number_in, place_in, accepts}
 use Rattle.checks.specs.Checked.{and_then}
 use Rattle.checks.proofs.Passed.{and_then-left, and_then-right, afterwards_passed}
-use Rattle.checks.proofs.Answers.{afterwards-refused, reports}
+use Rattle.checks.proofs.Answers.{and_then_stop, afterwards-refused, reports}
 use Rattle.words.specs.declared.gate.Wire.{Wire}
 use Rattle.circuit.specs.declared.Circuit.{Circuit}
-use Rattle.circuit.specs.declared.Reading.{Reading}
 use Rattle.circuit.specs.File.{read_file}
 use Rattle.circuit.specs.Held.{wires_in, Holds}
 use Rattle.counts.specs.Counts.{Counts}
@@ -21,14 +18,17 @@ use Rattle.pads.specs.Pad.{shake_pad}
 use Rattle.scheme.specs.Bytes.{keys_checked, counted_rows_checked}
 use Rattle.session.specs.Session.{session_checked, owners_checked, lengths_checked}
 use Rattle.session.proofs.Circuits.{held_of, made-is}
-use Rattle.party_calls.proofs.Ending.{lent_is, stage_next, stage_refused, stage_followed}
+use Rattle.party_calls.proofs.Ending.{lent_is, circuit-accepted}
 use Rattle.pair.specs.Count.{pair_rows_of, pair_rows_in}
 use Rattle.pair.specs.Bytes.{pair_file_checked, pair_bytes_checked}
 use Rattle.pair.specs.Opening.{pair_wire_keys, pair_wire_externals}
 use Rattle.pair.specs.Open.{pair_open_lengths, pair_open_lent, pair_open_asked, pair_open_checked, pair_open_keys, pair_open_externals, PairOpenCall}
 use Rattle.pair_opening.specs.Given.{Given}
 use Rattle.pair_calls.specs.Lent.{Ranged, OpenLent, open_owned}
-use Rattle.pair_calls.proofs.Shared.{circuit-accepted, ranged}
+use Rattle.pair_calls.proofs.Shared.{two_behind, ranged}
+use Rattle.pair_calls.specs.Counted.{ReadsForTwo}
+use Rattle.std.specs.Prelude.{Err}
+use Rattle.checks.specs.declared.Refused.{Refused}
 
 -- ---- 14, and then 18
 
@@ -42,112 +42,102 @@ module _ {circuit : Circuit} {K : ℕ} (range : Ranged circuit K) (keys rows : L
   abbrev lengths : Answer
   lengths = pair_open_lengths K (wires_in circuit) keys rows wkeys wexternals
 
-  pub lengths_met : {raw count : ℕ} → Counts 520192 (pair_rows_in (wires_in circuit)) raw → count ≡ raw → {answer : Answer}
-      → answer ≡ lengths_checked (length keys ∷ length rows ∷ wkeys ∷ wexternals ∷ []) (circuit.inputs * K ∷ count * K ∷ circuit.made * K ∷ circuit.made ∷ [])
+  pub lengths_met : {raw : ℕ} → Counts 520192 (pair_rows_in (wires_in circuit)) raw → {answer : Answer}
+      → answer ≡ lengths_checked (length keys ∷ length rows ∷ wkeys ∷ wexternals ∷ []) (circuit.inputs * K ∷ raw * K ∷ circuit.made * K ∷ circuit.made ∷ [])
       → answer ≡ lengths
-  lengths_met c d m =
+  lengths_met c m =
       m
       ∙ ap (lengths_checked lent)
-      (four_same (ap (λ (a : ℕ). a * K) range.held.inputs) (ap (λ (a : ℕ). a * K) (d ∙ c.is))
+      (four_same (ap (λ (a : ℕ). a * K) range.held.inputs) (ap (λ (a : ℕ). a * K) c.is)
       (ap (λ (a : ℕ). a * K) (sym (made-is range.held))) (sym (made-is range.held)))
 
-  module _ {answer : Answer} (m : answer ≡ lengths) where
-    pub open_lent : answer ≡ Accepted → OpenLent circuit K keys rows
-    open_lent e =
-        let same = lent_is _ _ (sym m ∙ e) in record { ranged = range; keys_length = same 0; rows_length = same 1 }
-
-    pub lent-next : answer ≡ Accepted → {r : Answer} → r ≡ pair_bytes_checked K (wires_in circuit) keys rows
-        → r ≡ pair_open_lent K (wires_in circuit) keys rows wkeys wexternals
-    lent-next e k = stage_next m e k
-
-    pub lent_stop : {reason : Refusal} {place : ℕ} → answer ≡ Refused reason place → Refused reason place ≡ pair_open_lent K (wires_in circuit) keys rows wkeys wexternals
-    lent_stop e = stage_refused m (pair_bytes_checked K (wires_in circuit) keys rows) e
+  pub open_lent : {answer : Answer} → answer ≡ lengths → answer ≡ accepts → OpenLent circuit K keys rows
+  open_lent m e = let same = lent_is _ _ (sym m ∙ e) in record { ranged = range; keys_length = same 0; rows_length = same 1 }
 
 -- ---- the whole call
 
-module _ {reading : Reading} (file : List ℕ) (K : ℕ) (keys rows wkeys wexternals : List ℕ) (h : Holds reading (read_file file)) {filed check answer : Answer}
-    (f : filed ≡ pair_file_checked file) (checked : check ≡ pair_open_asked K (wires_in reading.circuit) keys rows (length wkeys) (length wexternals))
-    (joined : answer ≡ and_then filed check) where
-  abbrev circuit : Circuit
-  circuit = reading.circuit
-
-  abbrev wires : List Wire
-  wires = wires_in reading.circuit
-
+module _ (file : List ℕ) (K : ℕ) (keys rows wkeys wexternals : List ℕ) where
   abbrev fate : Answer
   fate = pair_open_checked file K keys rows wkeys wexternals
-
-  met : answer ≡ fate
-  unfolding pair_open_checked
-  met = stage_followed f (checked ∙ ap (λ (w : List Wire). pair_open_asked K w keys rows (length wkeys) (length wexternals)) h.wires) joined
 
   abbrev Ends : ℕ → Answer → List ℕ → List ℕ → Type 0
   Ends round a = PairOpenCall file K round keys rows wkeys wexternals (number_in a) (place_in a)
 
-  pub open_refused : {round : ℕ} {reason : Refusal} {place : ℕ} → answer ≡ Refused reason place → Ends round (Refused reason place) wkeys wexternals
+  refused_call : {round : ℕ} {answer : Answer} {why : Refused} → answer ≡ Err why → Err why ≡ fate → Ends round answer wkeys wexternals
   unfolding pair_open_keys pair_open_externals
-  open_refused {round} {reason} {place} e =
-      let a : fate ≡ Refused reason place = sym met ∙ e in
-      record { answer = reports (sym a); wire_keys_is = afterwards-refused a _ wkeys; wire_externals_is = afterwards-refused a _ wexternals }
+  refused_call e m =
+      record { answer = reports (e ∙ m); wire_keys_is = afterwards-refused (sym m) _ wkeys; wire_externals_is = afterwards-refused (sym m) _ wexternals }
 
-  module _ (e : answer ≡ Accepted) {long : ℕ} (l : long ≡ K) where
-    abbrev owned : Answer
-    owned = open_owned K wires keys rows (length wkeys) (length wexternals)
+  abbrev asked_read : Answer
+  asked_read = pair_open_asked K (read_file file).wires keys rows (length wkeys) (length wexternals)
 
-    abbrev sizes : Answer
-    sizes = pair_open_lengths K wires keys rows (length wkeys) (length wexternals)
+  pub open_unread : {round : ℕ} {answer : Answer} {why : Refused} → answer ≡ Err why → pair_file_checked file ≡ Err why → Ends round answer wkeys wexternals
+  unfolding pair_open_checked
+  open_unread e r = refused_call e (and_then_stop asked_read r)
 
-    all : pair_open_asked K wires keys rows (length wkeys) (length wexternals) ≡ Accepted
-    all = sym checked ∙ and_then-right filed check (sym joined ∙ e)
+  module _ {circuit : Circuit} (read : ReadsForTwo file circuit) {check : Answer}
+      (checked : check ≡ pair_open_asked K (wires_in circuit) keys rows (length wkeys) (length wexternals)) where
+    abbrev wires : List Wire
+    wires = wires_in circuit
 
-    lent_passed : pair_open_lent K wires keys rows (length wkeys) (length wexternals) ≡ Accepted
-    lent_passed =
-        and_then-right (owners_checked 2 wires) (pair_open_lent K wires keys rows (length wkeys) (length wexternals)) (and_then-right (session_checked 2 K) owned all)
+    met : check ≡ fate
+    unfolding pair_open_checked
+    met =
+        two_behind file asked_read read
+        (checked ∙ ap (λ (w : List Wire). pair_open_asked K w keys rows (length wkeys) (length wexternals)) read.holds.wires)
 
-    sizes_passed : sizes ≡ Accepted
-    sizes_passed = and_then-left sizes (pair_bytes_checked K wires keys rows) lent_passed
+    pub open_refused : {round : ℕ} {answer : Answer} {why : Refused} → answer ≡ Err why → check ≡ Err why → Ends round answer wkeys wexternals
+    open_refused e k = refused_call e (sym k ∙ met)
 
-    bytes_passed : pair_bytes_checked K wires keys rows ≡ Accepted
-    bytes_passed = and_then-right sizes (pair_bytes_checked K wires keys rows) lent_passed
+    module _ (e : check ≡ accepts) where
+      abbrev owned : Answer
+      owned = open_owned K wires keys rows (length wkeys) (length wexternals)
 
-    range : Ranged reading.circuit K
-    range = ranged K (held_of h) (and_then-left (session_checked 2 K) owned all) refl
+      abbrev sizes : Answer
+      sizes = pair_open_lengths K wires keys rows (length wkeys) (length wexternals)
 
-    given : Given reading.circuit K keys rows
-    given =
-        record {
-          file = file;
-          held = held_of h;
-          accepted = circuit-accepted file h f (and_then-left filed check (sym joined ∙ e));
-          long = range.long;
-          short = range.short;
-          keys_size = lent_is _ _ sizes_passed 0;
-          rows_size = lent_is _ _ sizes_passed 1;
-          keys_below = and_then-left (keys_checked 1 K wires keys) (counted_rows_checked 1 K wires (pair_rows_of wires) rows) bytes_passed;
-          rows_below = and_then-right (keys_checked 1 K wires keys) (counted_rows_checked 1 K wires (pair_rows_of wires) rows) bytes_passed;
-        }
+      all : and_then (session_checked 2 K) owned ≡ accepts
+      all = sym checked ∙ e
 
-    pub open_given : Given reading.circuit long keys rows
-    open_given = subst (λ (j : ℕ). Given reading.circuit j keys rows) (sym l) given
+      lent_passed : pair_open_lent K wires keys rows (length wkeys) (length wexternals) ≡ accepts
+      lent_passed =
+          and_then-right (owners_checked 2 wires) (pair_open_lent K wires keys rows (length wkeys) (length wexternals)) (and_then-right (session_checked 2 K) owned all)
 
-    pub open_room : (length wkeys ≡ reading.circuit.made * long) × (length wexternals ≡ reading.circuit.made)
-    open_room =
-        (lent_is _ _ sizes_passed 2 ∙ ap₂ (λ (a b : ℕ). a * b) (made-is (held_of h)) (sym l), lent_is _ _ sizes_passed 3 ∙ made-is (held_of h))
+      sizes_passed : sizes ≡ accepts
+      sizes_passed = and_then-left sizes (pair_bytes_checked K wires keys rows) lent_passed
 
-    pub open_written : {round : ℕ} {wkeys' wexternals' : List ℕ}
-        → (wkeys' ≡ pair_wire_keys (shake_pad round) long (wires_in reading.circuit) keys rows)
-        × (wexternals' ≡ pair_wire_externals (shake_pad round) long (wires_in reading.circuit) keys rows) → Ends round Accepted wkeys' wexternals'
-    unfolding pair_open_keys pair_open_externals
-    open_written {round} w =
-        let a : fate ≡ Accepted = sym met ∙ e in
-        record {
-          answer = reports (sym a);
-          wire_keys_is =
-              w.0
-              ∙ ap₂ (λ (j : ℕ) (v : List Wire). pair_wire_keys (shake_pad round) j v keys rows) l h.wires
-              ∙ sym (afterwards_passed a _ wkeys);
-          wire_externals_is =
-              w.1
-              ∙ ap₂ (λ (j : ℕ) (v : List Wire). pair_wire_externals (shake_pad round) j v keys rows) l h.wires
-              ∙ sym (afterwards_passed a _ wexternals);
-        }
+      bytes_passed : pair_bytes_checked K wires keys rows ≡ accepts
+      bytes_passed = and_then-right sizes (pair_bytes_checked K wires keys rows) lent_passed
+
+      range : Ranged circuit K
+      range = ranged K (held_of read.holds) (and_then-left (session_checked 2 K) owned all)
+
+      pub open_given : Given circuit K keys rows
+      open_given =
+          record {
+            file = file;
+            held = held_of read.holds;
+            accepted = circuit-accepted file read.holds;
+            long = range.long;
+            short = range.short;
+            keys_size = lent_is _ _ sizes_passed 0;
+            rows_size = lent_is _ _ sizes_passed 1;
+            keys_below = and_then-left (keys_checked 1 K wires keys) (counted_rows_checked 1 K wires (pair_rows_of wires) rows) bytes_passed;
+            rows_below = and_then-right (keys_checked 1 K wires keys) (counted_rows_checked 1 K wires (pair_rows_of wires) rows) bytes_passed;
+          }
+
+      pub open_room : (length wkeys ≡ circuit.made * K) × (length wexternals ≡ circuit.made)
+      open_room = (lent_is _ _ sizes_passed 2 ∙ ap (λ (a : ℕ). a * K) (made-is (held_of read.holds)), lent_is _ _ sizes_passed 3 ∙ made-is (held_of read.holds))
+
+      pub open_written : {round : ℕ} {wkeys' wexternals' : List ℕ}
+          → (wkeys' ≡ pair_wire_keys (shake_pad round) K (wires_in circuit) keys rows)
+          × (wexternals' ≡ pair_wire_externals (shake_pad round) K (wires_in circuit) keys rows) → Ends round accepts wkeys' wexternals'
+      unfolding pair_open_keys pair_open_externals
+      open_written {round} w =
+          let a : fate ≡ accepts = sym met ∙ e in
+          record {
+            answer = reports (sym a);
+            wire_keys_is = w.0 ∙ ap (λ (v : List Wire). pair_wire_keys (shake_pad round) K v keys rows) read.holds.wires ∙ sym (afterwards_passed a _ wkeys);
+            wire_externals_is =
+                w.1 ∙ ap (λ (v : List Wire). pair_wire_externals (shake_pad round) K v keys rows) read.holds.wires ∙ sym (afterwards_passed a _ wexternals);
+          }

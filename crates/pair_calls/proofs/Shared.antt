@@ -5,46 +5,48 @@ use mathlib.Core.List.{List}
 use Prim.Native.Nat.{ℕ, ◌*◌, ◌≤◌}
 use native.Mathlib.Nat.{mul-le-mul}
 use native.Mathlib.Omega.{arith}
-use Rattle.checks.specs.declared.Answer.{Answer}
-use Rattle.checks.specs.declared.Answer.TheVariants.{Accepted, Refused}
 use Rattle.checks.specs.declared.Refusal.{Refusal}
 use Rattle.checks.specs.Checked.{and_then}
 use Rattle.checks.proofs.Passed.{and_then-left}
 use Rattle.words.specs.declared.gate.Wire.{Wire}
 use Rattle.circuit.specs.declared.Circuit.{Circuit}
-use Rattle.circuit.specs.declared.Reading.{Reading}
 use Rattle.circuit.specs.File.{read_file}
 use Rattle.circuit.specs.Accepted.{AcceptedCircuit}
 use Rattle.circuit.specs.Held.{wires_in, outputs_in, Held, Holds}
 use Rattle.circuit.proofs.Accepted.{accepted}
 use Rattle.session.specs.Session.{file_checked, session_checked}
 use Rattle.session.proofs.Sessions.{session-fits}
-use Rattle.party_calls.proofs.Ending.{stage_next, stage_refused}
+use Rattle.party_calls.proofs.Ending.{behind_file}
+use Rattle.checks.proofs.Answers.{and_then_stop, and_then-next}
+use Rattle.pair_calls.specs.Counted.{ReadsForTwo}
 use Rattle.pair.specs.Bytes.{selects_checked, pair_file_checked}
 use Rattle.pair_calls.specs.Lent.{Ranged}
+use Rattle.std.specs.Prelude.{Result, Err, IfErr}
+use Rattle.checks.specs.declared.Refused.{Refused}
+use Rattle.checks.specs.Answer.{Answer, accepts}
 
 pub small_product : {a b m n : ℕ} → a ≤ m → b ≤ n → a * b ≤ m * n
 small_product h k = mul-le-mul h k
 
+-- what is said of a refusal, of the value that holds it
+pub refusal_as : {A : Type 0} (P : Refused → Type 0) {r : Result A Refused} {why : Refused} → r ≡ Err why → P why → IfErr r P
+refusal_as P e p = rw e p
+
 -- ---- 1 to 10, and 26
 
-pub circuit-accepted : {reading : Reading} (file : List ℕ) → Holds reading (read_file file) → {filed : Answer} → filed ≡ pair_file_checked file → filed ≡ Accepted
-    → AcceptedCircuit file (wires_in reading.circuit) (outputs_in reading.circuit)
-circuit-accepted {reading} file h f e =
-    subst (λ (w : List Wire). AcceptedCircuit file w (outputs_in reading.circuit)) (sym h.wires)
-    (subst (λ (o : List ℕ). AcceptedCircuit file (read_file file).wires o) (sym h.outputs)
-    (accepted file (and_then-left (file_checked file) (selects_checked file) (sym f ∙ e))))
+module _ (file : List ℕ) where
+  pub two_unread : {why : Refused} → (read_file file).answer ≡ Err why → pair_file_checked file ≡ Err why
+  two_unread e = sym (and_then_stop (selects_checked file) e)
+
+  pub two_selected : {circuit : Circuit} → Holds circuit (read_file file) → {answer : Answer} → answer ≡ selects_checked file → answer ≡ pair_file_checked file
+  two_selected h m = behind_file file (selects_checked file) h m
+
+  -- what is checked behind them
+  module _ (rest : Answer) where
+    pub two_behind : {circuit : Circuit} → ReadsForTwo file circuit → {check : Answer} → check ≡ rest → check ≡ and_then (pair_file_checked file) rest
+    two_behind r m = m ∙ sym (and_then-next rest r.accepted)
 
 -- ---- 11
 
-pub ranged : {circuit : Circuit} (K : ℕ) → Held circuit → session_checked 2 K ≡ Accepted → {long : ℕ} → long ≡ K → Ranged circuit long
-ranged K held e k =
-    let f = session-fits 2 K e in record { held = held; long = omega (arith, f.least, k); short = omega (arith, f.most, k) }
-
--- `rest` is what is checked after it, by the key length
-module _ (K : ℕ) {long : ℕ} {session : Answer} (m : session ≡ session_checked 2 K) (k : long ≡ K) (rest : ℕ → Answer) where
-  pub asked_next : session ≡ Accepted → {r : Answer} → r ≡ rest long → r ≡ and_then (session_checked 2 K) (rest K)
-  asked_next e a = stage_next m e (a ∙ ap rest k)
-
-  pub asked_stop : {reason : Refusal} {place : ℕ} → session ≡ Refused reason place → Refused reason place ≡ and_then (session_checked 2 K) (rest K)
-  asked_stop e = stage_refused m (rest K) e
+pub ranged : {circuit : Circuit} (K : ℕ) → Held circuit → session_checked 2 K ≡ accepts → Ranged circuit K
+ranged K held e = let f = session-fits 2 K e in record { held = held; long = f.least; short = f.most }

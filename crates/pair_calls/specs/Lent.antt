@@ -2,7 +2,6 @@
 -- the definitions name.
 -- Assumes nothing.
 use Rattle.std.specs.Prelude.{◌≡◌, List, ℕ, ◌*◌, ◌≤◌, ◌<◌, length}
-use Rattle.checks.specs.declared.Answer.{Answer}
 use Rattle.checks.specs.Checked.{and_then}
 use Rattle.meter.specs.Meter.{account_checked}
 use Rattle.words.specs.declared.gate.Wire.{Wire}
@@ -16,6 +15,7 @@ use Rattle.pair.specs.Bytes.{drawn_checked}
 use Rattle.pair.specs.InputKeys.{pair_keys_lent}
 use Rattle.pair.specs.Garble.{pair_garble_lent}
 use Rattle.pair.specs.Open.{pair_open_lent}
+use Rattle.checks.specs.Answer.{Answer}
 
 -- ---- what is lent
 

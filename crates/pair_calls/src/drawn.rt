@@ -4,7 +4,7 @@ ghost use Rattle.circuit.specs.Held.{wires_in};
 ghost use Rattle.pair.specs.Bytes.{drawn_checked};
 ghost use Rattle.pair_calls.specs.Lent.{Drawn};
 
-use checks::{Answer, followed};
+use checks::Answer;
 use circuit::Circuit;
 use pair_checks::{draw_checked, units_checked};
 
@@ -12,7 +12,6 @@ pub fn drawn_checked(circuit: Circuit, k: usize, draw: &[u8]) -> Answer
     requires { Drawn circuit k draw.now }
     ensures { result ≡ drawn_checked k (wires_in circuit) draw.now }
 {
-    let bytes = draw_checked(circuit, k, draw);
-    let units = units_checked(circuit, k, draw);
-    followed(bytes, units)
+    draw_checked(circuit, k, draw)?;
+    units_checked(circuit, k, draw)
 }

@@ -3,30 +3,28 @@ ghost use Rattle.std.specs.Prelude.{◌≡◌, ◌+◌, ◌≤◌, ◌<◌, leng
 ghost use Rattle.lists.specs.Blocks.{part};
 ghost use Rattle.residue.specs.Vector.{key_v};
 ghost use Rattle.checks.specs.Answer.{number_in, place_in};
-ghost use Rattle.circuit.specs.File.{read_file};
-ghost use Rattle.circuit.specs.Held.{wires_in, Held, Holds};
+ghost use Rattle.circuit.specs.Held.{wires_in, Held};
 ghost use Rattle.pair.specs.InputKeys.{pair_keys_bytes, pair_keys_lent, pair_keys_asked, pair_keys_made, PairInputKeysCall};
 ghost use Rattle.pair_calls.specs.Lent.{Ranged, KeysLent, KeysFit, keys_owned};
 
 use super::drawn::drawn_checked;
-use super::reading::file_checked;
-use checks::{Answer, followed};
-use circuit::{Circuit, Reading, read};
+use super::reading::read_for_two;
+use checks::Answer;
+use circuit::Circuit;
 use contribution::{offset_place, ranks};
 use counts::moduli_used;
-use lists::{number_index, piece};
+use lists::piece;
 use pair_checks::draw_size;
 use residue::key_of;
-use session::{length_checked, owners_checked, session_checked, values_checked};
+use session::{lengths_checked, owners_checked, session_checked, values_checked};
 
 // The bytes, where their number is right: the values, then the draw.
 fn contents_checked(circuit: Circuit, k: usize, draw: &[u8], values: &[u8]) -> Answer
     requires { KeysLent circuit k draw.now values.now }
     ensures { result ≡ pair_keys_bytes k (wires_in circuit) draw.now values.now }
 {
-    let entered = values_checked(circuit, values);
-    let drawn = drawn_checked(circuit, k, draw);
-    followed(entered, drawn)
+    values_checked(circuit, values)?;
+    drawn_checked(circuit, k, draw)
 }
 
 // The lengths of what is lent, and where they are right the bytes.
@@ -40,17 +38,12 @@ fn key_lengths_checked(
     requires { Ranged circuit k }
     ensures { result ≡ pair_keys_lent k (wires_in circuit) draw.now values.now bytes }
 {
-    let size = draw_size(circuit, k);
     let inputs = circuit.inputs;
-    let all = inputs * k;
-    let drawn = length_checked(draw.len(), size);
-    let entered = length_checked(values.len(), inputs);
-    let keys = length_checked(bytes, all);
-    let lengths = followed(drawn, followed(entered, keys));
-    match lengths {
-        Answer::Accepted => contents_checked(circuit, k, draw, values),
-        Answer::Refused(reason, place) => Answer::Refused(reason, place),
-    }
+    lengths_checked(
+        &[draw.len(), values.len(), bytes],
+        &[draw_size(circuit, k), inputs, inputs * k],
+    )?;
+    contents_checked(circuit, k, draw, values)
 }
 
 // The owners, and then what is lent.
@@ -58,9 +51,8 @@ fn keys_owned(circuit: Circuit, k: usize, draw: &[u8], values: &[u8], bytes: usi
     requires { Ranged circuit k }
     ensures { result ≡ keys_owned k (wires_in circuit) draw.now values.now bytes }
 {
-    let owners = owners_checked(circuit, 2);
-    let lent = key_lengths_checked(circuit, k, draw, values, bytes);
-    followed(owners, lent)
+    owners_checked(circuit, 2)?;
+    key_lengths_checked(circuit, k, draw, values, bytes)
 }
 
 // The session, of two parties, and where the key length is in range the rest.
@@ -68,12 +60,8 @@ fn keys_asked(circuit: Circuit, k: u32, draw: &[u8], values: &[u8], bytes: usize
     requires { Held circuit }
     ensures { result ≡ pair_keys_asked k (wires_in circuit) draw.now values.now bytes }
 {
-    let session = session_checked(2, k);
-    let long = number_index(k);
-    match session {
-        Answer::Accepted => keys_owned(circuit, long, draw, values, bytes),
-        Answer::Refused(reason, place) => Answer::Refused(reason, place),
-    }
+    session_checked(2, k)?;
+    keys_owned(circuit, k as usize, draw, values, bytes)
 }
 
 // One key: the zero key stands in the draw from one place on, the offset from another.
@@ -93,47 +81,15 @@ fn put_keys(circuit: Circuit, k: usize, draw: &[u8], values: &[u8], keys: &mut [
     ensures { keys.new ≡ pair_keys_made k (wires_in circuit) draw.now values.now }
 {
     let places = ranks(circuit);
-    let used = number_index(moduli_used(circuit));
-    let inputs = circuit.inputs;
+    let used = moduli_used(circuit) as usize;
     let mut at = 0;
-    let mut w = 0;
-    while w < inputs {
-        let wire = circuit.wires[w];
-        let p = wire.modulus;
+    for w in 0..circuit.inputs {
+        let p = circuit.wires[w].modulus;
         let offset = offset_place(&places, p, k);
         let zero = k * (used + w);
         let to = at + k;
         put_key(p, values[w], draw, zero, offset, k, &mut keys[at..to]);
         at = to;
-        w += 1;
-    }
-}
-
-// The call, once the file is read.
-fn keys_read(
-    reading: Reading,
-    file: &[u8],
-    k: u32,
-    draw: &[u8],
-    values: &[u8],
-    keys: &mut [u8],
-) -> Answer
-    requires { Holds reading (read_file file.now) }
-    ensures { PairInputKeysCall file.now k draw.now values.now keys.old
-        (number_in result) (place_in result) keys.new }
-{
-    let read = file_checked(reading, file);
-    let circuit = reading.circuit;
-    let bytes = keys.len();
-    let long = number_index(k);
-    let asked = keys_asked(circuit, k, draw, values, bytes);
-    let answer = followed(read, asked);
-    match answer {
-        Answer::Accepted => {
-            put_keys(circuit, long, draw, values, keys);
-            Answer::Accepted
-        }
-        Answer::Refused(reason, place) => Answer::Refused(reason, place),
     }
 }
 
@@ -142,6 +98,8 @@ pub fn pair_input_keys(file: &[u8], k: u32, draw: &[u8], values: &[u8], keys: &m
     ensures { PairInputKeysCall file.now k draw.now values.now keys.old
         (number_in result) (place_in result) keys.new }
 {
-    let reading = read(file);
-    keys_read(reading, file, k, draw, values, keys)
+    let circuit = read_for_two(file)?;
+    keys_asked(circuit, k, draw, values, keys.len())?;
+    put_keys(circuit, k as usize, draw, values, keys);
+    Ok(())
 }

@@ -17,4 +17,4 @@ pub use decoded::pair_decode;
 pub use garbled::pair_garble;
 pub use keys::pair_input_keys;
 pub use opened::pair_open;
-pub use reading::{PairRead, pair_read};
+pub use reading::pair_read;

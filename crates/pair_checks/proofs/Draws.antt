@@ -24,18 +24,18 @@ use Rattle.pair.specs.Draw.{draw_size, draw_moduli}
 
 -- ---- the size
 
-module _ (K : ℕ) (wires : List Wire) {moduli inputs m : ℕ} (h : K ≤ 128) (a : Counts 256 (moduli_used wires) m) (e : moduli ≡ m) (f : inputs ≡ inputs_in wires)
+module _ (K : ℕ) (wires : List Wire) {moduli inputs : ℕ} (h : K ≤ 128) (a : Counts 256 (moduli_used wires) moduli) (f : inputs ≡ inputs_in wires)
     (l : inputs ≤ 1024) where
   pub draw-most : K * (moduli + inputs) ≤ 163840
   draw-most = times-most K (moduli + inputs) 128 1280 h (omega arith)
 
   pub draw-counts : Counts 163840 (draw_size K wires) (K * (moduli + inputs))
   unfolding draw_size
-  draw-counts = record { is = ap₂ (λ (x y : ℕ). K * (x + y)) (e ∙ a.is) f; most = draw-most }
+  draw-counts = record { is = ap₂ (λ (x y : ℕ). K * (x + y)) a.is f; most = draw-most }
 
 -- ---- the search: the offsets end where the zero keys start
 
-module _ (K : ℕ) (wires : List Wire) (xs : List ℕ) (e : length xs ≡ draw_size K wires) {moduli m : ℕ} (a : Counts 256 (moduli_used wires) m) (f : moduli ≡ m) where
+module _ (K : ℕ) (wires : List Wire) (xs : List ℕ) (e : length xs ≡ draw_size K wires) {moduli : ℕ} (a : Counts 256 (moduli_used wires) moduli) where
   abbrev of_offsets : List ℕ
   of_offsets = runs 256 (λ p. K * mark (used wires p)) (λ p. p)
 
@@ -47,7 +47,7 @@ module _ (K : ℕ) (wires : List Wire) (xs : List ℕ) (e : length xs ≡ draw_s
   behind_offsets = take (length xs - K * moduli) (drop (K * moduli) xs)
 
   split_is : K * moduli ≡ K * moduli_used wires
-  split_is = ap (λ (x : ℕ). K * x) (f ∙ a.is)
+  split_is = ap (λ (x : ℕ). K * x) a.is
 
   offsets_long : length of_offsets ≡ K * moduli
   offsets_long =

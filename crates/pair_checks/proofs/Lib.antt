@@ -3,3 +3,4 @@ pub mod Counting
 pub mod Draws
 pub mod Marks
 pub mod Named
+pub mod Placed

@@ -10,15 +10,13 @@ use checks::{Answer, Refusal, named};
 use circuit::Circuit;
 use contribution::{first_in_keys, first_in_offsets};
 use counts::moduli_used;
-use lists::number_index;
 
 // K bytes for each modulus in use, and for each input.
 pub fn draw_size(circuit: Circuit, k: usize) -> usize
     requires { Held circuit × (k ≤ 128) }
     ensures { Counts 163840 (draw_size k (wires_in circuit)) result }
 {
-    let moduli = number_index(moduli_used(circuit));
-    k * (moduli + circuit.inputs)
+    k * (moduli_used(circuit) as usize + circuit.inputs)
 }
 
 // The lowest index of a byte that is too large; the number of bytes where there is none.
@@ -27,7 +25,7 @@ fn first_in_draw(circuit: Circuit, k: usize, draw: &[u8]) -> usize
     requires draw_len { length draw.now ≡ draw_size k (wires_in circuit) }
     ensures { result ≡ first_large draw.now (λ i. get_or (draw_moduli k (wires_in circuit)) i 0) }
 {
-    let split = k * number_index(moduli_used(circuit));
+    let split = k * moduli_used(circuit) as usize;
     let found = first_in_offsets(circuit, k, &draw[..split]);
     if found < split {
         return found;

@@ -1,14 +1,13 @@
 -- The tables of factors are those of the halves: each law is an identity modulo p. And the two halves of a product, one behind the other.
 -- Assumes nothing.
-use mathlib.Core.Path.{◌≡◌, refl, sym, ap, ap₂, ◌∙◌}
+use mathlib.Core.Path.{◌≡◌, sym, ap, ap₂, ◌∙◌}
 use mathlib.Core.List.{List, ◌++◌}
 use Prim.Native.Nat.{ℕ, suc, ◌+◌, ◌-◌, ◌*◌, ◌/◌, ◌≤◌, ◌<◌}
 use native.Mathlib.Nat.{le_refl}
 use native.Mathlib.Omega.{arith}
 use lib.ListN.{length, get_or, take, drop, replicate}
-use lib.Seq.{length-take-le, length_front}
+use lib.Seq.{length-take-le}
 use Rattle.lists.proofs.Blocks.{blocks_ext}
-use Rattle.lists.proofs.Parts.{length_range}
 use Rattle.lists.proofs.Written.{lent}
 use Rattle.lists.proofs.Wrote.{Wrote, wrote_front, wrote_rest, wrote_whole}
 use Rattle.residue.specs.Residue.{add, sub, mul}
@@ -24,7 +23,7 @@ use Rattle.contribution.proofs.Once.{add_once}
 use Rattle.rows.specs.Made.{Factors}
 use Rattle.pair.specs.Key.{Keys, external_of, value_for, key_for}
 use Rattle.pair.specs.Half.{half_row, half_key, half_rows}
-use Rattle.pair_garbling.specs.declared.halves.HalfAt.{HalfAt}
+use Rattle.pair_checks.specs.declared.half.HalfAt.{HalfAt}
 use Rattle.pair_garbling.specs.declared.turn.Turn.{Turn}
 use Rattle.pair_garbling.specs.Halves.{Fits, Vectors, row_under, first_of, second_of, half_of, key_made, rows_made, key_by, rows_by, keys_under}
 use Rattle.pair_garbling.specs.Source.{Ranged, Three, half_in, product_key, product_rows}
@@ -122,21 +121,9 @@ module _ {turn : Turn} (r : Ranged turn) where
     front_long = length-take-le middle out front_fits ∙ middle_is
 
     module _ (ys : List ℕ) (k : length ys ≡ length (take middle out)) where
-      pub rest-fits : middle ≤ length (ys ++ drop middle out)
-      rest-fits = omega (arith, length_front out ys middle k, front_fits)
-
-      pub rest-long : length (take (length (ys ++ drop middle out) - middle) (drop middle (ys ++ drop middle out))) ≡ (turn.modulus - 1) * turn.k
-      rest-long =
-          length_range (ys ++ drop middle out) middle (length (ys ++ drop middle out)) rest-fits (le_refl (length (ys ++ drop middle out)))
-          ∙ omega (arith, length_front out ys middle k, whole, middle_is)
-
       wrote_both : {zs xs ws : List ℕ} → length zs ≡ length (take (length (ys ++ drop middle out) - middle) (drop middle (ys ++ drop middle out))) → ys ≡ xs → zs ≡ ws
           → Wrote out 0 (xs ++ ws) (length out) (lent middle (length (ys ++ drop middle out)) (ys ++ drop middle out) zs)
       wrote_both l y z = wrote_rest (wrote_front out middle front_fits k y) l z
-
-      pub both_long : (zs : List ℕ) → length zs ≡ length (take (length (ys ++ drop middle out) - middle) (drop middle (ys ++ drop middle out)))
-          → length (lent middle (length (ys ++ drop middle out)) (ys ++ drop middle out) zs) ≡ length out
-      both_long zs l = (wrote_both {zs = zs} {xs = ys} {ws = zs} l refl refl).kept
 
       pub both_rows : {zs xs ws : List ℕ} → length zs ≡ length (take (length (ys ++ drop middle out) - middle) (drop middle (ys ++ drop middle out))) → ys ≡ xs → zs ≡ ws
           → lent middle (length (ys ++ drop middle out)) (ys ++ drop middle out) zs ≡ xs ++ ws
@@ -147,13 +134,13 @@ module _ (turn : Turn) (a b D : List ℕ) where
   abbrev r : ℕ
   r = turn.modulus
 
-  pub product_key_is : {first key : List ℕ} → first ≡ key_by (half_in turn r 0) (first_of (half_in turn r 0) (get_or b 0 0) a D)
+  pub product_key_is : {first key : List ℕ} → first ≡ key_by (half_in turn r 0) (first_of (half_in turn r 0) (get_or b 0 0) a D D)
       → key ≡ add_v r first (key_by (half_in turn r 1) (second_of (half_in turn r 1) b D a)) → key ≡ product_key turn a b D
   unfolding product_key external_of
   product_key_is e t = t ∙ ap (λ (x : List ℕ). add_v r x (key_by (half_in turn r 1) (second_of (half_in turn r 1) b D a))) e
 
   pub product_rows_is : {out : List ℕ}
-      → out ≡ rows_by (half_in turn r 0) (first_of (half_in turn r 0) (get_or b 0 0) a D) ++ rows_by (half_in turn r 1) (second_of (half_in turn r 1) b D a)
+      → out ≡ rows_by (half_in turn r 0) (first_of (half_in turn r 0) (get_or b 0 0) a D D) ++ rows_by (half_in turn r 1) (second_of (half_in turn r 1) b D a)
       → out ≡ product_rows turn a b D
   unfolding product_rows external_of
   product_rows_is e = e

@@ -4,11 +4,11 @@ use mathlib.Core.Path.{◌≡◌, sym, ap, subst, ◌∙◌}
 use mathlib.Core.List.{List}
 use Prim.Native.Nat.{ℕ, ◌+◌, ◌*◌, ◌≤◌}
 use lib.ListN.{length, get_or}
-use Rattle.lists.specs.Blocks.{part, nth_piece, written}
+use Rattle.lists.specs.Blocks.{part, nth_piece}
 use Rattle.words.specs.declared.gate.Projection.{Projection}
 use Rattle.pair_garbling.specs.declared.turn.Turn.{Turn}
 use Rattle.pair_garbling.specs.Halves.{table_of, key_by, rows_by}
-use Rattle.pair_garbling.specs.Source.{Stands, Put, half_in, zero_here, offset_here, table_here, product_key, product_rows}
+use Rattle.pair_garbling.specs.Source.{Stands, half_in, zero_here, offset_here, table_here, product_key, product_rows}
 
 pub stands_at : {K i a : ℕ} {keys : List ℕ} → Stands K keys a → i ≡ a → i * K + K ≤ length keys
 stands_at {K} {i} {a} {keys} s e = subst (λ (j : ℕ). j * K + K ≤ length keys) (sym e) s.inside
@@ -46,6 +46,3 @@ product_looked turn {a} {a'} {b} {b'} {D} {D'} {key} {out} ea eb ed m =
     subst (λ (x : List ℕ). (key ≡ product_key turn a' b' x) × (out ≡ product_rows turn a' b' x)) ed
     (subst (λ (x : List ℕ). (key ≡ product_key turn a' x D) × (out ≡ product_rows turn a' x D)) eb
     (subst (λ (x : List ℕ). (key ≡ product_key turn x b D) × (out ≡ product_rows turn x b D)) ea m))
-
-pub put_is : {K place : ℕ} {ys key keys keys' : List ℕ} → length ys ≡ K → ys ≡ key → keys' ≡ written keys place ys → Put K place key keys keys'
-put_is {K} {place} {ys} {key} {keys} {keys'} l e w = record { long = ap length (sym e) ∙ l; eq = w ∙ ap (written keys place) e }

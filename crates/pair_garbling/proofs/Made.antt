@@ -2,11 +2,12 @@
 -- Assumes nothing.
 use mathlib.Core.Path.{◌≡◌, refl, sym, ap, ap₂, subst, ◌∙◌}
 use mathlib.Core.List.{List}
-use Prim.Native.Nat.{ℕ, suc, ◌+◌, ◌-◌, ◌≤◌, ◌<◌}
+use Prim.Native.Nat.{ℕ, suc, ◌+◌, ◌-◌, ◌<◌}
 use native.Mathlib.Nat.{one-mul}
 use native.Mathlib.Omega.{arith}
-use lib.ListN.{length, get_or, take, drop, replicate, length-replicate}
-use lib.Seq.{length-take-le}
+use native.Mathlib.Numerals.{one-add}
+use lib.ListN.{length, get_or, take, drop, replicate, length-replicate, length-take}
+use lib.Seq.{get_or-take, get_or-drop}
 use Rattle.lists.proofs.Blocks.{blocks_ext}
 use Rattle.lists.proofs.Steps.{Level, steps_long}
 use Rattle.residue.specs.Residue.{sub, mul}
@@ -26,7 +27,7 @@ use Rattle.pair.specs.Key.{Keys, external_of, value_for, key_for}
 use Rattle.pair.specs.Half.{half_row, half_key, half_rows}
 use Rattle.pair.proofs.External.{KeySizes, key_for_from_zero}
 use Rattle.pair.proofs.Halves.{zeros_at}
-use Rattle.pair_garbling.specs.declared.halves.HalfAt.{HalfAt}
+use Rattle.pair_checks.specs.declared.half.HalfAt.{HalfAt}
 use Rattle.pair_garbling.specs.Halves.{Fits, Vectors, row_under, key_under, rows_under, key_made, rows_made}
 
 -- p − 1 times a number or a vector takes it off 0
@@ -38,22 +39,11 @@ minus_vector p K h xs e =
     ap (λ (x : ℕ). mul_v p x xs) (sym (minus_one p h))
     ∙ vring h K ((var 0 ⊖ var 1) ⊡ vec xs) (vec (replicate K 0) ⊟ vec xs) e (length-replicate K 0, e) tt tt (λ i. omega (arith, zeros_at K i))
 
--- the front of room for a key
-pub room_cut : {K : ℕ} (room : List ℕ) → K ≤ 128 → length room ≡ 128 → length (take K room) ≡ K
-room_cut {K} room h e = length-take-le K room (omega arith)
-
--- other work memory
-pub vectors_in : {K : ℕ} {k D v x y : List ℕ} → Vectors K k D v x → length y ≡ K → Vectors K k D v y
-vectors_in v e = record { zero = v.zero; offset = v.offset; vector = v.vector; work = e }
-
 -- ---- row 0, and what takes it off
 
 module _ {at : HalfAt} (f : Fits at) where
   pub above : 0 < at.modulus
   above = omega (arith, f.modulus)
-
-  pub zero_aligned : {xs ys : List ℕ} → length xs ≡ at.k → length ys ≡ at.k → Aligned at.modulus xs ys
-  zero_aligned e t = record { positive = above; size = e ∙ sym t }
 
   -- row 0 without a zero key, before its pad
   abbrev message : ℕ → List ℕ → List ℕ
@@ -126,13 +116,18 @@ module _ {at : HalfAt} (f : Fits at) {key offset vector work₀ : List ℕ} (v :
     (record { size = e ∙ s.size ∙ sym (one-mul at.k) }, (record { size = v.zero ∙ sym (one-mul at.k) }, record { size = v.vector ∙ sym (one-mul at.k) })),
   )
 
+-- a row for each factor behind the first
+pub factor_turn : (factors : List ℕ) {i r under : ℕ} → r ≡ under → i < length (take (r - 1) (drop 1 factors)) → i < under - 1
+factor_turn factors {i} {r} {under} e h = omega (arith, length-take (r - 1) (drop 1 factors))
+
 -- the row under the key that was made
-pub row_under_lem : (at : HalfAt) (base factors vector : List ℕ) (i : ℕ) {work key ys : List ℕ}
-    → ys ≡ row_under at work (key_v at.modulus base (get_or factors (i + 1) 0) vector) → work ≡ key
+pub row_under_lem : (at : HalfAt) (base factors vector : List ℕ) (i n : ℕ) {work key ys : List ℕ} → i < n
+    → ys ≡ row_under at work (key_v at.modulus base (get_or (take n (drop 1 factors)) i 0) vector) → work ≡ key
     → ys ≡ row_under at key (key_v at.modulus base (get_or factors (suc i) 0) vector)
-row_under_lem at base factors vector i e t =
-    let one : i + 1 ≡ suc i = omega arith in
-    e ∙ ap₂ (λ (x : List ℕ) (j : ℕ). row_under at x (key_v at.modulus base (get_or factors j 0) vector)) t one
+row_under_lem at base factors vector i n h e t =
+    let factor : get_or (take n (drop 1 factors)) i 0 ≡ get_or factors (suc i) 0 =
+    get_or-take n (drop 1 factors) i 0 h ∙ get_or-drop 1 factors i 0 ∙ ap (λ (j : ℕ). get_or factors j 0) (one-add i) in
+    e ∙ ap₂ (λ (x : List ℕ) (c : ℕ). row_under at x (key_v at.modulus base c vector)) t factor
 
 -- ---- the whole half
 

@@ -1,17 +1,16 @@
 -- The masks of the outputs: component 0 of their wires' zero keys, output by output.
 -- Assumes nothing.
-use mathlib.Core.Path.{◌≡◌, refl, sym, ap, subst, ◌∙◌}
-use mathlib.Core.List.{List, ◌++◌}
+use mathlib.Core.Path.{◌≡◌, sym, ap, ◌∙◌}
+use mathlib.Core.List.{List}
 use Prim.Native.Nat.{ℕ, ◌+◌, ◌*◌, ◌≤◌, ◌<◌}
 use native.Mathlib.Nat.{add-zero}
 use native.Mathlib.Omega.{arith}
-use lib.ListN.{length, get_or, take, drop, set}
+use lib.ListN.{length, get_or, take, set}
 use lib.Seq.{get_or-take, length-take-le}
 use Rattle.lists.specs.Blocks.{tab, nth_piece}
 use Rattle.lists.proofs.Parts.{get_d_part}
 use Rattle.lists.proofs.Sums.{times-fits}
 use Rattle.lists.proofs.Blocks.{length-tab, get_or-tab, tab_ext, length_blocks_same, part_blocks_same}
-use Rattle.lists.proofs.Wrote.{Wrote, wrote_front, wrote_take}
 use Rattle.lists.proofs.Filled.{Filled, filled_start, filled_step, filled_whole}
 use Rattle.circuit.specs.declared.Circuit.{Circuit}
 use Rattle.circuit.specs.Held.{wires_in, outputs_in}
@@ -90,21 +89,8 @@ module _ {file : List ℕ} {circuit : Circuit} {K : ℕ} {draw : List ℕ} (r : 
 -- ---- the memory that the zero keys stand in
 
 module _ {file : List ℕ} {circuit : Circuit} {K : ℕ} {draw : List ℕ} (r : Drawn file circuit K draw) (round : ℕ) (work : List ℕ) (room : 131072 ≤ length work) where
-  pub work-fits : circuit.made * K ≤ length work
+  work-fits : circuit.made * K ≤ length work
   work-fits = omega (arith, keys_fit r round)
 
   pub work-long : length (take (circuit.made * K) work) ≡ circuit.made * K
   work-long = length-take-le (circuit.made * K) work work-fits
-
-  module _ (ys : List ℕ) (k : length ys ≡ length (take (circuit.made * K) work)) where
-    wrote : Wrote work 0 ys (circuit.made * K) (ys ++ drop (circuit.made * K) work)
-    wrote = wrote_front work (circuit.made * K) {ys = ys} {zs = ys} work-fits k refl
-
-    pub back_fits : circuit.made * K ≤ length (ys ++ drop (circuit.made * K) work)
-    back_fits = omega (arith, wrote.kept, wrote.room)
-
-    pub back_long : length (take (circuit.made * K) (ys ++ drop (circuit.made * K) work)) ≡ circuit.made * K
-    back_long = length-take-le (circuit.made * K) (ys ++ drop (circuit.made * K) work) back_fits
-
-    pub back_keys : ZeroKeys file circuit K round draw ys → ZeroKeys file circuit K round draw (take (circuit.made * K) (ys ++ drop (circuit.made * K) work))
-    back_keys z = subst (λ (l : List ℕ). ZeroKeys file circuit K round draw l) (sym (wrote_take wrote)) z

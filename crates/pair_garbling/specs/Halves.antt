@@ -10,7 +10,7 @@ use Rattle.pads.specs.Pad.{shake_pad}
 use Rattle.scheme.specs.Gate.{row}
 use Rattle.pair.specs.Key.{Keys, value_for}
 use Rattle.pair.specs.Half.{Half, half_key, half_rows}
-use Rattle.pair_garbling.specs.declared.halves.HalfAt.{HalfAt}
+use Rattle.pair_checks.specs.declared.half.HalfAt.{HalfAt}
 
 -- key length in range, and moduli above 1
 pub record Fits (at : HalfAt) : Type 0 where
@@ -75,8 +75,8 @@ table_of at file table zero offset vector =
     half_of at (λ e. image_of file (File table) at.modulus (value_for (keys_under at zero offset) e)) zero offset vector
 
 -- a product's first, where the other wire has this mask, and its second
-abbrev pub first_of : HalfAt → ℕ → List ℕ → List ℕ → Half
-first_of at mask zero offset = half_of at (λ e. sub at.modulus 0 (mul at.modulus mask (value_for (keys_under at zero offset) e))) zero offset offset
+abbrev pub first_of : HalfAt → ℕ → List ℕ → List ℕ → List ℕ → Half
+first_of at mask zero offset vector = half_of at (λ e. sub at.modulus 0 (mul at.modulus mask (value_for (keys_under at zero offset) e))) zero offset vector
 
 abbrev pub second_of : HalfAt → List ℕ → List ℕ → List ℕ → Half
 second_of at zero offset vector = half_of at (λ e. sub at.modulus 0 e) zero offset vector

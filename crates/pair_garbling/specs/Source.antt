@@ -18,7 +18,7 @@ use Rattle.pair.specs.Key.{external_of}
 use Rattle.pair.specs.Half.{Half}
 use Rattle.pair.specs.Gate.{zero_by, rows_by}
 use Rattle.pair.specs.Count.{pair_rows_by}
-use Rattle.pair_garbling.specs.declared.halves.HalfAt.{HalfAt}
+use Rattle.pair_checks.specs.declared.half.HalfAt.{HalfAt}
 use Rattle.pair_garbling.specs.declared.turn.Turn.{Turn}
 use Rattle.pair_garbling.specs.Halves.{table_of, first_of, second_of, key_by}
 use Rattle.pair_garbling.specs.Halves.{rows_by as half_rows_by}
@@ -51,12 +51,12 @@ rows_here turn file draw ranks moduli keys gate =
 -- a product, of the zero keys of its wires and their offset
 unfoldable pub product_key : Turn → List ℕ → List ℕ → List ℕ → List ℕ
 product_key turn a b offset =
-    add_v turn.modulus (key_by (half_in turn turn.modulus 0) (first_of (half_in turn turn.modulus 0) (external_of b) a offset))
+    add_v turn.modulus (key_by (half_in turn turn.modulus 0) (first_of (half_in turn turn.modulus 0) (external_of b) a offset offset))
     (key_by (half_in turn turn.modulus 1) (second_of (half_in turn turn.modulus 1) b offset a))
 
 unfoldable pub product_rows : Turn → List ℕ → List ℕ → List ℕ → List ℕ
 product_rows turn a b offset =
-    half_rows_by (half_in turn turn.modulus 0) (first_of (half_in turn turn.modulus 0) (external_of b) a offset)
+    half_rows_by (half_in turn turn.modulus 0) (first_of (half_in turn turn.modulus 0) (external_of b) a offset offset)
     ++ half_rows_by (half_in turn turn.modulus 1) (second_of (half_in turn turn.modulus 1) b offset a)
 
 -- a projection's half, under keys of modulus q

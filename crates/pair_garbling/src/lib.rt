@@ -7,6 +7,7 @@
 mod gates;
 mod halves;
 mod pass;
+mod source;
 mod turn;
 mod wires;
 

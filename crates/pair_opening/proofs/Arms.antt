@@ -18,7 +18,7 @@ use Rattle.pair.specs.Gate.{open_product, open_by}
 use Rattle.contribution.proofs.Once.{key_once}
 use Rattle.pair_opening.specs.declared.turn.Turn.{Turn}
 use Rattle.pair_opening.specs.Ready.{KeyHeld, KeyOpened, KeyReady, PairHeld, ProductReady, TableReady, Ready}
-use Rattle.pair_opening.specs.Step.{over_by, key_in, table_at, product_at, open_at}
+use Rattle.pair_opening.specs.Step.{key_in, table_at, product_at, open_at}
 
 -- ---- a key cut out of a buffer
 
@@ -37,9 +37,6 @@ key-ready {turn} {q} {keys} o e f l =
 
 pub sum_is : (p : ℕ) {a b a' b' out : List ℕ} → a ≡ a' → b ≡ b' → out ≡ key_v p a 1 b → out ≡ add_v p a' b'
 sum_is p {a} {b} e f o = o ∙ key_once p a b ∙ ap₂ (add_v p) e f
-
-pub multiple_is : (p c : ℕ) {a a' copied out : List ℕ} → a ≡ a' → copied ≡ a → out ≡ mul_v p c copied → out ≡ mul_v p c a'
-multiple_is p c e f o = o ∙ ap (mul_v p c) (f ∙ e)
 
 -- ---- wires that are opened from rows
 
@@ -117,6 +114,3 @@ module _ (turn : Turn) (keys rows wkeys : List ℕ) where
     opens-select e l h = h ∙ ap (λ (n : ℕ). replicate n 0) l ∙ sym (ap made e)
 
 -- ---- the modulus of the wire that a projection is of
-
-pub over-at : {gate : Gate} {g : Projection} (f : ℕ → ℕ) → gate ≡ Project g → over_by gate f ≡ f g.a
-over-at f e = ap (λ (h : Gate). over_by h f) e

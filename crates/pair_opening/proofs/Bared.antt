@@ -16,7 +16,7 @@ use Rattle.pads.specs.Pad.{Pad, pad_row, placed}
 use Rattle.pair.specs.Key.{external_of}
 use Rattle.pair.specs.Half.{row_for, open_half}
 use Rattle.pair.proofs.Halves.{zeros_below}
-use Rattle.pair_opening.specs.declared.half.HalfAt.{HalfAt}
+use Rattle.pair_checks.specs.declared.half.HalfAt.{HalfAt}
 use Rattle.pair_opening.specs.Ready.{RowHeld, HalfReady}
 
 -- a part of a list that is below p

@@ -31,12 +31,6 @@ use Rattle.pair_opening.proofs.Sweep.{reached_start, reached-step, all-keys, all
 
 -- ---- a wire is put into the buffers
 
-pub place-fits : (K : ℕ) {w x long : ℕ} → w ≡ x → x * K + K ≤ long → w * K ≤ long
-place-fits K e h = rw e (omega arith)
-
-pub put_room : {K w x l long : ℕ} → w ≡ x → x * K + K ≤ long → l ≡ K → w * K + l ≤ long
-put_room e h f = rw (e, f) h
-
 pub put_is : (turn : Turn) {key wkeys₀ wexternals₀ wkeys out : List ℕ} {w : ℕ} → w ≡ turn.wire → length out ≡ turn.k → out ≡ key
     → wkeys ≡ written wkeys₀ (w * turn.k) out → Stored turn key wkeys₀ wexternals₀ wkeys (set wexternals₀ w (get_or out 0 0))
 unfolding external_of
@@ -85,9 +79,6 @@ module _ {circuit : Circuit} {K : ℕ} {keys rows : List ℕ} (given : Given cir
 
     wire_same : wire_at wires w ≡ wire
     wire_same = wire-at circuit.wires circuit.made w h
-
-    pub small : w < 1024
-    small = omega (arith, within, given.accepted.wires_limit)
 
     module _ {table : List ℕ} (table_is : table ≡ moduli_of wires ++ replicate (1024 - circuit.made) 0) where
       moduli_are : (a : ℕ) → get_or table a 0 ≡ modulus_at wires a

@@ -11,7 +11,6 @@ use Rattle.lists.proofs.Sums.{sum_to_ext, sum_to_times, sum_to-fits}
 use Rattle.residue.specs.Vector.{AllBelow}
 use Rattle.residue.proofs.Vectors.{add_v-below, sub_v-below, mul_v-below}
 use Rattle.checks.specs.declared.Refusal.TheVariants.{KeyOrRowTooLarge}
-use Rattle.checks.specs.declared.Answer.TheVariants.{Accepted}
 use Rattle.words.specs.declared.gate.Gate.{Gate}
 use Rattle.words.specs.declared.gate.Gate.TheVariants.{Input, Add, Scale, Multiply, Project, Select}
 use Rattle.words.specs.declared.gate.Wire.{Wire}
@@ -30,6 +29,7 @@ use Rattle.pair.proofs.Steps.{open_same, opened_key-step}
 use Rattle.pair_opening.specs.declared.turn.Turn.{Turn}
 use Rattle.pair_opening.specs.Step.{over_by, open_at}
 use Rattle.pair.proofs.Halves.{zeros_below}
+use Rattle.checks.specs.Answer.{accepts}
 
 -- ---- the turn at wire w
 
@@ -73,7 +73,7 @@ module _ {file : List ℕ} {wires : List Wire} {outputs : List ℕ} (accepted : 
 -- ---- checked bytes
 
 module _ (K : ℕ) (wires : List Wire) where
-  pub key_below : (keys : List ℕ) → length keys ≡ inputs_in wires * K → keys_checked 1 K wires keys ≡ Accepted → (w : ℕ) → w < inputs_in wires
+  pub key_below : (keys : List ℕ) → length keys ≡ inputs_in wires * K → keys_checked 1 K wires keys ≡ accepts → (w : ℕ) → w < inputs_in wires
       → AllBelow (modulus_at wires w) (nth_piece keys K w)
   key_below keys size e w h =
       rw (one-mul K) at (keys_below 1 K wires keys (size ∙ ap (λ (x : ℕ). inputs_in wires * x) (sym (one-mul K))) e w h)
@@ -93,7 +93,7 @@ module _ (K : ℕ) (wires : List Wire) where
     pub rows_inside : sum_to w (pair_rows_of wires) * K + pair_rows_of wires w * K ≤ length rows
     rows_inside = omega (arith, sum_to-fits w (length wires) bytes_of h, rows_place w, rows_place (length wires), own_bytes, size)
 
-    pub rows-below : counted_rows_checked 1 K wires (pair_rows_of wires) rows ≡ Accepted → AllBelow (modulus_at wires w) (own_rows K wires rows w)
+    pub rows-below : counted_rows_checked 1 K wires (pair_rows_of wires) rows ≡ accepts → AllBelow (modulus_at wires w) (own_rows K wires rows w)
     unfolding counted_rows_checked own_rows
     rows-below e =
         rw (rows_place w, own_bytes) at

@@ -5,8 +5,7 @@ use mathlib.Core.List.{List}
 use Prim.Native.Nat.{ℕ, ◌-◌, ◌+◌, ◌*◌, ◌≤◌}
 use native.Mathlib.Nat.{mul-le-mul}
 use native.Mathlib.Omega.{arith}
-use lib.ListN.{length, get_or, take}
-use lib.Seq.{length-take-le}
+use lib.ListN.{length, get_or}
 use Rattle.lists.specs.Blocks.{part}
 use Rattle.residue.specs.Vector.{add_v, mul_v, AllBelow}
 use Rattle.contribution.proofs.Once.{add_once}
@@ -14,14 +13,10 @@ use Rattle.pads.specs.Pad.{Pad}
 use Rattle.pair.specs.Key.{external_of}
 use Rattle.pair.specs.Half.{open_half}
 use Rattle.pair.specs.Gate.{open_product}
-use Rattle.pair_opening.specs.declared.half.HalfAt.{HalfAt}
+use Rattle.pair_checks.specs.declared.half.HalfAt.{HalfAt}
 use Rattle.pair_opening.specs.declared.turn.Turn.{Turn}
 use Rattle.pair_opening.specs.Ready.{HalfReady, Seated, Lines, KeyReady}
 use Rattle.pair_opening.proofs.Bared.{part-below}
-
--- a key's room in a local
-pub key_cut : (room : List ℕ) {K : ℕ} → K ≤ 128 → length room ≡ 1024 → length (take K room) ≡ K
-key_cut room {K} h e = length-take-le K room (omega arith)
 
 pub added_half : (p : ℕ) (out₀ : List ℕ) {half work out : List ℕ} → work ≡ half → out ≡ add_v p out₀ (mul_v p 1 work) → out ≡ add_v p out₀ half
 added_half p out₀ {work = work} e f = f ∙ add_once p out₀ work ∙ ap (add_v p out₀) e

@@ -12,7 +12,7 @@ use Rattle.words.specs.declared.gate.Choice.{Choice}
 use Rattle.words.specs.declared.gate.Gate.{Gate}
 use Rattle.words.specs.declared.gate.Gate.TheVariants.{Input, Add, Scale, Multiply, Project, Select}
 use Rattle.pair.specs.Key.{external_of}
-use Rattle.pair_opening.specs.declared.half.HalfAt.{HalfAt}
+use Rattle.pair_checks.specs.declared.half.HalfAt.{HalfAt}
 use Rattle.pair_opening.specs.declared.turn.Turn.{Turn}
 
 -- the row of external value e, of K bytes, stands among a half's rows, unless e is 0

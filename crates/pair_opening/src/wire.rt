@@ -5,10 +5,10 @@ ghost use Rattle.residue.specs.Vector.{add_v, mul_v};
 ghost use Rattle.pair_opening.specs.Ready.{Seated, KeyHeld, PairHeld, ProductReady, TableReady, Ready};
 ghost use Rattle.pair_opening.specs.Step.{key_in, table_at, product_at, open_at};
 
-use super::half::{HalfAt, open_half};
+use super::half::open_half;
 use super::product::open_product;
 use super::turn::Turn;
-use lists::{copy, fill, nth_piece, number_index, wire_index};
+use lists::nth_piece;
 use residue::{key_of, scale};
 use words::{Gate, Pair, Projection, Scaling};
 
@@ -17,16 +17,15 @@ fn input(turn: Turn, keys: &[u8], out: &mut [u8])
     requires { KeyHeld turn keys.now turn.wire × (length out.old ≡ turn.k) }
     ensures { out.new ≡ nth_piece keys.now turn.k turn.wire }
 {
-    let own = nth_piece(keys, turn.k, number_index(turn.wire));
-    copy(out, own);
+    out.copy_from_slice(nth_piece(keys, turn.k, turn.wire as usize));
 }
 
 fn sum(turn: Turn, g: Pair, wkeys: &[u8], out: &mut [u8])
     requires { Seated turn × (PairHeld turn wkeys.now g × (length out.old ≡ turn.k)) }
     ensures { out.new ≡ add_v turn.modulus (key_in turn wkeys.now g.a) (key_in turn wkeys.now g.b) }
 {
-    let a = nth_piece(wkeys, turn.k, wire_index(g.a));
-    let b = nth_piece(wkeys, turn.k, wire_index(g.b));
+    let a = nth_piece(wkeys, turn.k, usize::from(g.a));
+    let b = nth_piece(wkeys, turn.k, usize::from(g.b));
     key_of(turn.modulus, a, 1, b, out);
 }
 
@@ -34,8 +33,8 @@ fn multiple(turn: Turn, g: Scaling, wkeys: &[u8], out: &mut [u8])
     requires { Seated turn × (KeyHeld turn wkeys.now g.a × (length out.old ≡ turn.k)) }
     ensures { out.new ≡ mul_v turn.modulus g.constant (key_in turn wkeys.now g.a) }
 {
-    let a = nth_piece(wkeys, turn.k, wire_index(g.a));
-    copy(&mut *out, a);
+    let a = nth_piece(wkeys, turn.k, usize::from(g.a));
+    out.copy_from_slice(a);
     scale(turn.modulus, g.constant, out);
 }
 
@@ -43,8 +42,8 @@ fn by_product(turn: Turn, g: Pair, rows: &[u8], wkeys: &[u8], out: &mut [u8])
     requires { Seated turn × (ProductReady turn rows.now wkeys.now g × (length out.old ≡ turn.k)) }
     ensures { out.new ≡ product_at turn rows.now (key_in turn wkeys.now g.a) (key_in turn wkeys.now g.b) }
 {
-    let a = nth_piece(wkeys, turn.k, wire_index(g.a));
-    let b = nth_piece(wkeys, turn.k, wire_index(g.b));
+    let a = nth_piece(wkeys, turn.k, usize::from(g.a));
+    let b = nth_piece(wkeys, turn.k, usize::from(g.b));
     open_product(turn, a, b, rows, out);
 }
 
@@ -53,16 +52,8 @@ fn by_table(turn: Turn, g: Projection, rows: &[u8], wkeys: &[u8], out: &mut [u8]
     requires { Seated turn × (TableReady turn rows.now wkeys.now g × (length out.old ≡ turn.k)) }
     ensures { out.new ≡ table_at turn rows.now (key_in turn wkeys.now g.a) }
 {
-    let a = nth_piece(wkeys, turn.k, wire_index(g.a));
-    let at = HalfAt {
-        k: turn.k,
-        round: turn.round,
-        wire: turn.wire,
-        component: 0,
-        under: turn.over,
-        modulus: turn.modulus,
-    };
-    open_half(at, a, rows, out);
+    let a = nth_piece(wkeys, turn.k, usize::from(g.a));
+    open_half(turn.half(turn.over, 0), a, rows, out);
 }
 
 // The key of the wire at hand. `rows` are those of its own gate, `wkeys` the keys of lower wires. A select is refused before: its key is all zero.
@@ -76,6 +67,6 @@ pub fn open_wire(turn: Turn, gate: Gate, keys: &[u8], rows: &[u8], wkeys: &[u8],
         Gate::Scale(g) => multiple(turn, g, wkeys, out),
         Gate::Multiply(g) => by_product(turn, g, rows, wkeys, out),
         Gate::Project(g) => by_table(turn, g, rows, wkeys, out),
-        Gate::Select(_) => fill(out, 0),
+        Gate::Select(_) => out.fill(0),
     }
 }

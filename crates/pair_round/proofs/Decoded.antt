@@ -8,7 +8,6 @@ use Rattle.lists.proofs.Blocks.{tab_ext}
 use Rattle.residue.specs.Residue.{sub}
 use Rattle.residue.proofs.Vectors.{add-below}
 use Rattle.residue.proofs.Laws.{sub-add}
-use Rattle.checks.specs.declared.Answer.TheVariants.{Accepted}
 use Rattle.checks.proofs.Passed.{and_then_passed, and_then-left, afterwards_passed}
 use Rattle.meter.specs.Meter.{Charge}
 use Rattle.words.specs.declared.gate.Wire.{Wire}
@@ -30,6 +29,7 @@ use Rattle.pair_round.specs.Claim.{mask_of}
 use Rattle.pair_round.proofs.Start.{Start}
 use Rattle.pair_round.proofs.Garbled.{masks-size, mask_at}
 use Rattle.pair_round.proofs.Opened.{externals-size, opened-external}
+use Rattle.checks.specs.Answer.{accepts}
 
 module _ {pad : Pad} {file : List ℕ} {K : ℕ} {draw values : List ℕ} {meter : Charge} {lent : Lent}
     (start : Start pad file K draw values meter lent) where
@@ -45,12 +45,12 @@ module _ {pad : Pad} {file : List ℕ} {K : ℕ} {draw values : List ℕ} {meter
   abbrev bytes : List ℕ
   bytes = wire_externals pad file K draw values meter lent
 
-  read : file_checked file ≡ Accepted
+  read : file_checked file ≡ accepts
   read = and_then-left (file_checked file) (selects_checked file) start.conditions.circuit
 
   -- ---- plain evaluation
 
-  pub evaluates : plainly pad file K draw values meter lent ≡ Accepted
+  pub evaluates : plainly pad file K draw values meter lent ≡ accepts
   unfolding plainly plain_checked
   evaluates =
       and_then_passed read
@@ -82,7 +82,7 @@ module _ {pad : Pad} {file : List ℕ} {K : ℕ} {draw values : List ℕ} {meter
         mask = λ i h _. mask_fits i h;
       }
 
-  pub decodes : decoding pad file K draw values meter lent ≡ Accepted
+  pub decodes : decoding pad file K draw values meter lent ≡ accepts
   unfolding decoding pair_decode_checked
   decodes = and_then_passed read (lent-passed fits)
 

@@ -16,7 +16,6 @@ use Rattle.lists.proofs.Sums.{sum_to_times, sum_to_const}
 use Rattle.lists.proofs.Parts.{length_part}
 use Rattle.lists.proofs.Blocks.{length_runs, get_or-runs}
 use Rattle.checks.specs.declared.Refusal.TheVariants.{ContributionTooLarge, OffsetNotOne}
-use Rattle.checks.specs.declared.Answer.TheVariants.{Accepted}
 use Rattle.checks.proofs.Passed.{none_bad_none}
 use Rattle.words.specs.declared.gate.Wire.{Wire}
 use Rattle.circuit.specs.Wires.{modulus_at, inputs_in}
@@ -33,6 +32,7 @@ use Rattle.pair.specs.Bytes.{draw_checked, not_one, units_checked}
 use Rattle.pair.specs.Undone.{DrawnForTwo}
 use Rattle.pair.proofs.Sizes.{offset-inside, input-inside}
 use Rattle.pair.proofs.Reduced.{InputsBelow}
+use Rattle.checks.specs.Answer.{accepts}
 
 -- a test that is made of what is used alone, and passes
 unit_tested : (used one : Bool) → (used && not one) ≡ false → used ≡ true → one ≡ true
@@ -65,7 +65,7 @@ module _ (K : ℕ) (wires : List Wire) where
 
 module _ {file : List ℕ} {wires : List Wire} {outputs : List ℕ} (accepted : AcceptedCircuit file wires outputs) (K : ℕ) (draw : List ℕ)
     (size : length draw ≡ draw_size K wires) where
-  unit_offset : units_checked K wires draw ≡ Accepted → (w : ℕ) → w < length wires → external_of (offset_in K wires draw (modulus_at wires w)) ≡ 1
+  unit_offset : units_checked K wires draw ≡ accepts → (w : ℕ) → w < length wires → external_of (offset_in K wires draw (modulus_at wires w)) ≡ 1
   unfolding units_checked not_one
   unit_offset passed w made =
       let p : ℕ = modulus_at wires w in
@@ -74,7 +74,7 @@ module _ {file : List ℕ} {wires : List Wire} {outputs : List ℕ} (accepted : 
       (unit_tested (used wires p) one (none_bad_none 256 (not_one K wires draw) OffsetNotOne passed p (accepted.fits w made).byte)
       (used-modulus wires w made))
 
-  pub drawn_for_two : 0 < K → units_checked K wires draw ≡ Accepted → DrawnForTwo K wires draw
+  pub drawn_for_two : 0 < K → units_checked K wires draw ≡ accepts → DrawnForTwo K wires draw
   unfolding offset_in zero_in
   drawn_for_two some passed =
       record {
@@ -86,7 +86,7 @@ module _ {file : List ℕ} {wires : List Wire} {outputs : List ℕ} (accepted : 
         zero_size = λ w h. length_part draw (input_at K wires w) K (omega (arith, size, input-inside K wires w h));
       }
 
-  pub inputs-below : draw_checked K wires draw ≡ Accepted → InputsBelow K wires draw
+  pub inputs-below : draw_checked K wires draw ≡ accepts → InputsBelow K wires draw
   unfolding draw_checked zero_in
   inputs-below passed =
       record {

@@ -11,7 +11,6 @@ use Rattle.lists.specs.First.{first_from, first}
 use Rattle.shake.specs.Numbers.{bytes_of}
 use Rattle.residue.specs.Prime.{remainders_below, is_prime}
 use Rattle.residue.specs.Residue.{add, mul}
-use Rattle.checks.specs.declared.Answer.TheVariants.{Accepted}
 use Rattle.checks.specs.Checked.{unless, none_bad}
 use Rattle.checks.proofs.Passed.{and_then_passed}
 use Rattle.words.specs.declared.gate.Wire.{Wire}
@@ -37,20 +36,21 @@ use Rattle.pair_round.specs.Example.{file, wires, outputs, named, draw, values, 
 use Rattle.pair_round.proofs.Claim.{shake_claim}
 use Rattle.pair_round.proofs.Demand.{demand}
 use Rattle.pair_round.proofs.Possible.{results_of, possible}
+use Rattle.checks.specs.Answer.{accepts}
 
 reads : read_file file ≡ accepted wires outputs named
 unfolding file file_of bytes_of wires outputs named read_file headed read_from after ended read_word said check after_entry is_prime remainders_below blocks
 reads = refl
 
-selects : selects_checked file ≡ Accepted
+selects : selects_checked file ≡ accepts
 unfolding selects_checked none_bad unless first first_from file file_of bytes_of
 selects = refl
 
-session : session_checked 2 2 ≡ Accepted
+session : session_checked 2 2 ≡ accepts
 unfolding session_checked unless
 session = refl
 
-owners : owners_checked 2 wires ≡ Accepted
+owners : owners_checked 2 wires ≡ accepts
 unfolding owners_checked none_bad unless first first_from wires
 owners = refl
 
@@ -58,11 +58,11 @@ size : length draw ≡ draw_size 2 wires
 unfolding draw draw_size wires inputs_in sum_to some_below
 size = refl
 
-bytes : draw_checked 2 wires draw ≡ Accepted
+bytes : draw_checked 2 wires draw ≡ accepts
 unfolding draw_checked bytes_checked none_bad unless first first_from blocks draw draw_moduli wires inputs_in some_below
 bytes = refl
 
-units : units_checked 2 wires draw ≡ Accepted
+units : units_checked 2 wires draw ≡ accepts
 unfolding units_checked not_one none_bad unless first first_from part draw offset_in offset_at external_of wires sum_to some_below
 units = refl
 
@@ -70,7 +70,7 @@ values-size : length values ≡ inputs_in wires
 unfolding values wires inputs_in
 values-size = refl
 
-values_low : values_checked values (modulus_at wires) ≡ Accepted
+values_low : values_checked values (modulus_at wires) ≡ accepts
 unfolding values_checked none_bad unless first first_from values wires
 values_low = refl
 
@@ -87,12 +87,12 @@ lengths =
       plain = length-replicate _ 0;
     }
 
-account : account_checked meter.account ≡ Accepted
+account : account_checked meter.account ≡ accepts
 unfolding account_checked unless meter
 account = refl
 
 -- 8 rows for the product, 4 for the projection, 8 for the square
-space : meter_checked meter (pair_rows_in wires) ≡ Accepted
+space : meter_checked meter (pair_rows_in wires) ≡ accepts
 unfolding meter_checked unless meter wires sum_to
 space = refl
 
@@ -111,17 +111,17 @@ conditions =
     record {
       circuit = and_then_passed (ap (λ (r : Read). r.answer) reads) selects;
       session = session;
-      owners = as_read (λ ws. owners_checked 2 ws ≡ Accepted) owners;
+      owners = as_read (λ ws. owners_checked 2 ws ≡ accepts) owners;
       draw_length = as_read (λ ws. length draw ≡ draw_size 2 ws) size;
-      draw_bytes = as_read (λ ws. draw_checked 2 ws draw ≡ Accepted) bytes;
-      units = as_read (λ ws. units_checked 2 ws draw ≡ Accepted) units;
+      draw_bytes = as_read (λ ws. draw_checked 2 ws draw ≡ accepts) bytes;
+      units = as_read (λ ws. units_checked 2 ws draw ≡ accepts) units;
       values_length = as_read (λ ws. length values ≡ inputs_in ws) values-size;
-      values_bytes = as_read (λ ws. values_checked values (modulus_at ws) ≡ Accepted) values_low;
+      values_bytes = as_read (λ ws. values_checked values (modulus_at ws) ≡ accepts) values_low;
       lengths =
           as_read (λ ws. LengthsRight 2 ws (read_file file).outputs lent)
           (subst (λ (outs : List ℕ). LengthsRight 2 wires outs lent) (sym outputs_read) lengths);
       account = account;
-      space = as_read (λ ws. meter_checked meter (pair_rows_in ws) ≡ Accepted) space;
+      space = as_read (λ ws. meter_checked meter (pair_rows_in ws) ≡ accepts) space;
     }
 
 promise : (round : ℕ) → Promise (shake_pad round) file 2 draw values meter lent

@@ -5,7 +5,6 @@ use mathlib.Core.List.{List}
 use Prim.Native.Nat.{ℕ, ◌<◌}
 use lib.ListN.{length, get_or}
 use Rattle.lists.proofs.Blocks.{length-tab, get_or-tab}
-use Rattle.checks.specs.declared.Answer.TheVariants.{Accepted}
 use Rattle.checks.proofs.Passed.{and_then_passed, afterwards_passed}
 use Rattle.meter.specs.Meter.{Charge}
 use Rattle.words.specs.declared.gate.Wire.{Wire}
@@ -16,6 +15,7 @@ use Rattle.pair.specs.Rows.{pair_rows, pair_mask, pair_masks}
 use Rattle.pair.specs.Garble.{pair_garble_checked, pair_garble_rows, pair_garble_masks}
 use Rattle.pair_round.specs.Round.{Lent, garbling, rows, output_masks}
 use Rattle.pair_round.proofs.Start.{Start}
+use Rattle.checks.specs.Answer.{accepts}
 
 module _ {pad : Pad} {file : List ℕ} {K : ℕ} {draw values : List ℕ} {meter : Charge} {lent : Lent}
     (start : Start pad file K draw values meter lent) where
@@ -25,7 +25,7 @@ module _ {pad : Pad} {file : List ℕ} {K : ℕ} {draw values : List ℕ} {meter
   abbrev outputs : List ℕ
   outputs = (read_file file).outputs
 
-  pub garbles : garbling pad file K draw values meter lent ≡ Accepted
+  pub garbles : garbling pad file K draw values meter lent ≡ accepts
   unfolding garbling pair_garble_checked
   garbles =
       let c = start.conditions in

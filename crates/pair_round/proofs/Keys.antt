@@ -9,7 +9,6 @@ use Rattle.lists.specs.Blocks.{blocks, nth_piece}
 use Rattle.lists.proofs.Blocks.{length_blocks_same, part_blocks_same}
 use Rattle.residue.specs.Vector.{AllBelow}
 use Rattle.residue.proofs.Vectors.{key_v-length, key_v-below}
-use Rattle.checks.specs.declared.Answer.TheVariants.{Accepted}
 use Rattle.checks.proofs.Passed.{and_then_passed, afterwards_passed}
 use Rattle.meter.specs.Meter.{Charge}
 use Rattle.words.specs.declared.gate.Wire.{Wire}
@@ -25,6 +24,7 @@ use Rattle.pair.specs.Draw.{offset_in, zero_in}
 use Rattle.pair.specs.InputKeys.{pair_input_key, pair_keys_checked, pair_keys_after}
 use Rattle.pair_round.specs.Round.{Lent, input_keys, keys}
 use Rattle.pair_round.proofs.Start.{Start}
+use Rattle.checks.specs.Answer.{accepts}
 
 module _ {pad : Pad} {file : List ℕ} {K : ℕ} {draw values : List ℕ} {meter : Charge} {lent : Lent}
     (start : Start pad file K draw values meter lent) where
@@ -34,7 +34,7 @@ module _ {pad : Pad} {file : List ℕ} {K : ℕ} {draw values : List ℕ} {meter
   abbrev key : ℕ → List ℕ
   key = pair_input_key K wires draw values
 
-  pub has-keys : input_keys pad file K draw values meter lent ≡ Accepted
+  pub has-keys : input_keys pad file K draw values meter lent ≡ accepts
   unfolding input_keys pair_keys_checked
   has-keys =
       let c = start.conditions in
@@ -74,5 +74,5 @@ module _ {pad : Pad} {file : List ℕ} {K : ℕ} {draw values : List ℕ} {meter
   pub keys-at : (w : ℕ) → w < inputs_in wires → nth_piece (keys pad file K draw values meter lent) K w ≡ key w
   keys-at w h = ap (λ (xs : List ℕ). nth_piece xs K w) keys-are ∙ part_blocks_same (inputs_in wires) K key key-size w h
 
-  pub keys_pass : keys_checked 1 K wires (keys pad file K draw values meter lent) ≡ Accepted
+  pub keys_pass : keys_checked 1 K wires (keys pad file K draw values meter lent) ≡ accepts
   keys_pass = rw keys-are (keys_passed 1 K wires key (λ w h. key-size w h ∙ sym (one-mul K)) key_below)

@@ -9,8 +9,6 @@ use native.Mathlib.Omega.{arith}
 use borrow.Author.Tests.{ne_eqb}
 use lib.Dec.{eqb}
 use lib.ListN.{length, get_or, get_or-replicate}
-use Rattle.checks.specs.declared.Answer.{Answer}
-use Rattle.checks.specs.declared.Answer.TheVariants.{Accepted, Refused}
 use Rattle.checks.specs.Checked.{Reports, and_then, afterwards}
 use Rattle.checks.proofs.Passed.{never, afterwards_passed}
 use Rattle.checks.proofs.Answers.{afterwards-refused}
@@ -24,6 +22,8 @@ use Rattle.calls.specs.Garble.{garble_asked, garble_checked, garble_meter}
 use Rattle.pair.specs.Bytes.{pair_file_checked}
 use Rattle.pair.specs.Garble.{pair_garble_asked, pair_garble_checked, pair_garble_meter}
 use Rattle.pair_round.specs.Metered.{Call, Met, account_of, number_of, totals_of, rows_of, AllMet, totals_left, rows_charged, Accounted, EachTotalIsAccounted, CarriedTotalIsAccounted, OtherTotalsStay}
+use Rattle.std.specs.Prelude.{Ok, Err}
+use Rattle.checks.specs.Answer.{Answer}
 
 -- ---- one call
 
@@ -62,8 +62,8 @@ charged_is totals garbling account {number} report = go (checks_at totals garbli
     go : (checks : Answer) → checks_at totals garbling ≡ checks
         → cond (eqb number 0 && eqb garbling.account account) garbling.rows 0
         ≡ afterwards (checks_at totals garbling) (cond (eqb garbling.account account) garbling.rows 0) 0
-    go Accepted e = rw (passed_zero report e) (sym (afterwards_passed e (cond (eqb garbling.account account) garbling.rows 0) 0))
-    go (Refused reason place) e =
+    go (Ok done) e = rw (passed_zero report e) (sym (afterwards_passed e (cond (eqb garbling.account account) garbling.rows 0) 0))
+    go (Err why) e =
         rw (ne_eqb number 0 (λ z. never (sym e ∙ zero_passed report z)))
         (afterwards-refused e (cond (eqb garbling.account account) garbling.rows 0) 0)
 

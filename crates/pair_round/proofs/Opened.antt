@@ -9,7 +9,6 @@ use Rattle.lists.proofs.Blocks.{length-tab, get_or-tab, part_blocks_same}
 use Rattle.residue.specs.Residue.{add}
 use Rattle.residue.specs.Vector.{key_v}
 use Rattle.residue.proofs.Vectors.{key_v-length}
-use Rattle.checks.specs.declared.Answer.TheVariants.{Accepted}
 use Rattle.checks.proofs.Passed.{and_then_passed, afterwards_passed}
 use Rattle.meter.specs.Meter.{Charge}
 use Rattle.words.specs.declared.gate.Wire.{Wire}
@@ -31,6 +30,7 @@ use Rattle.pair_round.proofs.Start.{Start}
 use Rattle.pair_round.proofs.Garbled.{rows_are}
 use Rattle.pair_round.proofs.Keys.{keys-size, keys-at, keys_pass}
 use Rattle.pair_round.proofs.RowBytes.{rows_pass}
+use Rattle.checks.specs.Answer.{accepts}
 
 module _ {pad : Pad} {file : List ℕ} {K : ℕ} {draw values : List ℕ} {meter : Charge} {lent : Lent}
     (start : Start pad file K draw values meter lent) where
@@ -57,10 +57,10 @@ module _ {pad : Pad} {file : List ℕ} {K : ℕ} {draw values : List ℕ} {meter
   rows_long : length garbled ≡ pair_rows_in wires * K
   rows_long = ap length (rows_are start) ∙ rows-size start.pads start.accepted sizes
 
-  rows_low : counted_rows_checked 1 K wires (pair_rows_of wires) garbled ≡ Accepted
+  rows_low : counted_rows_checked 1 K wires (pair_rows_of wires) garbled ≡ accepts
   rows_low = rw (rows_are start) (rows_pass start.pads start.accepted sizes)
 
-  pub opens : opening pad file K draw values meter lent ≡ Accepted
+  pub opens : opening pad file K draw values meter lent ≡ accepts
   unfolding opening pair_open_checked
   opens =
       let c = start.conditions in

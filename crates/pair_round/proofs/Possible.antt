@@ -3,8 +3,7 @@
 use mathlib.Core.Path.{refl}
 use mathlib.Core.List.{List}
 use Prim.Native.Nat.{ℕ}
-use Rattle.checks.specs.declared.Answer.{Answer}
-use Rattle.checks.specs.Answer.{number_in, place_in}
+use Rattle.checks.specs.Answer.{Answer, number_in, place_in}
 use Rattle.checks.specs.Checked.{Reports}
 use Rattle.meter.specs.Meter.{Charge}
 use Rattle.pads.specs.Pad.{shake_pad}

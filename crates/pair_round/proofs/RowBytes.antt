@@ -7,7 +7,6 @@ use native.Mathlib.Nat.{not-suc-le-zero, one-mul}
 use lib.ListN.{length}
 use Rattle.residue.specs.Vector.{AllBelow}
 use Rattle.residue.proofs.Vectors.{add_v-below}
-use Rattle.checks.specs.declared.Answer.TheVariants.{Accepted}
 use Rattle.words.specs.declared.gate.Gate.{Gate}
 use Rattle.words.specs.declared.gate.Gate.TheVariants.{Input, Add, Scale, Multiply, Project, Select}
 use Rattle.words.specs.declared.gate.Wire.{Wire}
@@ -26,6 +25,7 @@ use Rattle.pair.specs.Gate.{rows_by}
 use Rattle.pair.specs.Count.{pair_rows_of}
 use Rattle.pair.specs.Rows.{zero_key, gate_rows, pair_rows}
 use Rattle.pair.proofs.Sizes.{DrawSizes, gate-size}
+use Rattle.checks.specs.Answer.{accepts}
 
 none_below : (p : ℕ) → AllBelow p []
 none_below p = record { entry = λ i h. absurd (not-suc-le-zero h) }
@@ -53,7 +53,7 @@ module _ {pad : Pad} (pads : PadSize pad) {file : List ℕ} {wires : List Wire} 
       gate_below pad K w file (modulus_at wires) (offset_in K wires draw) (zero_key pad K file wires draw) (modulus_at wires w) (positive accepted w made)
       (wire_at wires w).gate
 
-  pub rows_pass : counted_rows_checked 1 K wires (pair_rows_of wires) (pair_rows pad K file wires draw) ≡ Accepted
+  pub rows_pass : counted_rows_checked 1 K wires (pair_rows_of wires) (pair_rows pad K file wires draw) ≡ accepts
   unfolding pair_rows
   rows_pass =
       rows_passed 1 K wires (pair_rows_of wires) (gate_rows pad K file wires draw)

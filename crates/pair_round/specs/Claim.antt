@@ -5,7 +5,6 @@ use Rattle.std.specs.Prelude.{◌≡◌, List, ℕ, ◌*◌, ◌<◌, length, ge
 use Rattle.lists.specs.Blocks.{nth_piece}
 use Rattle.residue.specs.Residue.{add}
 use Rattle.residue.specs.Vector.{key_v}
-use Rattle.checks.specs.declared.Answer.TheVariants.{Accepted}
 use Rattle.meter.specs.Meter.{Charge, account_checked, meter_checked}
 use Rattle.words.specs.declared.gate.Wire.{Wire}
 use Rattle.circuit.specs.Wires.{modulus_at, inputs_in}
@@ -20,6 +19,7 @@ use Rattle.pair.specs.Rows.{zero_key, pair_mask}
 use Rattle.pair.specs.Bytes.{pair_file_checked, draw_checked, units_checked}
 use Rattle.pair_round.specs.Round as round
 use Rattle.pair_round.specs.Round.{Lent}
+use Rattle.checks.specs.Answer.{accepts}
 
 -- the lent lengths are right, of the buffers that calls write
 pub record LengthsRight (K : ℕ) (wires : List Wire) (outputs : List ℕ) (lent : Lent) : Type 0 where
@@ -41,21 +41,21 @@ module _ (file : List ℕ) (K : ℕ) (draw values : List ℕ) where
   -- "each such circuit, draw, input and meter that pass the checks"
   pub record Conditions (meter : Charge) (lent : Lent) : Type 0 where
     -- the circuit: 1 to 10, and 26, "circuits have no selectors"; the key length, 11; and "13 takes n as 2"
-    pub circuit : pair_file_checked file ≡ Accepted
-    pub session : session_checked 2 K ≡ Accepted
-    pub owners : owners_checked 2 wires ≡ Accepted
+    pub circuit : pair_file_checked file ≡ accepts
+    pub session : session_checked 2 K ≡ accepts
+    pub owners : owners_checked 2 wires ≡ accepts
     -- the draw: "K·(Q + I) bytes", 16, and 27, "each offset's component 0 is 1"
     pub draw_length : length draw ≡ draw_size K wires
-    pub draw_bytes : draw_checked K wires draw ≡ Accepted
-    pub units : units_checked K wires draw ≡ Accepted
+    pub draw_bytes : draw_checked K wires draw ≡ accepts
+    pub units : units_checked K wires draw ≡ accepts
     -- the input: "one value per input", and 15
     pub values_length : length values ≡ inputs_in wires
-    pub values_bytes : values_checked values (modulus_at wires) ≡ Accepted
+    pub values_bytes : values_checked values (modulus_at wires) ≡ accepts
     -- 14, of what is lent to be written
     pub lengths : LengthsRight K wires outputs lent
     -- the meter: "metered as before", 25 and 21
-    pub account : account_checked meter.account ≡ Accepted
-    pub space : meter_checked meter (pair_rows_in wires) ≡ Accepted
+    pub account : account_checked meter.account ≡ accepts
+    pub space : meter_checked meter (pair_rows_in wires) ≡ accepts
 
   -- wire w's value, the plain circuit's, and the offset of its modulus
   abbrev pub value_of : ℕ → ℕ
@@ -84,11 +84,11 @@ module _ (file : List ℕ) (K : ℕ) (draw values : List ℕ) where
 
 -- what the theorem says of the round: every call accepts, and what they leave. "With one round on both sides": one pad
 pub record Promise (pad : Pad) (file : List ℕ) (K : ℕ) (draw values : List ℕ) (meter : Charge) (lent : Lent) : Type 0 where
-  pub garbles : round.garbling pad file K draw values meter lent ≡ Accepted
-  pub has_keys : round.input_keys pad file K draw values meter lent ≡ Accepted
-  pub opens : round.opening pad file K draw values meter lent ≡ Accepted
-  pub decodes : round.decoding pad file K draw values meter lent ≡ Accepted
-  pub evaluates : round.plainly pad file K draw values meter lent ≡ Accepted
+  pub garbles : round.garbling pad file K draw values meter lent ≡ accepts
+  pub has_keys : round.input_keys pad file K draw values meter lent ≡ accepts
+  pub opens : round.opening pad file K draw values meter lent ≡ accepts
+  pub decodes : round.decoding pad file K draw values meter lent ≡ accepts
+  pub evaluates : round.plainly pad file K draw values meter lent ≡ accepts
   pub delivers : Delivered file K draw values pad (round.wire_keys pad file K draw values meter lent)
       (round.wire_externals pad file K draw values meter lent) (round.figures pad file K draw values meter lent)
       (round.plain_figures pad file K draw values meter lent)

@@ -2,7 +2,6 @@
 -- values, with one pad on both sides. Nobody changes a byte between the call that writes it and those that take it.
 -- Assumes nothing.
 use Rattle.std.specs.Prelude.{List, ℕ}
-use Rattle.checks.specs.declared.Answer.{Answer}
 use Rattle.meter.specs.Meter.{Charge}
 use Rattle.pads.specs.Pad.{Pad}
 use Rattle.pair.specs.Decode.{pair_decode_checked, pair_decode_after}
@@ -10,6 +9,7 @@ use Rattle.plain.specs.Call.{plain_checked, plain_after}
 use Rattle.pair.specs.Garble.{pair_garble_checked, pair_garble_rows, pair_garble_masks}
 use Rattle.pair.specs.InputKeys.{pair_keys_checked, pair_keys_after}
 use Rattle.pair.specs.Open.{pair_open_checked, pair_open_keys, pair_open_externals}
+use Rattle.checks.specs.Answer.{Answer}
 
 -- what the buffers that are lent to be written hold before the calls
 pub record Lent : Type 0 where

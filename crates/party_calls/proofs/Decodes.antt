@@ -13,30 +13,28 @@ use lib.Seq.{get_or-take}
 use Rattle.lists.proofs.Blocks.{length-tab, get_or-tab}
 use Rattle.lists.proofs.Filled.{Filled, filled_start, filled_step, filled_whole}
 use Rattle.residue.specs.Residue.{sub}
-use Rattle.checks.specs.declared.Answer.{Answer}
-use Rattle.checks.specs.declared.Answer.TheVariants.{Accepted, Refused}
-use Rattle.checks.specs.declared.Refusal.{Refusal}
 use Rattle.checks.specs.declared.Refusal.TheVariants.{ValueTooLarge}
-use Rattle.checks.specs.Answer.{number_in, place_in}
-use Rattle.checks.specs.Checked.{Reports, and_then, afterwards}
+use Rattle.checks.specs.Answer.{Answer, number_in, place_in, accepts}
+use Rattle.checks.specs.Checked.{Reports, afterwards}
 use Rattle.checks.proofs.Answers.{afterwards-refused, reports}
 use Rattle.checks.proofs.Passed.{and_then-left, and_then-right, none_bad_none, afterwards_passed}
 use Rattle.words.specs.declared.gate.Wire.{Wire}
 use Rattle.circuit.specs.declared.Circuit.{Circuit}
-use Rattle.circuit.specs.declared.Reading.{Reading}
 use Rattle.circuit.specs.Wires.{modulus_at, moduli_of}
 use Rattle.circuit.specs.Named.{may_read, readable}
 use Rattle.circuit.specs.File.{read_file}
 use Rattle.circuit.specs.Held.{wires_in, outputs_in, named_in, Held, Holds}
-use Rattle.session.specs.Session.{file_checked, parties_checked, party_checked, partakers_checked, lengths_checked, too_large}
+use Rattle.session.specs.Session.{lengths_checked, too_large}
 use Rattle.session.proofs.Circuits.{held_of, made-is, given_is}
-use Rattle.calls.specs.Decode.{decode_lent, decode_made, decode_checked, decode_after, DecodeCall}
+use Rattle.calls.specs.Decode.{decode_asked, decode_made, decode_checked, decode_after, DecodeCall}
 use Rattle.party_calls.specs.Tables.{Front}
 use Rattle.party_calls.specs.Either.{either_checked}
 use Rattle.party_calls.specs.Decoding.{bytes_by, lent_by, made_by, Masked, Decodes, Ready, Decoded}
 use Rattle.party_calls.proofs.TableLoops.{front-moduli}
 use Rattle.party_calls.proofs.TwoBuffers.{either_is}
-use Rattle.party_calls.proofs.Ending.{lent_is, stage_next, stage_refused, stage_followed, stage_within, fails_left, fails_right, fails_guarded, reading_accepted}
+use Rattle.party_calls.proofs.Ending.{lent_is, fails_left, fails_right, fails_guarded, circuit-accepted, unread, behind_file, ends-refused}
+use Rattle.std.specs.Prelude.{Err}
+use Rattle.checks.specs.declared.Refused.{Refused}
 
 -- whom an output names, in the array and at its front
 readable-front : (circuit : Circuit) (party i : ℕ) → i < circuit.given → readable circuit.named party i ≡ readable (named_in circuit) party i
@@ -66,19 +64,13 @@ module _ {circuit : Circuit} (held : Held circuit) (party : ℕ) (externals mask
   abbrev wanted : List ℕ
   wanted = length (wires_in circuit) ∷ length (outputs_in circuit) ∷ length (outputs_in circuit) ∷ []
 
-  lengths_met : answer ≡ lengths_checked (length externals ∷ length masks ∷ bytes ∷ []) wanted
-  lengths_met =
+  pub decode-lengths : answer ≡ lengths_checked (length externals ∷ length masks ∷ bytes ∷ []) wanted
+  decode-lengths =
       m ∙ ap (lengths_checked (length externals ∷ length masks ∷ bytes ∷ [])) (ap₂ (λ (a b : ℕ). a ∷ b ∷ b ∷ []) (sym (made-is held)) (sym (given_is held)))
 
-  pub lent-masked : answer ≡ Accepted → Masked circuit externals masks
+  pub lent-masked : answer ≡ accepts → Masked circuit externals masks
   lent-masked e =
       let same = lent_is _ _ (sym m ∙ e) in record { held = held; externals_size = same 0; masks_size = same 1 }
-
-  pub lent-next : answer ≡ Accepted → {r : Answer} → r ≡ bytes_by circuit party externals masks → r ≡ lent_by circuit party externals masks bytes
-  lent-next e n = stage_next lengths_met e n
-
-  pub lent-refused : {reason : Refusal} {place : ℕ} → answer ≡ Refused reason place → Refused reason place ≡ lent_by circuit party externals masks bytes
-  lent-refused e = stage_refused lengths_met (bytes_by circuit party externals masks) e
 
 -- ---- the results
 
@@ -132,8 +124,8 @@ module _ {circuit : Circuit} {party : ℕ} {externals masks : List ℕ} {bytes :
 
 -- ---- behind earlier checks
 
-module _ {circuit : Circuit} {earlier : Answer} (ready : Ready circuit earlier) (party : ℕ) (externals masks before : List ℕ) {check answer : Answer}
-    (checked : check ≡ lent_by circuit party externals masks (length before)) (joined : answer ≡ and_then earlier check) where
+module _ (circuit : Circuit) (party : ℕ) (externals masks before : List ℕ) {check : Answer}
+    (checked : check ≡ lent_by circuit party externals masks (length before)) where
   abbrev wires : List Wire
   wires = wires_in circuit
 
@@ -143,20 +135,18 @@ module _ {circuit : Circuit} {earlier : Answer} (ready : Ready circuit earlier) 
   abbrev may : ℕ → Bool
   may = readable (named_in circuit) party
 
-  met : answer ≡ and_then earlier (lent_by circuit party externals masks (length before))
-  met = stage_followed refl checked joined
+  pub behind_refused : {answer : Answer} {why : Refused} → answer ≡ Err why → check ≡ Err why → Decoded circuit party externals masks before answer before
+  behind_refused e r =
+      record { answer_is = e ∙ sym r ∙ checked; results_is = afterwards-refused e (made_by circuit party externals masks) before }
 
-  pub behind_refused : {reason : Refusal} {place : ℕ} → answer ≡ Refused reason place → Decoded circuit party earlier externals masks before (Refused reason place) before
-  behind_refused e = record { answer_is = sym e ∙ met; results_is = afterwards-refused refl (made_by circuit party externals masks) before }
-
-  module _ (e : answer ≡ Accepted) where
-    all : lent_by circuit party externals masks (length before) ≡ Accepted
-    all = sym checked ∙ and_then-right earlier check (sym joined ∙ e)
+  module _ (e : check ≡ accepts) where
+    all : lent_by circuit party externals masks (length before) ≡ accepts
+    all = sym checked ∙ e
 
     abbrev lengths : Answer
     lengths = lengths_checked (length externals ∷ length masks ∷ length before ∷ []) (length wires ∷ length outputs ∷ length outputs ∷ [])
 
-    lengths_passed : lengths ≡ Accepted
+    lengths_passed : lengths ≡ accepts
     lengths_passed = and_then-left lengths (bytes_by circuit party externals masks) all
 
     abbrev left : ℕ → Bool
@@ -184,78 +174,76 @@ module _ {circuit : Circuit} {earlier : Answer} (ready : Ready circuit earlier) 
         (fails_guarded (ltb i (length outputs)) (may i && large i) (lt-ltb i (length outputs) l)
         (fails_right (left i) (right i) (fine i (le_trans l (le-max_right (length wires) (length outputs)))))))
 
-    pub decodes_of : Decodes circuit party externals masks (length before)
-    decodes_of =
+    pub decodes_of : Ready circuit → Decodes circuit party externals masks (length before)
+    decodes_of ready =
         let held : Held circuit = ready.held in
         record {
           masked = record { held = held; externals_size = lent_is _ _ lengths_passed 0 ∙ made-is held; masks_size = lent_is _ _ lengths_passed 1 ∙ given_is held };
           size = lent_is _ _ lengths_passed 2 ∙ given_is held;
-          made = ready.made (and_then-left earlier check (sym joined ∙ e));
+          made = ready.made;
           external = λ w l. external_small w (omega (arith, made-is held));
           mask = λ i l m. mask-small i (omega (arith, given_is held)) m;
         }
 
-    pub behind_written : {out : List ℕ} → out ≡ made_by circuit party externals masks → Decoded circuit party earlier externals masks before Accepted out
-    behind_written o = record { answer_is = sym e ∙ met; results_is = o ∙ sym (afterwards_passed refl (made_by circuit party externals masks) before) }
+    pub behind_written : {out : List ℕ} → out ≡ made_by circuit party externals masks → Decoded circuit party externals masks before accepts out
+    behind_written o = record { answer_is = sym all; results_is = o ∙ sym (afterwards_passed refl (made_by circuit party externals masks) before) }
 
 -- .. and what it comes to, under the call's own definitions
-pub behind_as : {circuit : Circuit} {party : ℕ} {earlier : Answer} {externals masks before : List ℕ} {answer : Answer} {out : List ℕ}
-    → Decoded circuit party earlier externals masks before answer out → {checks : Answer} {made : List ℕ}
-    → and_then earlier (lent_by circuit party externals masks (length before)) ≡ checks → made_by circuit party externals masks ≡ made
+pub behind_as : {circuit : Circuit} {party : ℕ} {externals masks before : List ℕ} {answer : Answer} {out : List ℕ}
+    → Decoded circuit party externals masks before answer out → {checks : Answer} {made : List ℕ}
+    → lent_by circuit party externals masks (length before) ≡ checks → made_by circuit party externals masks ≡ made
     → Reports checks (number_in answer) (place_in answer) × (out ≡ afterwards checks made before)
 behind_as {before = before} d c m = (reports (d.answer_is ∙ c), d.results_is ∙ ap₂ (λ (a : Answer) (l : List ℕ). afterwards a l before) (d.answer_is ∙ c) m)
 
--- a reading that was accepted has outputs that are wires
-pub ready_of : {reading : Reading} (file : List ℕ) → Holds reading (read_file file) → {earlier : Answer} → (earlier ≡ Accepted → reading.answer ≡ Accepted)
-    → Ready reading.circuit earlier
-ready_of file h passed =
+-- an accepted file has outputs that are wires
+pub ready_of : {circuit : Circuit} (file : List ℕ) → Holds circuit (read_file file) → Ready circuit
+ready_of file h =
     record {
       held = held_of h;
-      made = λ e i l. omega (arith, (reading_accepted file h (passed e)).outputs_made i (omega (arith, given_is (held_of h))), made-is (held_of h));
+      made = λ i l. omega (arith, (circuit-accepted file h).outputs_made i (omega (arith, given_is (held_of h))), made-is (held_of h));
     }
 
 -- ---- the whole call: 1 to 10, 11, 12, 13 and 28, and then those
 
-module _ {reading : Reading} (file : List ℕ) (n party : ℕ) (externals masks before : List ℕ) (h : Holds reading (read_file file))
-    {parties asked present third second earlier : Answer} (p : parties ≡ parties_checked n) (a : asked ≡ party_checked n party)
-    (o : present ≡ partakers_checked n (wires_in reading.circuit) (named_in reading.circuit))
-    (t : third ≡ and_then asked present) (s : second ≡ and_then parties third) (f : earlier ≡ and_then reading.answer second) where
-  pub decode-ready : Ready reading.circuit earlier
-  decode-ready = ready_of file h (λ e. and_then-left reading.answer second (sym f ∙ e))
+module _ (file : List ℕ) (n party : ℕ) (externals masks before : List ℕ) where
+  -- on some wires, outputs and names
+  abbrev asked : List Wire → List ℕ → List ℕ → Answer
+  asked w o s = decode_asked w o (readable s party) externals masks s n party (length before)
 
-  -- on the file's wires, outputs and names
-  module _ {X : Type 0} (by : List Wire → List ℕ → List ℕ → X) where
-    same : by (wires_in reading.circuit) (outputs_in reading.circuit) (named_in reading.circuit) ≡ by (read_file file).wires (read_file file).outputs (read_file file).named
-    same =
-        ap₂ (λ (w : List Wire) (o : List ℕ). by w o (named_in reading.circuit)) h.wires h.outputs
+  -- refused
+  decode_stopped : {answer : Answer} {why : Refused} → answer ≡ Err why → Err why ≡ decode_checked file n party externals masks before
+      → DecodeCall file n party externals masks before (number_in answer) (place_in answer) before
+  unfolding decode_after
+  decode_stopped e m =
+      let d = ends-refused (decode_made (read_file file).wires (read_file file).outputs (readable (read_file file).named party) externals masks) before e m in
+      record { answer = d.0; results_is = d.1 }
+
+  -- .. by the reader
+  pub decode_unread : {answer : Answer} {why : Refused} → answer ≡ Err why → (read_file file).answer ≡ Err why
+      → DecodeCall file n party externals masks before (number_in answer) (place_in answer) before
+  unfolding decode_checked
+  decode_unread e r = decode_stopped e (unread file (asked (read_file file).wires (read_file file).outputs (read_file file).named) r)
+
+  module _ {circuit : Circuit} (h : Holds circuit (read_file file)) where
+    -- on the file's wires, outputs and names
+    same : {X : Type 0} (by : List Wire → List ℕ → List ℕ → X) → by (wires_in circuit) (outputs_in circuit) (named_in circuit) ≡ by (read_file file).wires (read_file file).outputs (read_file file).named
+    same by =
+        ap₂ (λ (w : List Wire) (o : List ℕ). by w o (named_in circuit)) h.wires h.outputs
         ∙ ap (by (read_file file).wires (read_file file).outputs) h.named
 
-  abbrev lent : List Wire → List ℕ → List ℕ → Answer
-  lent w o s = decode_lent w o (readable s party) externals masks (length before)
+    met : {check : Answer} → check ≡ asked (wires_in circuit) (outputs_in circuit) (named_in circuit) → check ≡ decode_checked file n party externals masks before
+    unfolding decode_checked
+    met m = behind_file file (asked (read_file file).wires (read_file file).outputs (read_file file).named) h (m ∙ same asked)
 
-  abbrev filed : Answer
-  filed = lent (read_file file).wires (read_file file).outputs (read_file file).named
+    -- .. by what comes behind it
+    pub decode-refused : {answer : Answer} {why : Refused} → answer ≡ Err why → Err why ≡ asked (wires_in circuit) (outputs_in circuit) (named_in circuit)
+        → DecodeCall file n party externals masks before (number_in answer) (place_in answer) before
+    decode-refused e m = decode_stopped e (met m)
 
-  abbrev owned : Answer
-  owned = partakers_checked n (read_file file).wires (read_file file).named
-
-  earlier_is : earlier ≡ and_then (file_checked file) (and_then (parties_checked n) (and_then (party_checked n party) owned))
-  earlier_is =
-      stage_followed refl (stage_followed p (stage_followed a (o ∙ ap₂ (partakers_checked n) h.wires h.named) t) s) f
-      ∙ ap (λ (r : Answer). and_then r (and_then (parties_checked n) (and_then (party_checked n party) owned))) h.answer
-
-  checks_is : and_then earlier (lent_by reading.circuit party externals masks (length before)) ≡ decode_checked file n party externals masks before
-  unfolding decode_checked
-  checks_is =
-      ap₂ and_then earlier_is (same lent)
-      ∙ stage_within (file_checked file) (and_then (parties_checked n) (and_then (party_checked n party) owned)) filed
-      ∙ ap (and_then (file_checked file))
-      (stage_within (parties_checked n) (and_then (party_checked n party) owned) filed
-      ∙ ap (and_then (parties_checked n)) (stage_within (party_checked n party) owned filed))
-
-  pub decode_call : {answer : Answer} {out : List ℕ} → Decoded reading.circuit party earlier externals masks before answer out
-      → DecodeCall file n party externals masks before (number_in answer) (place_in answer) out
-  unfolding decode_after
-  decode_call d =
-      let e = behind_as d checks_is (same (λ w o s. decode_made w o (readable s party) externals masks)) in
-      record { answer = e.0; results_is = e.1 }
+    pub decode_call : {answer : Answer} {out : List ℕ} → Decoded circuit party externals masks before answer out
+        → lent_by circuit party externals masks (length before) ≡ asked (wires_in circuit) (outputs_in circuit) (named_in circuit)
+        → DecodeCall file n party externals masks before (number_in answer) (place_in answer) out
+    unfolding decode_after
+    decode_call d m =
+        let e = behind_as d (met m) (same (λ w o s. decode_made w o (readable s party) externals masks)) in
+        record { answer = e.0; results_is = e.1 }

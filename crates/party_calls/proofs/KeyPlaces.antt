@@ -1,6 +1,6 @@
 -- A party's input keys: where an input's zero key and offset stand, the checks after reading, the loop that writes the keys, and how the call ends.
 -- Assumes nothing.
-use mathlib.Core.Path.{◌≡◌, refl, sym, ap, ap₂, subst, ◌∙◌}
+use mathlib.Core.Path.{◌≡◌, refl, sym, ap, ap₂, ◌∙◌}
 use mathlib.Core.Bool.{true}
 use mathlib.Core.List.{List, [], ◌∷◌}
 use Prim.Native.Nat.{ℕ, ◌+◌, ◌*◌, ◌≤◌, ◌<◌}
@@ -14,17 +14,13 @@ use Rattle.lists.proofs.Sums.{sum_to_same}
 use Rattle.lists.proofs.Steps.{Level, level_start, level_whole}
 use Rattle.residue.specs.Vector.{key_v}
 use Rattle.residue.proofs.Moduli.{is_prime→Prime}
-use Rattle.checks.specs.declared.Answer.{Answer}
-use Rattle.checks.specs.declared.Answer.TheVariants.{Accepted, Refused}
-use Rattle.checks.specs.declared.Refusal.{Refusal}
-use Rattle.checks.specs.Answer.{number_of}
+use Rattle.checks.specs.Answer.{Answer, number_in, place_in, accepts}
 use Rattle.checks.specs.Checked.{and_then}
 use Rattle.checks.proofs.Passed.{and_then-left, and_then-right}
 use Rattle.words.specs.declared.gate.Gate.{Gate}
 use Rattle.words.specs.declared.gate.Gate.TheVariants.{Input, Add, Scale, Multiply, Project, Select}
 use Rattle.words.specs.declared.gate.Wire.{Wire}
 use Rattle.circuit.specs.declared.Circuit.{Circuit}
-use Rattle.circuit.specs.declared.Reading.{Reading}
 use Rattle.circuit.specs.Wires.{wire_at, modulus_at, is_input, inputs_in}
 use Rattle.circuit.specs.File.{read_file}
 use Rattle.circuit.specs.Accepted.{AcceptedCircuit}
@@ -38,13 +34,14 @@ use Rattle.scheme.specs.Draw.{drawn}
 use Rattle.scheme.proofs.Used.{used-modulus}
 use Rattle.scheme.proofs.Places.{offset-fits, key_fits}
 use Rattle.scheme.proofs.Contributed.{nth_whole}
-use Rattle.session.specs.Session.{session_checked, party_checked, partakers_checked, lengths_checked, values_checked}
+use Rattle.session.specs.Session.{session_checked, party_checked, partakers_checked, lengths_checked}
 use Rattle.session.proofs.Sessions.{session-fits}
 use Rattle.session.proofs.Circuits.{held_of, made-is, inputs-made}
-use Rattle.scheme.specs.Bytes.{contributions_checked, offsets_checked}
 use Rattle.calls.specs.InputKeys.{input_key, input_keys_bytes, input_keys_lent, input_keys_party, input_keys_asked, input_keys_made, input_keys_checked, input_keys_after, InputKeysCall}
 use Rattle.party_calls.specs.Keying.{KeysLent, KeysFit}
-use Rattle.party_calls.proofs.Ending.{lent_is, stage_next, stage_refused, stage_followed, read_met, check-accepted, circuit-accepted, ends-written, ends-refused}
+use Rattle.party_calls.proofs.Ending.{lent_is, circuit-accepted, unread, behind_file, ends-written, ends-refused}
+use Rattle.std.specs.Prelude.{Err}
+use Rattle.checks.specs.declared.Refused.{Refused}
 
 -- ---- where an input's key stands
 
@@ -127,12 +124,13 @@ module _ {circuit : Circuit} {K : ℕ} {contribution externals : List ℕ} {byte
         (sym (offset_is K ws contribution fit.lent.contribution_length (modulus_at ws w)))
 
     -- the place of the offset, as the code looks it up
-    pub rank_is : {places : List ℕ} {q rank : ℕ} → places ≡ tab 256 (used_below ws) → q ≡ modulus_at circuit.wires w → q ≤ 255 → rank ≡ get_or places q 0
+    pub rank_is : {places : List ℕ} {q rank : ℕ} → places ≡ tab 256 (used_below ws) → q ≡ modulus_at circuit.wires w → rank ≡ get_or places q 0
         → rank ≡ used_below ws (modulus_at ws w)
-    rank_is {places} {q} {rank} e k l r =
+    rank_is {places} {q} {rank} e k r =
+        let l : q < 256 = omega (arith, k, same, fit.byte w h) in
         r
         ∙ ap (λ (xs : List ℕ). get_or xs q 0) e
-        ∙ get_or-tab 256 (used_below ws) q 0 (omega arith)
+        ∙ get_or-tab 256 (used_below ws) q 0 l
         ∙ ap (used_below ws) (k ∙ sym same)
 
     pub zero-inside : {used : ℕ} → used ≡ moduli_used ws → K * used + (K + 1) * w + K ≤ length contribution
@@ -148,133 +146,114 @@ module _ {circuit : Circuit} {K : ℕ} {contribution externals : List ℕ} {byte
         ∙ ap₂ (λ (a b : ℕ). key_v (modulus_at ws w) (part contribution (K * a + (K + 1) * w) K) (get_or externals w 0) (part contribution (K * b) K)) u r
         ∙ key-is
 
--- ---- 15 to 17
-
-pub contents_met : (K : ℕ) (wires : List Wire) (contribution externals : List ℕ) {values bytes offsets second first : Answer}
-    → values ≡ values_checked externals (modulus_at wires) → bytes ≡ contributions_checked 1 K wires contribution → offsets ≡ offsets_checked 1 K wires contribution
-    → second ≡ and_then bytes offsets → first ≡ and_then values second → first ≡ input_keys_bytes K wires contribution externals
-contents_met K wires contribution externals v b o e f = stage_followed v (stage_followed b o e) f
-
--- ---- 14, and then those
+-- ---- 14, and then 15 to 17
 
 module _ {circuit : Circuit} (held : Held circuit) {K : ℕ} (most : K ≤ 128) (contribution externals : List ℕ) (bytes : ℕ) {size : ℕ}
-    (c : Counts 429056 (contribution_size K (wires_in circuit)) size) {answer : Answer}
-    (m : answer ≡ lengths_checked (length contribution ∷ length externals ∷ bytes ∷ []) (size ∷ circuit.inputs ∷ circuit.inputs * K ∷ [])) where
+    (c : Counts 429056 (contribution_size K (wires_in circuit)) size) where
   abbrev rest : Answer
   rest = input_keys_bytes K (wires_in circuit) contribution externals
 
   abbrev lent : List ℕ
   lent = length contribution ∷ length externals ∷ bytes ∷ []
 
-  lengths_met : answer ≡ lengths_checked lent (contribution_size K (wires_in circuit) ∷ inputs_in (wires_in circuit) ∷ inputs_in (wires_in circuit) * K ∷ [])
-  lengths_met =
+  pub keys-lengths : {answer : Answer} → answer ≡ lengths_checked lent (size ∷ circuit.inputs ∷ circuit.inputs * K ∷ [])
+      → answer ≡ lengths_checked lent (contribution_size K (wires_in circuit) ∷ inputs_in (wires_in circuit) ∷ inputs_in (wires_in circuit) * K ∷ [])
+  keys-lengths m =
       m ∙ ap (lengths_checked lent) (ap₂ (λ (a b : ℕ). a ∷ b ∷ b * K ∷ []) c.is held.inputs)
 
-  pub keys-lent : answer ≡ Accepted → KeysLent circuit K contribution externals
-  keys-lent e =
+  pub keys-lent : {answer : Answer} → answer ≡ lengths_checked lent (size ∷ circuit.inputs ∷ circuit.inputs * K ∷ []) → answer ≡ accepts
+      → KeysLent circuit K contribution externals
+  keys-lent m e =
       let same = lent_is _ _ (sym m ∙ e) in record { held = held; most = most; contribution_length = same 0 ∙ c.is; externals_length = same 1 }
-
-  pub keys-next : answer ≡ Accepted → {r : Answer} → r ≡ rest → r ≡ input_keys_lent K (wires_in circuit) contribution externals bytes
-  keys-next e n = stage_next lengths_met e n
-
-  pub keys_stop : {reason : Refusal} {place : ℕ} → answer ≡ Refused reason place → Refused reason place ≡ input_keys_lent K (wires_in circuit) contribution externals bytes
-  keys_stop e = stage_refused lengths_met rest e
-
--- ---- 12, 13 and 28
-
-pub party_met : (n K party bytes : ℕ) (wires : List Wire) (contribution externals named : List ℕ) {lent present asked second first : Answer}
-    → lent ≡ input_keys_lent K wires contribution externals bytes → present ≡ partakers_checked n wires named → second ≡ and_then present lent
-    → asked ≡ party_checked n party → first ≡ and_then asked second → first ≡ input_keys_party K wires contribution externals named n party bytes
-party_met n K party bytes wires contribution externals named l o e p f = stage_followed p (stage_followed o l e) f
 
 -- ---- 11
 
-module _ (n K : ℕ) {long : ℕ} {session : Answer} (m : session ≡ session_checked n K) (k : long ≡ K) where
-  pub session-most : session ≡ Accepted → long ≤ 128
-  session-most e = omega (arith, (session-fits n K (sym m ∙ e)).most)
-
-  module _ (wires : List Wire) (contribution externals named : List ℕ) (party bytes : ℕ) where
-    pub session-next : session ≡ Accepted → {r : Answer} → r ≡ input_keys_party long wires contribution externals named n party bytes → r ≡ input_keys_asked K wires contribution externals named n party bytes
-    session-next e a =
-        stage_next m e (a ∙ ap (λ (j : ℕ). input_keys_party j wires contribution externals named n party bytes) k)
-
-    pub session_stop : {reason : Refusal} {place : ℕ} → session ≡ Refused reason place → Refused reason place ≡ input_keys_asked K wires contribution externals named n party bytes
-    session_stop e = stage_refused m (input_keys_party K wires contribution externals named n party bytes) e
+pub session-most : (n K : ℕ) {session : Answer} → session ≡ session_checked n K → session ≡ accepts → K ≤ 128
+session-most n K m e = (session-fits n K (sym m ∙ e)).most
 
 -- ---- the whole call
 
-module _ {reading : Reading} (file : List ℕ) (n K party : ℕ) (contribution externals before : List ℕ) (h : Holds reading (read_file file)) {check answer : Answer}
-    (checked : check ≡ input_keys_asked K (wires_in reading.circuit) contribution externals (named_in reading.circuit) n party (length before))
-    (joined : answer ≡ and_then reading.answer check) where
-  abbrev circuit : Circuit
-  circuit = reading.circuit
-
-  abbrev wires : List Wire
-  wires = wires_in reading.circuit
-
-  met : answer ≡ input_keys_checked file n K party contribution externals before
-  unfolding input_keys_checked
-  met =
-      read_met file h check joined
-      (checked ∙ ap₂ (λ (w : List Wire) (s : List ℕ). input_keys_asked K w contribution externals s n party (length before)) h.wires h.named)
-
-  pub call_refused : {reason : Refusal} {place : ℕ} → answer ≡ Refused reason place
-      → InputKeysCall file n K party contribution externals before (number_of reason) place before
+module _ (file : List ℕ) (n K party : ℕ) (contribution externals before : List ℕ) where
+  -- refused
+  pub keys_stopped : {answer : Answer} {why : Refused} → answer ≡ Err why → Err why ≡ input_keys_checked file n K party contribution externals before
+      → InputKeysCall file n K party contribution externals before (number_in answer) (place_in answer) before
   unfolding input_keys_after
-  call_refused e = let d = ends-refused (input_keys_made K (read_file file).wires contribution externals) before met e in record { answer = d.0; keys_is = d.1 }
+  keys_stopped e m =
+      let d = ends-refused (input_keys_made K (read_file file).wires contribution externals) before e m in
+      record { answer = d.0; keys_is = d.1 }
 
-  module _ (e : answer ≡ Accepted) {long : ℕ} (k : long ≡ K) where
-    abbrev lengths : Answer
-    lengths = lengths_checked (length contribution ∷ length externals ∷ length before ∷ []) (contribution_size K wires ∷ inputs_in wires ∷ inputs_in wires * K ∷ [])
+  -- .. by the reader
+  pub keys_unread : {answer : Answer} {why : Refused} → answer ≡ Err why → (read_file file).answer ≡ Err why
+      → InputKeysCall file n K party contribution externals before (number_in answer) (place_in answer) before
+  unfolding input_keys_checked
+  keys_unread e r =
+      keys_stopped e (unread file (input_keys_asked K (read_file file).wires contribution externals (read_file file).named n party (length before)) r)
 
-    abbrev asked : Answer
-    asked = input_keys_party K wires contribution externals (named_in reading.circuit) n party (length before)
+  module _ {circuit : Circuit} (h : Holds circuit (read_file file)) {check : Answer}
+      (checked : check ≡ input_keys_asked K (wires_in circuit) contribution externals (named_in circuit) n party (length before)) where
+    abbrev wires : List Wire
+    wires = wires_in circuit
 
-    abbrev present : Answer
-    present = partakers_checked n wires (named_in reading.circuit)
+    met : check ≡ input_keys_checked file n K party contribution externals before
+    unfolding input_keys_checked
+    met =
+        behind_file file (input_keys_asked K (read_file file).wires contribution externals (read_file file).named n party (length before)) h
+        (checked ∙ ap₂ (λ (w : List Wire) (s : List ℕ). input_keys_asked K w contribution externals s n party (length before)) h.wires h.named)
 
-    all : input_keys_asked K wires contribution externals (named_in reading.circuit) n party (length before) ≡ Accepted
-    all = sym checked ∙ check-accepted file h check joined e
+    -- .. by what comes behind it
+    pub keys_refused : {answer : Answer} {why : Refused} → answer ≡ Err why → check ≡ Err why
+        → InputKeysCall file n K party contribution externals before (number_in answer) (place_in answer) before
+    keys_refused e r = keys_stopped e (sym r ∙ met)
 
-    given : input_keys_lent K wires contribution externals (length before) ≡ Accepted
-    given =
-        and_then-right present (input_keys_lent K wires contribution externals (length before))
-        (and_then-right (party_checked n party) (and_then present (input_keys_lent K wires contribution externals (length before)))
-        (and_then-right (session_checked n K) asked all))
+    module _ (e : check ≡ accepts) where
+      abbrev lengths : Answer
+      lengths = lengths_checked (length contribution ∷ length externals ∷ length before ∷ []) (contribution_size K wires ∷ inputs_in wires ∷ inputs_in wires * K ∷ [])
 
-    lengths_passed : lengths ≡ Accepted
-    lengths_passed = and_then-left lengths (input_keys_bytes K wires contribution externals) given
+      abbrev asked : Answer
+      asked = input_keys_party K wires contribution externals (named_in circuit) n party (length before)
 
-    accepted : AcceptedCircuit file (wires_in reading.circuit) (outputs_in reading.circuit)
-    accepted = circuit-accepted file h check joined e
+      abbrev present : Answer
+      present = partakers_checked n wires (named_in circuit)
 
-    count : circuit.inputs ≡ inputs_in wires
-    count = (held_of h).inputs
+      all : input_keys_asked K wires contribution externals (named_in circuit) n party (length before) ≡ accepts
+      all = sym checked ∙ e
 
-    inside : (w : ℕ) → w < circuit.inputs → w < length wires
-    inside w l = omega (arith, inputs-made (held_of h), made-is (held_of h))
+      given : input_keys_lent K wires contribution externals (length before) ≡ accepts
+      given =
+          and_then-right present (input_keys_lent K wires contribution externals (length before))
+          (and_then-right (party_checked n party) (and_then present (input_keys_lent K wires contribution externals (length before)))
+          (and_then-right (session_checked n K) asked all))
 
-    fit : KeysFit reading.circuit K contribution externals (length before)
-    fit =
-        record {
-          lent = record {
-            held = held_of h;
-            most = (session-fits n K (and_then-left (session_checked n K) asked all)).most;
-            contribution_length = lent_is _ _ lengths_passed 0;
-            externals_length = lent_is _ _ lengths_passed 1 ∙ sym count;
-          };
-          size = lent_is _ _ lengths_passed 2 ∙ ap (λ (m : ℕ). m * K) (sym count);
-          positive = λ w l. omega (arith, (is_prime→Prime (modulus_at wires w) (accepted.fits w (inside w l)).prime).two);
-          byte = λ w l. (accepted.fits w (inside w l)).byte;
-          recorded = λ w l. one_key (wire_at wires w) (accepted.inputs_first w (inside w l) ∙ lt-ltb w (inputs_in wires) (omega (arith, count)));
-        }
+      lengths_passed : lengths ≡ accepts
+      lengths_passed = and_then-left lengths (input_keys_bytes K wires contribution externals) given
 
-    pub keys_fit : KeysFit reading.circuit long contribution externals (length before)
-    keys_fit = subst (λ (j : ℕ). KeysFit reading.circuit j contribution externals (length before)) (sym k) fit
+      fits : AcceptedCircuit file (wires_in circuit) (outputs_in circuit)
+      fits = circuit-accepted file h
 
-    pub call_written : {out : List ℕ} → out ≡ input_keys_made long wires contribution externals
-        → InputKeysCall file n K party contribution externals before 0 0 out
-    unfolding input_keys_after
-    call_written o =
-        let d = ends-written before met e (o ∙ ap₂ (λ (j : ℕ) (w : List Wire). input_keys_made j w contribution externals) k h.wires) in
-        record { answer = d.0; keys_is = d.1 }
+      count : circuit.inputs ≡ inputs_in wires
+      count = (held_of h).inputs
+
+      inside : (w : ℕ) → w < circuit.inputs → w < length wires
+      inside w l = omega (arith, inputs-made (held_of h), made-is (held_of h))
+
+      pub keys_fit : KeysFit circuit K contribution externals (length before)
+      keys_fit =
+          record {
+            lent = record {
+              held = held_of h;
+              most = (session-fits n K (and_then-left (session_checked n K) asked all)).most;
+              contribution_length = lent_is _ _ lengths_passed 0;
+              externals_length = lent_is _ _ lengths_passed 1 ∙ sym count;
+            };
+            size = lent_is _ _ lengths_passed 2 ∙ ap (λ (m : ℕ). m * K) (sym count);
+            positive = λ w l. omega (arith, (is_prime→Prime (modulus_at wires w) (fits.fits w (inside w l)).prime).two);
+            byte = λ w l. (fits.fits w (inside w l)).byte;
+            recorded = λ w l. one_key (wire_at wires w) (fits.inputs_first w (inside w l) ∙ lt-ltb w (inputs_in wires) (omega (arith, count)));
+          }
+
+      pub keys-written : {out : List ℕ} → out ≡ input_keys_made K wires contribution externals
+          → InputKeysCall file n K party contribution externals before 0 0 out
+      unfolding input_keys_after
+      keys-written o =
+          let d = ends-written before (sym met ∙ e) (o ∙ ap (λ (w : List Wire). input_keys_made K w contribution externals) h.wires) in
+          record { answer = d.0; keys_is = d.1 }

@@ -7,34 +7,21 @@ use Prim.Native.Nat.{ℕ, zero, suc, max, ◌≤◌, ◌<◌}
 use native.Mathlib.Nat.{max-eq_left, le_refl}
 use native.Mathlib.Decide.{dec_lt}
 use native.Mathlib.Omega.{arith}
-use borrow.Author.Tests.{lt-ltb, le-ltb, ltb-true}
+use borrow.Author.Tests.{lt-ltb, ltb-true}
 use lib.Dec.{ltb, leb}
 use lib.ListN.{length, get_or, replicate}
 use Rattle.lists.specs.First.{first}
+use Rattle.lists.proofs.Search.{Looking, looking_found, looking_none}
 use Rattle.lists.proofs.First.{first-at, first_none, first-before, first-here}
-use Rattle.checks.specs.declared.Answer.{Answer}
 use Rattle.checks.specs.declared.Refusal.{Refusal}
 use Rattle.checks.specs.declared.Refusal.TheVariants.{ValueTooLarge}
 use Rattle.checks.specs.Checked.{none_bad, named}
-use Rattle.checks.proofs.Answers.{none_bad-found}
+use Rattle.checks.proofs.Answers.{named_past, named-found, none_bad-found}
 use Rattle.circuit.specs.Named.{readable}
 use Rattle.circuit.proofs.Allowed.{everyone_may}
 use Rattle.session.specs.Session.{too_large}
 use Rattle.party_calls.specs.Either.{bad_at, bad_read, either_bad, either_checked}
-
-module _ (xs ps : List ℕ) (i : ℕ) where
-  pub bad_inside : i < length xs → leb (get_or ps i 0) (get_or xs i 0) ≡ bad_at xs ps i
-  bad_inside h = rw (lt-ltb i (length xs) h)
-
-  pub bad_past : length xs ≤ i → false ≡ bad_at xs ps i
-  bad_past h = rw (le-ltb i (length xs) h)
-
-  module _ (named : List ℕ) (party : ℕ) where
-    pub read_inside : i < length xs → {may : Bool} → may ≡ readable named party i → (may && leb (get_or ps i 0) (get_or xs i 0)) ≡ bad_read xs ps named party i
-    read_inside h e = rw (lt-ltb i (length xs) h, e) refl
-
-    pub read_past : length xs ≤ i → false ≡ bad_read xs ps named party i
-    read_past h = rw (le-ltb i (length xs) h)
+use Rattle.checks.specs.Answer.{accepts, refuses}
 
 pub or_left : {a : Bool} (b : Bool) → a ≡ true → (a || b) ≡ true
 or_left b e = rw e
@@ -43,12 +30,21 @@ pub or_right : (a : Bool) {b : Bool} → b ≡ true → (a || b) ≡ true
 or_right true e = refl
 or_right false e = e
 
-pub either_met : (xs ps ys qs readers : List ℕ) (party : ℕ) {n found : ℕ} {answer : Answer} → n ≡ max (length xs) (length ys)
-    → found ≡ first n (either_bad xs ps ys qs readers party) → answer ≡ named n found ValueTooLarge → answer ≡ either_checked xs ps ys qs readers party
-unfolding either_checked
-either_met xs ps ys qs readers party {n} k e f =
-    none_bad-found n (either_bad xs ps ys qs readers party) ValueTooLarge e f
-    ∙ ap (λ (m : ℕ). none_bad m (either_bad xs ps ys qs readers party) ValueTooLarge) k
+-- the loop that looks for the lowest index: refused there, or accepted past all
+module _ (xs ps ys qs readers : List ℕ) (party : ℕ) where
+  abbrev some_bad : ℕ → Bool
+  some_bad = either_bad xs ps ys qs readers party
+
+  abbrev longer : ℕ
+  longer = max (length xs) (length ys)
+
+  pub either_found : {i : ℕ} → Looking longer some_bad i → i < longer → some_bad i ≡ true → refuses ValueTooLarge i ≡ either_checked xs ps ys qs readers party
+  unfolding either_checked
+  either_found {i} r h e = none_bad-found longer some_bad ValueTooLarge (looking_found r h e) (sym (named-found longer i ValueTooLarge h))
+
+  pub either_none : {i : ℕ} → Looking longer some_bad i → longer ≤ i → accepts ≡ either_checked xs ps ys qs readers party
+  unfolding either_checked
+  either_none {i} r h = none_bad-found longer some_bad ValueTooLarge (looking_none r h) (sym (named_past longer i ValueTooLarge h))
 
 -- a test that is the same of every number below n finds the same
 module _ (n : ℕ) (f g : ℕ → Bool) (same : (i : ℕ) → i < n → f i ≡ g i) where

@@ -1,14 +1,13 @@
--- Decoding on a circuit of the code, by a party: what its check of the bytes and writing the results rest on, and what it comes to behind earlier checks.
+-- Decoding on a circuit of the code, by a party: what its check of the bytes and writing the results rest on, and what it comes to.
 -- Assumes nothing.
 use Rattle.std.specs.Prelude.{◌≡◌, true, List, ℕ, ◌<◌, length, get_or}
-use Rattle.checks.specs.declared.Answer.{Answer}
-use Rattle.checks.specs.declared.Answer.TheVariants.{Accepted}
-use Rattle.checks.specs.Checked.{and_then, afterwards}
+use Rattle.checks.specs.Checked.{afterwards}
 use Rattle.circuit.specs.declared.Circuit.{Circuit}
 use Rattle.circuit.specs.Wires.{modulus_at}
 use Rattle.circuit.specs.Named.{readable}
 use Rattle.circuit.specs.Held.{wires_in, outputs_in, named_in, Held}
 use Rattle.calls.specs.Decode.{decode_bytes, decode_lent, decode_made}
+use Rattle.checks.specs.Answer.{Answer}
 
 -- the definitions, on a circuit of the code
 abbrev pub bytes_by : Circuit → ℕ → List ℕ → List ℕ → Answer
@@ -35,12 +34,12 @@ pub record Decodes (circuit : Circuit) (party : ℕ) (externals masks : List ℕ
   pub mask : (i : ℕ) → i < circuit.given → readable (named_in circuit) party i ≡ true
       → get_or masks i 0 < modulus_at (wires_in circuit) (get_or (outputs_in circuit) i 0)
 
--- where the earlier checks accept, each output is a wire
-pub record Ready (circuit : Circuit) (earlier : Answer) : Type 0 where
+-- each output is a wire
+pub record Ready (circuit : Circuit) : Type 0 where
   pub held : Held circuit
-  pub made : earlier ≡ Accepted → (i : ℕ) → i < circuit.given → get_or (outputs_in circuit) i 0 < circuit.made
+  pub made : (i : ℕ) → i < circuit.given → get_or (outputs_in circuit) i 0 < circuit.made
 
 -- the answer, and what the bytes lent for the results hold afterwards
-pub record Decoded (circuit : Circuit) (party : ℕ) (earlier : Answer) (externals masks before : List ℕ) (answer : Answer) (results : List ℕ) : Type 0 where
-  pub answer_is : answer ≡ and_then earlier (lent_by circuit party externals masks (length before))
+pub record Decoded (circuit : Circuit) (party : ℕ) (externals masks before : List ℕ) (answer : Answer) (results : List ℕ) : Type 0 where
+  pub answer_is : answer ≡ lent_by circuit party externals masks (length before)
   pub results_is : results ≡ afterwards answer (made_by circuit party externals masks) before

@@ -3,10 +3,10 @@
 -- Assumes nothing.
 use Rattle.std.specs.Prelude.{Bool, ◌&&◌, ◌||◌, List, ℕ, max, ◌≤◌, ltb, length, get_or}
 use Rattle.checks.specs.declared.Refusal.TheVariants.{ValueTooLarge}
-use Rattle.checks.specs.declared.Answer.{Answer}
 use Rattle.checks.specs.Checked.{none_bad}
 use Rattle.circuit.specs.Named.{readable}
 use Rattle.session.specs.Session.{too_large}
+use Rattle.checks.specs.Answer.{Answer}
 
 -- a buffer has an entry at an index, and it is not below its modulus
 abbrev pub bad_at : List ℕ → List ℕ → ℕ → Bool

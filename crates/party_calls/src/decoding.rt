@@ -3,18 +3,17 @@
 ghost use Rattle.std.specs.Prelude.{◌≡◌, true, cond, ◌<◌, length};
 ghost use Rattle.residue.specs.Residue.{sub};
 ghost use Rattle.checks.specs.Answer.{number_in, place_in};
-ghost use Rattle.circuit.specs.File.{read_file};
-ghost use Rattle.circuit.specs.Held.{Held, Holds};
+ghost use Rattle.circuit.specs.Held.{Held};
 ghost use Rattle.calls.specs.Decode.{DecodeCall};
 ghost use Rattle.party_calls.specs.Decoding.{bytes_by, lent_by, made_by, Masked, Decodes, Ready, Decoded};
 
 use super::either::either_checked;
-use super::tables::{output_moduli, place_of};
-use checks::{Answer, followed};
-use circuit::{Circuit, Reading, may_read, read};
+use super::tables::output_moduli;
+use checks::Answer;
+use circuit::{Circuit, may_read, read};
 use counts::moduli;
 use residue::sub;
-use session::{length_checked, partakers_checked, parties_checked, party_checked};
+use session::{lengths_checked, partakers_checked, parties_checked, party_checked};
 
 // Each external value below its wire's modulus, each mask that the party may read below that of its output's wire.
 fn masks_checked(circuit: Circuit, party: u32, externals: &[u8], masks: &[u8]) -> Answer
@@ -38,16 +37,11 @@ fn lent_checked(
     requires { Held circuit }
     ensures { result ≡ lent_by circuit party externals.now masks.now bytes }
 {
-    let made = circuit.made;
-    let given = circuit.given;
-    let values = length_checked(externals.len(), made);
-    let hidden = length_checked(masks.len(), given);
-    let results = length_checked(bytes, given);
-    let lengths = followed(values, followed(hidden, results));
-    match lengths {
-        Answer::Accepted => masks_checked(circuit, party, externals, masks),
-        Answer::Refused(reason, place) => Answer::Refused(reason, place),
-    }
+    lengths_checked(
+        &[externals.len(), masks.len(), bytes],
+        &[circuit.made, circuit.given, circuit.given],
+    )?;
+    masks_checked(circuit, party, externals, masks)
 }
 
 // What is shown of an output: its external value less its mask, and 255, which is no value, to a party that may not read it.
@@ -64,60 +58,28 @@ fn put_decoded(circuit: Circuit, party: u32, externals: &[u8], masks: &[u8], res
     ensures { results.new ≡ made_by circuit party externals.now masks.now }
 {
     let table = output_moduli(circuit);
-    let given = circuit.given;
-    let mut i = 0;
-    while i < given {
+    for i in 0..circuit.given {
         let p = table[i];
-        let at = place_of(circuit.outputs[i]);
+        let at = usize::from(circuit.outputs[i]);
         let may = may_read(circuit.named[i], party);
         results[i] = shown(may, p, externals[at], masks[i]);
-        i += 1;
     }
 }
 
-// What the outputs stand for, to a party, unless an earlier check refused. Of a circuit that names nobody everyone may read all outputs.
+// What the outputs stand for, to a party, where all earlier checks accept. Of a circuit that names nobody everyone may read all outputs.
 pub fn decode_behind(
-    earlier: Answer,
     circuit: Circuit,
     party: u32,
     externals: &[u8],
     masks: &[u8],
     results: &mut [u8],
 ) -> Answer
-    requires { Ready circuit earlier }
-    ensures { Decoded circuit party earlier externals.now masks.now results.old result results.new }
+    requires { Ready circuit }
+    ensures { Decoded circuit party externals.now masks.now results.old result results.new }
 {
-    let bytes = results.len();
-    let lent = lent_checked(circuit, party, externals, masks, bytes);
-    let answer = followed(earlier, lent);
-    match answer {
-        Answer::Accepted => {
-            put_decoded(circuit, party, externals, masks, results);
-            Answer::Accepted
-        }
-        Answer::Refused(reason, place) => Answer::Refused(reason, place),
-    }
-}
-
-// The call, once the file is read.
-fn decode_read(
-    reading: Reading,
-    file: &[u8],
-    n: u32,
-    party: u32,
-    externals: &[u8],
-    masks: &[u8],
-    results: &mut [u8],
-) -> Answer
-    requires { Holds reading (read_file file.now) }
-    ensures { DecodeCall file.now n party externals.now masks.now results.old (number_in result) (place_in result) results.new }
-{
-    let read = reading.answer;
-    let circuit = reading.circuit;
-    let present = partakers_checked(circuit, n);
-    let asked = followed(party_checked(n, party), present);
-    let earlier = followed(read, followed(parties_checked(n), asked));
-    decode_behind(earlier, circuit, party, externals, masks, results)
+    lent_checked(circuit, party, externals, masks, results.len())?;
+    put_decoded(circuit, party, externals, masks, results);
+    Ok(())
 }
 
 // What the outputs stand for to a party: one byte for each, 255 for those that it may not read. Refused or not, the contract gives the answer and every byte of
@@ -132,6 +94,9 @@ pub fn decode(
 ) -> Answer
     ensures { DecodeCall file.now n party externals.now masks.now results.old (number_in result) (place_in result) results.new }
 {
-    let reading = read(file);
-    decode_read(reading, file, n, party, externals, masks, results)
+    let circuit = read(file)?;
+    parties_checked(n)?;
+    party_checked(n, party)?;
+    partakers_checked(circuit, n)?;
+    decode_behind(circuit, party, externals, masks, results)
 }

@@ -13,4 +13,3 @@ mod tables;
 pub use decoding::{decode, decode_behind};
 pub use keys::{input_keys, put_keys};
 pub use masking::externals;
-pub use tables::counted;

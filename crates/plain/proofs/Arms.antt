@@ -1,11 +1,9 @@
 -- What each arm of a match on a gate goes by.
 -- Assumes nothing.
-use mathlib.Core.Path.{◌≡◌, sym, ap, subst, ◌∙◌}
+use mathlib.Core.Path.{◌≡◌, subst}
 use mathlib.Core.List.{List}
 use Prim.Native.Nat.{ℕ, ◌*◌, ◌<◌}
 use native.Mathlib.Omega.{arith}
-use borrow.Author.Tests.{eq-eqb, ne_eqb}
-use lib.Dec.{eqb}
 use lib.ListN.{length, get_or}
 use Rattle.words.specs.Bits.{image, word_at}
 use Rattle.words.specs.declared.gate.Owned.{Owned}
@@ -15,18 +13,11 @@ use Rattle.words.specs.declared.gate.Projection.{Projection}
 use Rattle.words.specs.declared.gate.Choice.{Choice}
 use Rattle.words.specs.declared.gate.Gate.{Gate}
 use Rattle.words.specs.declared.gate.Gate.TheVariants.{Input, Add, Scale, Multiply, Project, Select}
-use Rattle.plain.specs.Plain.{chosen_by, plain_by}
 use Rattle.plain.specs.Ready.{Below, PairReady, ProjectionReady, ChoiceReady, Ready}
 
 -- the first byte of a word is its bits 7 to 0
 pub image-byte : (file : List ℕ) (i : ℕ) → get_or file (4 * i) 0 < 256 → get_or file (4 * i) 0 ≡ image (word_at file i)
 image-byte file i h = omega arith
-
-pub choose_first : (bit a b : ℕ) → bit ≡ 0 → a ≡ chosen_by (eqb bit 0) a b
-choose_first bit a b e = rw (eq-eqb bit 0 e)
-
-pub choose_second : (bit a b : ℕ) → (bit ≡ 0 → ⊥) → b ≡ chosen_by (eqb bit 0) a b
-choose_second bit a b e = rw (ne_eqb bit 0 e)
 
 -- where the gate is known, so is what its kind rests on
 module _ {file values done : List ℕ} {w p : ℕ} where
@@ -68,6 +59,3 @@ module _ {file values done : List ℕ} {w p : ℕ} where
 
   pub at-select : {gate : Gate} {g : Choice} → gate ≡ Select g → Ready file values done w p gate → ChoiceReady done g
   at-select e r = select_ready (known e r)
-
-pub value_is : (file values : List ℕ) (w p : ℕ) (look : ℕ → ℕ) {gate gate' : Gate} {v : ℕ} → gate ≡ gate' → v ≡ plain_by file values w p gate' look → v ≡ plain_by file values w p gate look
-value_is file values w p look e h = h ∙ sym (ap (λ (g : Gate). plain_by file values w p g look) e)

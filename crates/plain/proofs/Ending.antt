@@ -9,34 +9,29 @@ use lib.ListN.{length, get_or}
 use lib.Seq.{get_or-take}
 use Rattle.lists.specs.Blocks.{tab}
 use Rattle.lists.proofs.Blocks.{tab_ext}
-use Rattle.checks.specs.declared.Answer.{Answer}
-use Rattle.checks.specs.declared.Answer.TheVariants.{Accepted, Refused}
-use Rattle.checks.specs.declared.Refusal.{Refusal}
 use Rattle.checks.specs.declared.Refusal.TheVariants.{ValueTooLarge}
-use Rattle.checks.specs.Answer.{number_of}
-use Rattle.checks.specs.Checked.{and_then}
+use Rattle.checks.specs.Answer.{Answer, accepts, number_in, place_in}
 use Rattle.checks.proofs.Passed.{and_then-left, and_then-right, none_bad_none, afterwards_passed}
-use Rattle.checks.proofs.Answers.{afterwards-refused, reports, and_then_stop, and_then-next}
+use Rattle.checks.proofs.Answers.{afterwards-refused, reports, and_then_stop, and_then-next, stage_refused, stage_passed}
 use Rattle.words.specs.declared.gate.Wire.{Wire}
 use Rattle.circuit.specs.declared.Circuit.{Circuit}
-use Rattle.circuit.specs.declared.Reading.{Reading}
 use Rattle.circuit.specs.Wires.{modulus_at, inputs_in}
 use Rattle.circuit.specs.File.{read_file}
 use Rattle.circuit.specs.Held.{wires_in, outputs_in, Held, Holds}
 use Rattle.circuit.proofs.Accepted.{accepted}
-use Rattle.session.specs.Session.{file_checked, lengths_checked, too_large, values_checked}
+use Rattle.session.specs.Session.{lengths_checked, too_large, values_checked}
 use Rattle.session.proofs.Sessions.{lengths_same}
-use Rattle.session.proofs.LentLengths.{lengths_met}
 use Rattle.session.proofs.Circuits.{held_of, made-is, given_is, inputs-made}
 use Rattle.plain.specs.Plain.{plain_to, plain_values, plain_outputs}
 use Rattle.plain.specs.Call.{fed_checked, plain_checked, plain_after, PlainCall}
 use Rattle.plain.specs.Ready.{Fed, Feeds, Done, Gives}
+use Rattle.std.specs.Prelude.{Err}
+use Rattle.checks.specs.declared.Refused.{Refused}
 
 -- ---- the checks after reading
 
-module _ {circuit : Circuit} (held : Held circuit) (values : List ℕ) (bytes : ℕ) {inputs given lent : Answer}
-    (one : inputs ≡ lengths_checked (length values ∷ []) (circuit.inputs ∷ [])) (two : given ≡ lengths_checked (bytes ∷ []) (circuit.given ∷ []))
-    (joined : lent ≡ and_then inputs given) where
+module _ {circuit : Circuit} (held : Held circuit) (values : List ℕ) (bytes : ℕ) {lent : Answer}
+    (checked : lent ≡ lengths_checked (length values ∷ bytes ∷ []) (circuit.inputs ∷ circuit.given ∷ [])) where
   abbrev wires : List Wire
   wires = wires_in circuit
 
@@ -47,101 +42,91 @@ module _ {circuit : Circuit} (held : Held circuit) (values : List ℕ) (bytes : 
   rest = values_checked values (modulus_at wires)
 
   lent_met : lent ≡ lengths_checked (length values ∷ bytes ∷ []) (inputs_in wires ∷ length outputs ∷ [])
-  lent_met =
-      lengths_met (length values) circuit.inputs (bytes ∷ []) (circuit.given ∷ []) one two joined
-      ∙ ap (lengths_checked (length values ∷ bytes ∷ [])) (ap₂ (λ (a b : ℕ). a ∷ b ∷ []) held.inputs (sym (given_is held)))
+  lent_met = checked ∙ ap (lengths_checked (length values ∷ bytes ∷ [])) (ap₂ (λ (a b : ℕ). a ∷ b ∷ []) held.inputs (sym (given_is held)))
 
-  pub lent-stops : {reason : Refusal} {place : ℕ} → lent ≡ Refused reason place → Refused reason place ≡ fed_checked wires outputs values bytes
-  lent-stops e = and_then_stop rest (sym lent_met ∙ e)
+  pub lent-stops : {why : Refused} → lent ≡ Err why → Err why ≡ fed_checked wires outputs values bytes
+  lent-stops e = stage_refused lent_met rest e
 
-  module _ (e : lent ≡ Accepted) where
-    lengths_right : lengths_checked (length values ∷ bytes ∷ []) (inputs_in wires ∷ length outputs ∷ []) ≡ Accepted
-    lengths_right = sym lent_met ∙ e
-
+  module _ (e : lent ≡ accepts) where
     pub values_fit : length values ≤ circuit.made
-    values_fit = omega (arith, ap (λ (l : List ℕ). get_or l 0 0) (lengths_same _ _ lengths_right), held.inputs, inputs-made held)
+    values_fit =
+        omega (arith, ap (λ (l : List ℕ). get_or l 0 0) (lengths_same _ _ (sym checked ∙ e)), held.inputs, inputs-made held)
 
     pub values-left : {answer : Answer} → answer ≡ rest → answer ≡ fed_checked wires outputs values bytes
-    values-left m = m ∙ sym (and_then-next rest lengths_right)
+    values-left m = stage_passed lent_met e m
 
 -- ---- the whole call: the reader's answer, and then that of the checks after it
 
-module _ {reading : Reading} (file values before : List ℕ) (h : Holds reading (read_file file)) {check answer : Answer}
-    (checked : check ≡ fed_checked (wires_in reading.circuit) (outputs_in reading.circuit) values (length before))
-    (joined : answer ≡ and_then reading.answer check) where
-  abbrev ws : List Wire
-  ws = wires_in reading.circuit
+module _ (file values before : List ℕ) where
+  -- what is checked of the circuit that the definition reads
+  abbrev fed : Answer
+  fed = fed_checked (read_file file).wires (read_file file).outputs values (length before)
 
-  abbrev os : List ℕ
-  os = outputs_in reading.circuit
-
-  pub call_met : answer ≡ plain_checked file values before
+  pub unread : {why : Refused} → (read_file file).answer ≡ Err why → plain_checked file values before ≡ Err why
   unfolding plain_checked
-  call_met =
-      joined
-      ∙ ap₂ and_then h.answer
-      (checked ∙ ap₂ (λ (w : List Wire) (o : List ℕ). fed_checked w o values (length before)) h.wires h.outputs)
-
-  module _ (e : answer ≡ Accepted) where
-    all : plain_checked file values before ≡ Accepted
-    all = sym call_met ∙ e
-
-    fed_passed : fed_checked (read_file file).wires (read_file file).outputs values (length before) ≡ Accepted
-    unfolding plain_checked
-    fed_passed = and_then-right (file_checked file) (fed_checked (read_file file).wires (read_file file).outputs values (length before)) all
-
-    read_accepted : (read_file file).answer ≡ Accepted
-    unfolding plain_checked
-    read_accepted = and_then-left (file_checked file) (fed_checked (read_file file).wires (read_file file).outputs values (length before)) all
-
-    lengths : (length values ∷ length before ∷ []) ≡ (inputs_in (read_file file).wires ∷ length (read_file file).outputs ∷ [])
-    lengths = lengths_same _ _ (and_then-left (lengths_checked (length values ∷ length before ∷ []) (inputs_in (read_file file).wires ∷ length (read_file file).outputs ∷ [])) (values_checked values (modulus_at (read_file file).wires)) fed_passed)
-
-    size : length values ≡ inputs_in (read_file file).wires
-    size = ap (λ (l : List ℕ). get_or l 0 0) lengths
-
-    room : length before ≡ length (read_file file).outputs
-    room = ap (λ (l : List ℕ). get_or l 1 0) lengths
-
-    small : (i : ℕ) → i < length values → get_or values i 0 < modulus_at (read_file file).wires i
-    unfolding values_checked
-    small i l =
-        leb-false (modulus_at (read_file file).wires i) (get_or values i 0)
-        (none_bad_none (length values) (too_large values (modulus_at (read_file file).wires)) ValueTooLarge
-        (and_then-right (lengths_checked (length values ∷ length before ∷ []) (inputs_in (read_file file).wires ∷ length (read_file file).outputs ∷ [])) (values_checked values (modulus_at (read_file file).wires)) fed_passed) i l)
-
-    fed_read : Fed file (read_file file).wires (read_file file).outputs values
-    fed_read = record { accepted = accepted file read_accepted; size = size; below = λ i l. small i (omega (arith, size)) }
-
-    pub feeds_of : Feeds file reading.circuit values (length before)
-    feeds_of =
-        record {
-          held = held_of h;
-          fed =
-              subst (λ (w : List Wire). Fed file w os values) (sym h.wires)
-              (subst (λ (o : List ℕ). Fed file (read_file file).wires o values) (sym h.outputs) fed_read);
-          size = room ∙ sym h.given;
-        }
-
-    -- accepted: the outputs are written
-    pub ends-written : {out : List ℕ} → out ≡ plain_outputs file ws os values → PlainCall file values before 0 0 out
-    unfolding plain_after
-    ends-written o =
-        record {
-          answer = reports (sym e ∙ call_met);
-          results_is =
-              o ∙ ap₂ (λ (w : List Wire) (p : List ℕ). plain_outputs file w p values) h.wires h.outputs
-              ∙ sym (afterwards_passed all (plain_outputs file (read_file file).wires (read_file file).outputs values) before);
-        }
+  unread e = sym (and_then_stop fed e)
 
   -- refused: the buffer is as it was
-  pub ends-refused : {reason : Refusal} {place : ℕ} → answer ≡ Refused reason place → PlainCall file values before (number_of reason) place before
+  pub ends-refused : {answer : Answer} {why : Refused} → answer ≡ Err why → plain_checked file values before ≡ Err why → PlainCall file values before (number_in answer) (place_in answer) before
   unfolding plain_after
-  ends-refused e =
+  ends-refused e m =
       record {
-        answer = reports (sym e ∙ call_met);
-        results_is = afterwards-refused (sym call_met ∙ e) (plain_outputs file (read_file file).wires (read_file file).outputs values) before;
+        answer = reports (e ∙ sym m);
+        results_is = afterwards-refused m (plain_outputs file (read_file file).wires (read_file file).outputs values) before;
       }
+
+  module _ {circuit : Circuit} (h : Holds circuit (read_file file)) {check : Answer}
+      (checked : check ≡ fed_checked (wires_in circuit) (outputs_in circuit) values (length before)) where
+    fed_met : check ≡ fed
+    fed_met = checked ∙ ap₂ (λ (w : List Wire) (o : List ℕ). fed_checked w o values (length before)) h.wires h.outputs
+
+    pub call_met : plain_checked file values before ≡ check
+    unfolding plain_checked
+    call_met = and_then-next fed h.accepted ∙ sym fed_met
+
+    module _ (e : check ≡ accepts) where
+      fed_passed : fed ≡ accepts
+      fed_passed = sym fed_met ∙ e
+
+      lengths : (length values ∷ length before ∷ []) ≡ (inputs_in (read_file file).wires ∷ length (read_file file).outputs ∷ [])
+      lengths = lengths_same _ _ (and_then-left (lengths_checked (length values ∷ length before ∷ []) (inputs_in (read_file file).wires ∷ length (read_file file).outputs ∷ [])) (values_checked values (modulus_at (read_file file).wires)) fed_passed)
+
+      size : length values ≡ inputs_in (read_file file).wires
+      size = ap (λ (l : List ℕ). get_or l 0 0) lengths
+
+      room : length before ≡ length (read_file file).outputs
+      room = ap (λ (l : List ℕ). get_or l 1 0) lengths
+
+      small : (i : ℕ) → i < length values → get_or values i 0 < modulus_at (read_file file).wires i
+      unfolding values_checked
+      small i l =
+          leb-false (modulus_at (read_file file).wires i) (get_or values i 0)
+          (none_bad_none (length values) (too_large values (modulus_at (read_file file).wires)) ValueTooLarge
+          (and_then-right (lengths_checked (length values ∷ length before ∷ []) (inputs_in (read_file file).wires ∷ length (read_file file).outputs ∷ [])) (values_checked values (modulus_at (read_file file).wires)) fed_passed) i l)
+
+      fed_read : Fed file (read_file file).wires (read_file file).outputs values
+      fed_read = record { accepted = accepted file h.accepted; size = size; below = λ i l. small i (omega (arith, size)) }
+
+      pub feeds_of : Feeds file circuit values (length before)
+      feeds_of =
+          record {
+            held = held_of h;
+            fed =
+                subst (λ (w : List Wire). Fed file w (outputs_in circuit) values) (sym h.wires)
+                (subst (λ (o : List ℕ). Fed file (read_file file).wires o values) (sym h.outputs) fed_read);
+            size = room ∙ sym h.given;
+          }
+
+      -- accepted: the outputs are written
+      pub ends-written : {out : List ℕ} → out ≡ plain_outputs file (wires_in circuit) (outputs_in circuit) values → PlainCall file values before 0 0 out
+      unfolding plain_after
+      ends-written o =
+          record {
+            answer = reports (sym (call_met ∙ e));
+            results_is =
+                o ∙ ap₂ (λ (w : List Wire) (p : List ℕ). plain_outputs file w p values) h.wires h.outputs
+                ∙ sym (afterwards_passed (call_met ∙ e) (plain_outputs file (read_file file).wires (read_file file).outputs values) before);
+          }
 
 -- ---- the outputs
 

@@ -1,13 +1,13 @@
 -- The call for plain evaluation, from all inputs' values, one byte per output (no n, K or party).
 -- Assumes nothing.
 use Rattle.std.specs.Prelude.{◌≡◌, List, [], ◌∷◌, ℕ, length}
-use Rattle.checks.specs.declared.Answer.{Answer}
 use Rattle.checks.specs.Checked.{Reports, and_then, afterwards}
 use Rattle.words.specs.declared.gate.Wire.{Wire}
 use Rattle.circuit.specs.Wires.{modulus_at, inputs_in}
 use Rattle.circuit.specs.File.{read_file}
 use Rattle.session.specs.Session.{file_checked, lengths_checked, values_checked}
 use Rattle.plain.specs.Plain.{plain_outputs}
+use Rattle.checks.specs.Answer.{Answer}
 
 -- the checks after reading, on a buffer of so many bytes: a value for each input and a byte for each output; each value below its modulus
 abbrev pub fed_checked : List Wire → List ℕ → List ℕ → ℕ → Answer

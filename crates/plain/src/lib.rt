@@ -9,3 +9,4 @@ mod values;
 mod wires;
 
 pub use call::plain;
+pub use gate::{scaled, sum};

@@ -1,5 +1,5 @@
 // The values of all wires, and of the outputs among them.
-ghost use Rattle.std.specs.Prelude.{◌≡◌, ◌<◌, length, get_or, replicate};
+ghost use Rattle.std.specs.Prelude.{◌≡◌, ◌<◌, length, get_or};
 ghost use Rattle.plain.specs.Plain.{plain_outputs};
 ghost use Rattle.lists.specs.Blocks.{tab};
 ghost use Rattle.circuit.specs.Held.{wires_in, outputs_in};
@@ -7,27 +7,16 @@ ghost use Rattle.plain.specs.Ready.{Feeds, Done, Gives};
 
 use super::gate::wire_value;
 use circuit::Circuit;
-use lists::wire_index;
-
-fn no_values() -> [u8; 1024]
-    ensures { result ≡ replicate 1024 0 }
-{
-    [0u8; 1024]
-}
+use lists::zeros;
 
 // Each wire's value, in the order of the wires.
 pub fn wire_values(circuit: Circuit, file: &[u8], values: &[u8]) -> [u8; 1024]
     requires { Feeds file.now circuit values.now circuit.given }
     ensures { Done file.now (wires_in circuit) values.now circuit.made result }
 {
-    let mut done = no_values();
-    let made = circuit.made;
-    let mut w = 0;
-    while w < made {
-        let wire = circuit.wires[w];
-        let v = wire_value(wire, w, file, values, &done);
-        done[w] = v;
-        w += 1;
+    let mut done = zeros();
+    for (w, wire) in circuit.wires[..circuit.made].iter().enumerate() {
+        done[w] = wire_value(*wire, w, file, values, &done);
     }
     done
 }
@@ -37,12 +26,8 @@ pub fn put_outputs(circuit: Circuit, done: &[u8], outputs: &mut [u8])
     requires { Gives circuit done.now (length outputs.old) }
     ensures { outputs.new ≡ tab (length (outputs_in circuit)) (λ i. get_or done.now (get_or (outputs_in circuit) i 0) 0) }
 {
-    let given = circuit.given;
-    let mut i = 0;
-    while i < given {
-        let at = wire_index(circuit.outputs[i]);
-        outputs[i] = done[at];
-        i += 1;
+    for (i, wire) in circuit.outputs[..circuit.given].iter().enumerate() {
+        outputs[i] = done[usize::from(*wire)];
     }
 }
 

@@ -4,26 +4,26 @@ use mathlib.Core.Path.{◌≡◌, sym, ap, ◌∙◌}
 use mathlib.Core.List.{List, [], ◌∷◌, ◌++◌}
 use Prim.Native.Nat.{ℕ, ◌+◌, ◌*◌, ◌≤◌, ◌<◌}
 use native.Mathlib.Omega.{arith}
-use lib.ListN.{length, take}
+use lib.ListN.{length}
 use Rattle.lists.specs.Blocks.{blocks}
 use Rattle.lists.proofs.Blocks.{blocks-next}
 use Rattle.lists.proofs.Wrote.{Wrote, wrote_start, wrote_as, wrote_join}
 use Rattle.checks.specs.Answer.{number_of}
 use Rattle.checks.specs.declared.Refusal.{Refusal}
-use Rattle.checks.specs.declared.Answer.TheVariants.{Accepted, Refused}
+use Rattle.checks.specs.declared.Refused.{Refused}
+use Rattle.std.specs.Prelude.{Result, Err}
 use Rattle.words.specs.declared.gate.Wire.{Wire}
-use Rattle.circuit.specs.declared.Reading.{Reading}
+use Rattle.circuit.specs.declared.Circuit.{Circuit}
 use Rattle.circuit.specs.File.{Read}
 use Rattle.circuit.specs.Wires.{wire_at, modulus_at}
 use Rattle.circuit.specs.Held.{wires_in, Holds}
 use Rattle.counts.specs.Counts.{rows_of, rows_in}
 use Rattle.counts.specs.Kinds.{kind_of}
-use Rattle.counts.proofs.Wires.{wire-at}
 use Rattle.prices.specs.Characters.{refused_text, at_text, head_text, total_text}
 use Rattle.prices.specs.Prices.{number_and, line_of, wire_line, wire_lines, listing, refusal, listed, printed, price_list}
 use Rattle.prices.specs.Lines.{lines_of}
 use Rattle.prices.specs.Found.{comes_to, bytes_found, Finds}
-use Rattle.prices.specs.declared.lines.Found.{Found}
+use Rattle.prices.specs.declared.lines.Unread.{Unread}
 use Rattle.prices.specs.Placed.{Placed, PlacedWithin}
 use Rattle.prices.proofs.Texts.{placed_wrote, wrote_placed, placed_four}
 
@@ -45,29 +45,23 @@ pub lines_start : {wires : List Wire} {out₀ : List ℕ} {at : ℕ} → at ≤ 
 unfolding blocks
 lines_start {wires} {out₀} {at} h = record { wrote = wrote_start out₀ at h; most = omega arith }
 
-module _ (all : List Wire) (made : ℕ) {out₀ : List ℕ} {at w end : ℕ} {out : List ℕ} (r : LinesSoFar (take made all) out₀ at w end out) where
-  line_is : (n : ℕ) → w < made → n ≡ rows_of (take made all) w → line_of w (kind_of (wire_at all w).gate) (modulus_at all w) n ≡ wire_line (take made all) w
-  line_is n h e =
-      ap (λ (wire : Wire). line_of w (kind_of wire.gate) wire.modulus n) (sym (wire-at all made w h))
-      ∙ ap (λ (m : ℕ). line_of w (kind_of (wire_at (take made all) w).gate) (modulus_at (take made all) w) m) e
-
-  pub lines_step : {n to : ℕ} {out' : List ℕ} → w < made
-      → PlacedWithin 15 out end (line_of w (kind_of (wire_at all w).gate) (modulus_at all w) n) to out' → n ≡ rows_of (take made all) w
-      → LinesSoFar (take made all) out₀ at (w + 1) to out'
-  lines_step {n} {to} {out'} h p e =
+module _ {wires : List Wire} {out₀ : List ℕ} {at w end : ℕ} {out : List ℕ} (r : LinesSoFar wires out₀ at w end out) where
+  pub lines_step : {n to : ℕ} {out' : List ℕ} → PlacedWithin 15 out end (line_of w (kind_of (wire_at wires w).gate) (modulus_at wires w) n) to out' → n ≡ rows_of wires w
+      → LinesSoFar wires out₀ at (w + 1) to out'
+  lines_step {n} {to} {out'} p e =
       record {
         wrote =
             wrote_as
-            (wrote_join r.wrote (wrote_as (placed_wrote p.placed) (line_is n h e)))
-            (sym (blocks-next w (wire_line (take made all))));
+            (wrote_join r.wrote (wrote_as (placed_wrote p.placed) (ap (λ (m : ℕ). line_of w (kind_of (wire_at wires w).gate) (modulus_at wires w) m) e)))
+            (sym (blocks-next w (wire_line wires)));
         most = omega (arith, r.most, p.most);
       }
 
-  pub lines-done : w ≡ length (take made all) → w ≤ 1024 → PlacedWithin 15360 out₀ at (wire_lines (take made all)) end out
+  pub lines-done : w ≡ length wires → w ≤ 1024 → PlacedWithin 15360 out₀ at (wire_lines wires) end out
   unfolding wire_lines
   lines-done e h =
       record {
-        placed = wrote_placed (wrote_as r.wrote (ap (λ (m : ℕ). blocks m (wire_line (take made all))) e));
+        placed = wrote_placed (wrote_as r.wrote (ap (λ (m : ℕ). blocks m (wire_line wires)) e));
         most = omega (arith, r.most);
       }
 
@@ -88,16 +82,16 @@ module _ {out₀ : List ℕ} {a b c d : ℕ} {out₁ out₂ out₃ out₄ : List
 
 -- ---- what was read, and what the lines come to
 
-module _ {reading : Reading} {read : Read} (h : Holds reading read) where
-  pub listed-accepted : reading.answer ≡ Accepted → listing (wires_in reading.circuit) ≡ listed read.answer read.wires
+module _ {circuit : Circuit} {read : Read} (h : Holds circuit read) where
+  pub listed-accepted : listing (wires_in circuit) ≡ listed read.answer read.wires
   unfolding listed
-  listed-accepted e = rw (← h.answer, e, h.wires)
+  listed-accepted = rw (h.accepted, h.wires)
 
-  pub listed-refused : {reason : Refusal} {place : ℕ} → reading.answer ≡ Refused reason place → refusal (number_of reason) place ≡ listed read.answer read.wires
-  unfolding listed
-  listed-refused {reason} {place} e = rw (← h.answer, e)
+pub listed-refused : (read : Read) {why : Refused} → read.answer ≡ Err why → refusal (number_of why.reason) why.place ≡ listed read.answer read.wires
+unfolding listed
+listed-refused read e = rw e
 
-module _ {buffer : List ℕ} {found f : Found} (text : List ℕ) (h : Finds buffer found (lines_of text)) (e : found ≡ f) where
+module _ {buffer : List ℕ} {found f : Result ℕ Unread} (text : List ℕ) (h : Finds buffer found (lines_of text)) (e : found ≡ f) where
   pub found-most : bytes_found f ≤ 65536
   found-most = rw (← e) h.most
 

@@ -2,7 +2,7 @@
 -- Assumes nothing.
 use mathlib.Core.Path.{◌≡◌, refl, sym, ap, ◌∙◌}
 use mathlib.Core.Bool.{Bool, true, false, cond}
-use mathlib.Core.List.{List, [], ◌++◌}
+use mathlib.Core.List.{List, [], ◌∷◌, ◌++◌}
 use Prim.Native.Nat.{ℕ, zero, suc, ◌+◌, ◌-◌, ◌*◌, ◌≤◌, ◌<◌}
 use native.Mathlib.Omega.{arith}
 use lib.ListN.{length, take, drop, drop_of_length-le}
@@ -11,44 +11,43 @@ use Rattle.lists.specs.Blocks.{written}
 use Rattle.lists.proofs.Written.{front-written, length-written}
 use Rattle.prices.specs.Lines.{hex_digits, line_ends, word_line, byte_at, word_bytes, is_empty, lines_from, lines_of}
 use Rattle.prices.specs.Lines.Lines.{file, bad_line, too_long}
-use Rattle.prices.specs.declared.line.Word.{Word}
-use Rattle.prices.specs.declared.line.Line.TheVariants.{Good, Bad}
-use Rattle.prices.specs.Line.{line_at, bytes_in}
+use Rattle.std.specs.Prelude.{Some, None}
+use Rattle.prices.specs.Line.{line_at}
 
 -- ---- one line
 
 module _ (text : List ℕ) where
   pub line_good : {a b c d : ℕ} → hex_digits 8 text ≡ true → line_ends (drop 8 text) ≡ true
       → a ≡ byte_at text 6 → b ≡ byte_at text 4 → c ≡ byte_at text 2 → d ≡ byte_at text 0
-      → Good (record { a = a; b = b; c = c; d = d }) ≡ line_at text
+      → Some (a ∷ b ∷ c ∷ d ∷ []) ≡ line_at text
   unfolding line_at word_line
   line_good h e p q r s = rw (h, e, p, q, r, s)
 
-  pub line_short : hex_digits 8 text ≡ false → Bad ≡ line_at text
+  pub line_short : hex_digits 8 text ≡ false → None ≡ line_at text
   unfolding line_at word_line
   line_short h = rw h
 
-  pub line_long : hex_digits 8 text ≡ true → line_ends (drop 8 text) ≡ false → Bad ≡ line_at text
+  pub line_long : hex_digits 8 text ≡ true → line_ends (drop 8 text) ≡ false → None ≡ line_at text
   unfolding line_at word_line
   line_long h e = rw (h, e)
 
 -- what it says of the text
-bad_test : (b : Bool) (word : Word) → cond b (Good word) Bad ≡ Bad → b ≡ false
+bad_test : (b : Bool) (word : List ℕ) → cond b (Some word) None ≡ None → b ≡ false
 bad_test true word e = absurd (let z : ◌≡◌ {A = ℕ} 0 1 = cc in omega arith)
 bad_test false word e = refl
 
-good_test : (b : Bool) (v w : Word) → cond b (Good v) Bad ≡ Good w → (b ≡ true) × (v ≡ w)
+good_test : (b : Bool) (v w : List ℕ) → cond b (Some v) None ≡ Some w → (b ≡ true) × (v ≡ w)
 good_test true v w e = (refl, cc)
 good_test false v w e = absurd (let z : ◌≡◌ {A = ℕ} 0 1 = cc in omega arith)
 
-abbrev word : List ℕ → Word
-word text = record { a = byte_at text 6; b = byte_at text 4; c = byte_at text 2; d = byte_at text 0 }
+abbrev word : List ℕ → List ℕ
+word text = byte_at text 6 ∷ byte_at text 4 ∷ byte_at text 2 ∷ byte_at text 0 ∷ []
 
-line_is_bad : (text : List ℕ) → line_at text ≡ Bad → word_line text ≡ false
+line_is_bad : (text : List ℕ) → line_at text ≡ None → word_line text ≡ false
 unfolding line_at
 line_is_bad text e = bad_test (word_line text) (word text) e
 
-line_is_good : (text : List ℕ) (w : Word) → line_at text ≡ Good w → (word_line text ≡ true) × (word text ≡ w)
+line_is_good : (text : List ℕ) (w : List ℕ) → line_at text ≡ Some w → (word_line text ≡ true) × (word text ≡ w)
 unfolding line_at
 line_is_good text w e = good_test (word_line text) (word text) w e
 
@@ -106,25 +105,26 @@ module _ {text buffer₀ : List ℕ} {n at : ℕ} {buffer : List ℕ} (r : SoFar
       one_less : 16384 - n ≡ suc (16384 - (n + 1))
       one_less = omega arith
 
-      pub so_far_bad : line_at (drop at text) ≡ Bad → bad_line (n + 1) ≡ lines_of text
+      pub so_far_bad : line_at (drop at text) ≡ None → bad_line (n + 1) ≡ lines_of text
       so_far_bad e =
           sym (lines_bad (drop at text) (some_left text at h) (n + 1) (take (4 * n) buffer) (16384 - (n + 1)) (line_is_bad (drop at text) e))
           ∙ ap (λ (left : ℕ). lines_from left (n + 1) (drop at text) (take (4 * n) buffer)) (sym one_less)
           ∙ r.rest
 
-      pub so_far_good : (w : Word) {buffer' : List ℕ} → line_at (drop at text) ≡ Good w → buffer' ≡ written buffer (4 * n) (bytes_in w) → SoFar text buffer₀ (n + 1) (at + 9) buffer'
+      pub so_far_good : (w : List ℕ) {buffer' : List ℕ} → line_at (drop at text) ≡ Some w → buffer' ≡ written buffer (4 * n) w → SoFar text buffer₀ (n + 1) (at + 9) buffer'
       so_far_good w {buffer'} e z =
           let g : (word_line (drop at text) ≡ true) × (word (drop at text) ≡ w) = line_is_good (drop at text) w e in
-          let next : 4 * (n + 1) ≡ 4 * n + 4 = omega arith in
+          let four : length w ≡ 4 = ap length (sym g.1) in
+          let next : 4 * (n + 1) ≡ 4 * n + length w = omega arith in
           let front : take (4 * (n + 1)) buffer' ≡ take (4 * n) buffer ++ word_bytes (drop at text) =
           ap (λ (l : List ℕ). take (4 * (n + 1)) l) z
-          ∙ ap (λ (m : ℕ). take m (written buffer (4 * n) (bytes_in w))) next
-          ∙ front-written buffer (4 * n) (bytes_in w) (omega arith)
-          ∙ ap (λ (v : Word). take (4 * n) buffer ++ bytes_in v) (sym g.1) in
+          ∙ ap (λ (m : ℕ). take m (written buffer (4 * n) w)) next
+          ∙ front-written buffer (4 * n) w (omega arith)
+          ∙ ap (λ (v : List ℕ). take (4 * n) buffer ++ v) (sym g.1) in
           record {
             lines = omega arith;
             room = r.room;
-            kept = ap length z ∙ length-written buffer (4 * n) (bytes_in w) (omega arith) ∙ r.kept;
+            kept = ap length z ∙ length-written buffer (4 * n) w (omega arith) ∙ r.kept;
             rest =
                 ap (λ (l : List ℕ). lines_from (16384 - (n + 1)) (n + 1 + 1) (drop (at + 9) text) l) front
                 ∙ ap (λ (t : List ℕ). lines_from (16384 - (n + 1)) (n + 1 + 1) t (take (4 * n) buffer ++ word_bytes (drop at text))) (sym (drop-drop 9 at text))

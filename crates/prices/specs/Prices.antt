@@ -2,9 +2,7 @@
 -- Assumes nothing.
 use Rattle.std.specs.Prelude.{List, [], ◌∷◌, ◌++◌, ℕ, length}
 use Rattle.lists.specs.Blocks.{blocks}
-use Rattle.checks.specs.Answer.{number_of}
-use Rattle.checks.specs.declared.Answer.{Answer}
-use Rattle.checks.specs.declared.Answer.TheVariants.{Accepted, Refused}
+use Rattle.checks.specs.Answer.{Answer, number_of}
 use Rattle.words.specs.declared.gate.Wire.{Wire}
 use Rattle.circuit.specs.Wires.{wire_at, modulus_at}
 use Rattle.circuit.specs.File.{read_file}
@@ -14,6 +12,7 @@ use Rattle.prices.specs.Characters.{newline, space, too_long_text, bad_line_text
 use Rattle.prices.specs.Decimal.{decimal}
 use Rattle.prices.specs.Lines.{Lines, lines_of}
 use Rattle.prices.specs.Lines.Lines.{file, bad_line, too_long}
+use Rattle.std.specs.Prelude.{Ok, Err}
 
 -- a number in decimal, and the character behind it
 abbrev pub number_and : ℕ → ℕ → List ℕ
@@ -39,8 +38,8 @@ refusal number place = refused_text ++ number_and space number ++ at_text ++ num
 
 -- a circuit that was read, or refused
 unfoldable pub listed : Answer → List Wire → List ℕ
-listed Accepted wires = listing wires
-listed (Refused reason place) wires = refusal (number_of reason) place
+listed (Ok done) wires = listing wires
+listed (Err why) wires = refusal (number_of why.reason) why.place
 
 -- what is printed for the lines
 unfoldable pub printed : Lines → List ℕ

@@ -3,21 +3,6 @@ ghost use Rattle.std.specs.Prelude.{◌≡◌, true, ◌<◌, drop};
 ghost use Rattle.prices.specs.Lines.{hex_value, hex_digits, line_ends, byte_at};
 ghost use Rattle.prices.specs.Line.{line_at};
 
-// The four bytes of a word, the least significant first.
-#[derive(Clone, Copy)]
-pub struct Word {
-    pub a: u8,
-    pub b: u8,
-    pub c: u8,
-    pub d: u8,
-}
-
-#[derive(Clone, Copy)]
-pub enum Line {
-    Good(Word),
-    Bad,
-}
-
 // The value of a hexadecimal digit, and 16 for another character. 55 and 87 are 10 less than the characters A and a.
 fn hex_value(c: u8) -> u8
     ensures { result ≡ hex_value c }
@@ -72,8 +57,8 @@ fn byte_at(text: &[u8], at: usize, i: usize) -> u8
     16 * high + low
 }
 
-// The line at a place.
-pub fn line_at(text: &[u8], at: usize) -> Line
+// The line at a place: the four bytes of its word, the least significant first, or nothing where it has another form.
+pub fn line_at(text: &[u8], at: usize) -> Option<[u8; 4]>
     ensures { result ≡ line_at (drop at text.now) }
 {
     if digits_at(text, at) {
@@ -82,8 +67,8 @@ pub fn line_at(text: &[u8], at: usize) -> Line
             let b = byte_at(text, at, 4);
             let c = byte_at(text, at, 2);
             let d = byte_at(text, at, 0);
-            return Line::Good(Word { a, b, c, d });
+            return Some([a, b, c, d]);
         }
     }
-    Line::Bad
+    None
 }

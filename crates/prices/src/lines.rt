@@ -1,31 +1,19 @@
 // All lines of the text: the bytes of a circuit file, or what is wrong.
-ghost use Rattle.std.specs.Prelude.{◌≡◌, ◌+◌, ◌*◌, ◌≤◌, ◌<◌, length};
-ghost use Rattle.lists.specs.Blocks.{written};
+ghost use Rattle.std.specs.Prelude.{◌≤◌, length};
 ghost use Rattle.prices.specs.Lines.{lines_of};
-ghost use Rattle.prices.specs.Line.{bytes_in};
 ghost use Rattle.prices.specs.Found.{Finds};
 
-use super::line::{Line, Word, line_at};
+use super::line::line_at;
 
-// What the lines come to: so many bytes of a circuit file, the number of a bad line, a line too many.
-#[derive(Clone, Copy)]
-pub enum Found {
-    File(usize),
+// Why the lines are no circuit file: the number of a bad line, or a line too many.
+#[derive(Clone, Copy, Debug, PartialEq, Eq)]
+pub enum Unread {
     BadLine(usize),
     TooLong,
 }
 
-// Puts a word's bytes at a place.
-fn put_word(file: &mut [u8], at: usize, word: Word)
-    requires { at + 4 ≤ length file.old }
-    ensures { file.new ≡ written file.old at (bytes_in word) }
-{
-    let bytes = [word.a, word.b, word.c, word.d];
-    lists::put_at(file, at, &bytes);
-}
-
-// Reads the lines of the text, and puts their words' bytes into `file`.
-pub fn read_lines(text: &[u8], file: &mut [u8]) -> Found
+// Reads the lines of the text, and puts their words' bytes into `file`: how many bytes there are.
+pub fn read_lines(text: &[u8], file: &mut [u8]) -> Result<usize, Unread>
     requires { 65536 ≤ length file.old }
     ensures { Finds file.new result (lines_of text.now) }
 {
@@ -33,14 +21,14 @@ pub fn read_lines(text: &[u8], file: &mut [u8]) -> Found
     let mut n = 0;
     while at < text.len() {
         if 16384 <= n {
-            return Found::TooLong;
+            return Err(Unread::TooLong);
         }
         match line_at(text, at) {
-            Line::Good(word) => put_word(file, 4 * n, word),
-            Line::Bad => return Found::BadLine(n + 1),
+            Some(word) => lists::put_at(file, 4 * n, &word),
+            None => return Err(Unread::BadLine(n + 1)),
         }
         n += 1;
         at += 9;
     }
-    Found::File(4 * n)
+    Ok(4 * n)
 }

@@ -8,7 +8,7 @@ ghost use Rattle.prices.specs.Prices.{line_of, wire_lines, listing, refusal, lis
 ghost use Rattle.prices.specs.Placed.{Placed, PlacedWithin, Narrow};
 
 use super::text::{put_number, put_text};
-use checks::{Answer, Refusal};
+use checks::Refusal;
 use circuit::Circuit;
 use words::{Gate, Wire};
 
@@ -42,10 +42,9 @@ fn put_wire(out: &mut [u8], at: usize, w: usize, wire: Wire, rows: u32) -> usize
     requires { (w < 1024) × ((rows ≤ 512) × (at + 15 ≤ length out.old)) }
     ensures { PlacedWithin 15 out.old at (line_of w (kind_of wire.gate) wire.modulus rows) result out.new }
 {
-    let gate = wire.gate;
-    let kind = kind_of(gate);
-    let modulus = lists::byte_wide(wire.modulus);
-    put_line(out, at, w as u64, kind, modulus, rows as u64)
+    let kind = kind_of(wire.gate);
+    let modulus = u64::from(wire.modulus);
+    put_line(out, at, w as u64, kind, modulus, u64::from(rows))
 }
 
 // The lines of all wires.
@@ -54,14 +53,9 @@ fn put_wires(out: &mut [u8], at: usize, circuit: Circuit) -> usize
     ensures { PlacedWithin 15360 out.old at (wire_lines (wires_in circuit)) result out.new }
 {
     let moduli = counts::moduli(circuit);
-    let made = circuit.made;
     let mut end = at;
-    let mut w = 0;
-    while w < made {
-        let wire = circuit.wires[w];
-        let rows = counts::row_count(wire, &moduli);
-        end = put_wire(out, end, w, wire, rows);
-        w += 1;
+    for (w, wire) in circuit.wires[..circuit.made].iter().enumerate() {
+        end = put_wire(out, end, w, *wire, counts::row_count(*wire, &moduli));
     }
     end
 }
@@ -75,7 +69,7 @@ fn put_listing(out: &mut [u8], circuit: Circuit) -> usize
     let b = put_wires(out, a, circuit);
     let c = put_text(out, b, b"total ");
     let total = counts::rows(circuit);
-    put_number(out, c, total as u64, b'\n')
+    put_number(out, c, u64::from(total), b'\n')
 }
 
 // Why a circuit is refused, and at which word.
@@ -83,9 +77,9 @@ fn put_refusal(out: &mut [u8], reason: Refusal, place: usize) -> usize
     requires { 16384 ≤ length out.old }
     ensures { Placed out.old 0 (refusal (number_of reason) place) result out.new }
 {
-    let number = checks::number(reason);
+    let number = u32::from(reason);
     let a = put_text(out, 0, b"refused ");
-    let b = put_number(out, a, number as u64, b' ');
+    let b = put_number(out, a, u64::from(number), b' ');
     let c = put_text(out, b, b"at ");
     put_number(out, c, place as u64, b'\n')
 }
@@ -95,10 +89,8 @@ pub fn put_circuit(out: &mut [u8], file: &[u8]) -> usize
     requires { 16384 ≤ length out.old }
     ensures { Placed out.old 0 (listed (read_file file.now).answer (read_file file.now).wires) result out.new }
 {
-    let reading = circuit::read(file);
-    let answer = reading.answer;
-    match answer {
-        Answer::Accepted => put_listing(out, reading.circuit),
-        Answer::Refused(reason, place) => put_refusal(out, reason, place),
+    match circuit::read(file) {
+        Ok(circuit) => put_listing(out, circuit),
+        Err(why) => put_refusal(out, why.reason, why.place),
     }
 }

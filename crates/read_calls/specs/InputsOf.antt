@@ -1,12 +1,11 @@
 -- The call that counts a party's inputs (n and party given, no K).
 -- Assumes nothing.
 use Rattle.std.specs.Prelude.{◌≡◌, List, ℕ}
-use Rattle.checks.specs.declared.Answer.{Answer}
 use Rattle.checks.specs.Checked.{and_then, afterwards}
 use Rattle.circuit.specs.File.{read_file}
 use Rattle.counts.specs.Counts.{inputs_of}
 use Rattle.session.specs.Session.{file_checked, parties_checked, party_checked, partakers_checked}
-use Rattle.read_calls.specs.declared.inputs.Counted.{Counted}
+use Rattle.checks.specs.Answer.{Answer, accepts}
 
 module _ (file : List ℕ) (n party : ℕ) where
   unfoldable pub inputs_of_checked : Answer
@@ -20,7 +19,7 @@ module _ (file : List ℕ) (n party : ℕ) where
   unfoldable pub inputs_of_after : ℕ → ℕ
   inputs_of_after count = afterwards inputs_of_checked (inputs_of party (read_file file).wires) count
 
-  -- the answer, and the count, which is 0 where the file is refused
-  pub record CountsInputs (counted : Counted) : Type 0 where
-    pub answer : counted.answer ≡ inputs_of_checked
-    pub count : counted.count ≡ inputs_of party (read_file file).wires
+  -- the count, where the checks accept
+  pub record CountsInputs (count : ℕ) : Type 0 where
+    pub accepted : inputs_of_checked ≡ accepts
+    pub is : count ≡ inputs_of party (read_file file).wires

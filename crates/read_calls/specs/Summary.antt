@@ -1,6 +1,7 @@
--- The call that reads a circuit: what it reports of an accepted file. A refused file has no wires and no outputs, so all counts are 0.
+-- The call that reads a circuit: what it reports of an accepted file.
 -- Assumes nothing.
 use Rattle.std.specs.Prelude.{◌≡◌, List, ℕ, length}
+use Rattle.checks.specs.Answer.{accepts}
 use Rattle.circuit.specs.Wires.{inputs_in}
 use Rattle.circuit.specs.File.{read_file}
 use Rattle.counts.specs.Counts.{rows_in, record_keys_in}
@@ -8,7 +9,7 @@ use Rattle.counts.specs.Moduli.{moduli_used}
 use Rattle.read_calls.specs.declared.summary.Summary.{Summary}
 
 pub record Summarizes (file : List ℕ) (summary : Summary) : Type 0 where
-  pub answer : summary.answer ≡ (read_file file).answer
+  pub accepted : (read_file file).answer ≡ accepts
   pub wires : summary.wires ≡ length (read_file file).wires
   pub inputs : summary.inputs ≡ inputs_in (read_file file).wires
   pub outputs : summary.outputs ≡ length (read_file file).outputs

@@ -1,37 +1,19 @@
 // How many inputs a party owns, as a call.
-ghost use Rattle.circuit.specs.File.{read_file};
-ghost use Rattle.circuit.specs.Held.{Holds};
-ghost use Rattle.read_calls.specs.InputsOf.{CountsInputs};
+ghost use Rattle.std.specs.Prelude.{◌≡◌, Err, IfOk, IfErr};
+ghost use Rattle.read_calls.specs.InputsOf.{inputs_of_checked, CountsInputs};
 
-use checks::{Answer, followed};
-use circuit::{Reading, read};
+use checks::Refused;
+use circuit::read;
 use session::{partakers_checked, parties_checked, party_checked};
 
-#[derive(Clone, Copy)]
-pub struct Counted {
-    pub answer: Answer,
-    pub count: u32,
-}
-
-fn inputs_in(reading: Reading, file: &[u8], n: u32, party: u32) -> Counted
-    requires { Holds reading (read_file file.now) }
-    ensures { CountsInputs file.now n party result }
+// How many inputs the party owns, or why the call is refused.
+pub fn inputs_of(file: &[u8], n: u32, party: u32) -> Result<u32, Refused>
+    ensures ok { IfOk result (λ count. CountsInputs file.now n party count) }
+    ensures err { IfErr result (λ why. inputs_of_checked file.now n party ≡ Err why) }
 {
-    let read = reading.answer;
-    let circuit = reading.circuit;
-    let present = partakers_checked(circuit, n);
-    let asked = followed(party_checked(n, party), present);
-    let answer = followed(read, followed(parties_checked(n), asked));
-    Counted {
-        answer,
-        count: counts::inputs_of(circuit, party),
-    }
-}
-
-// The answer, and how many inputs the party owns.
-pub fn inputs_of(file: &[u8], n: u32, party: u32) -> Counted
-    ensures { CountsInputs file.now n party result }
-{
-    let reading = read(file);
-    inputs_in(reading, file, n, party)
+    let circuit = read(file)?;
+    parties_checked(n)?;
+    party_checked(n, party)?;
+    partakers_checked(circuit, n)?;
+    Ok(counts::inputs_of(circuit, party))
 }

@@ -6,5 +6,5 @@
 mod inputs;
 mod summary;
 
-pub use inputs::{Counted, inputs_of};
+pub use inputs::inputs_of;
 pub use summary::{Summary, summary_of};

@@ -1,15 +1,16 @@
 // What a circuit file holds, in numbers: the file is read, and the circuit that was made is counted. Wires and moduli are counted here,
 // in the function that holds the circuit, since every function that takes a circuit gets a copy of its 16 KB.
+ghost use Rattle.std.specs.Prelude.{◌≡◌, Err, IfOk, IfErr};
+ghost use Rattle.circuit.specs.File.{read_file};
 ghost use Rattle.read_calls.specs.Summary.{Summarizes};
 
-use checks::Answer;
+use checks::Refused;
 use circuit::read;
-use counts::{marks_set, no_marks, no_moduli, record_count, row_count};
-use lists::{byte_index, index_number};
+use counts::{marks_set, record_count, row_count};
+use lists::zeros;
 
 #[derive(Clone, Copy)]
 pub struct Summary {
-    pub answer: Answer,
     pub wires: u32,
     pub inputs: u32,
     pub outputs: u32,
@@ -18,40 +19,30 @@ pub struct Summary {
     pub records: u32,
 }
 
-// Reading: the answer, and how many wires, inputs, outputs, rows, moduli and records an accepted circuit has.
-pub fn summary_of(file: &[u8]) -> Summary
-    ensures { Summarizes file.now result }
+// Reading: how many wires, inputs, outputs, rows, moduli and records an accepted circuit has.
+pub fn summary_of(file: &[u8]) -> Result<Summary, Refused>
+    ensures ok { IfOk result (λ summary. Summarizes file.now summary) }
+    ensures err { IfErr result (λ why. (read_file file.now).answer ≡ Err why) }
 {
-    let reading = read(file);
-    let answer = reading.answer;
-    let circuit = reading.circuit;
-    let made = circuit.made;
-    let mut table = no_moduli();
-    let mut marks = no_marks();
-    let mut i = 0;
-    while i < made {
-        let wire = circuit.wires[i];
-        let p = byte_index(wire.modulus);
+    let circuit = read(file)?;
+    let mut table = zeros::<1024>();
+    let mut marks = zeros::<256>();
+    for (i, wire) in circuit.wires[..circuit.made].iter().enumerate() {
         table[i] = wire.modulus;
-        marks[p] = 1;
-        i += 1;
+        marks[usize::from(wire.modulus)] = 1;
     }
     let mut rows = 0;
     let mut records = 0;
-    let mut w = 0;
-    while w < made {
-        let wire = circuit.wires[w];
-        rows += row_count(wire, &table);
-        records += record_count(wire);
-        w += 1;
+    for wire in &circuit.wires[..circuit.made] {
+        rows += row_count(*wire, &table);
+        records += record_count(*wire);
     }
-    Summary {
-        answer,
-        wires: index_number(made),
-        inputs: index_number(circuit.inputs),
-        outputs: index_number(circuit.given),
+    Ok(Summary {
+        wires: circuit.made as u32,
+        inputs: circuit.inputs as u32,
+        outputs: circuit.given as u32,
         rows,
         moduli: marks_set(marks),
         records,
-    }
+    })
 }

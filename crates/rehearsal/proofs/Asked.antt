@@ -12,7 +12,6 @@ use lib.Seq.{take_at, get_or-take, length-take-le}
 use Rattle.lists.specs.Blocks.{part}
 use Rattle.lists.proofs.Parts.{part-front}
 use Rattle.lists.proofs.Blocks.{tab_ext, take-replicate}
-use Rattle.checks.specs.declared.Answer.{Answer}
 use Rattle.checks.specs.Checked.{Reports}
 use Rattle.words.specs.declared.gate.Wire.{Wire}
 use Rattle.circuit.specs.declared.Circuit.{Circuit}
@@ -24,6 +23,7 @@ use Rattle.round.specs.Played.{Answered}
 use Rattle.calls.proofs.OwnInputs.{owns, place_of, own-inside}
 use Rattle.rehearsal.specs.Hosts.{Picked, scattered, own_after, OwnCall, gathered, Masked}
 use Rattle.rehearsal.proofs.InTurn.{turn_start, turn-next}
+use Rattle.checks.specs.Answer.{Answer}
 
 pub ask_ends : (file : List ℕ) (n party count : ℕ) (values masks out : List ℕ) {own hidden ys : List ℕ} {number place : ℕ} → count ≤ length out
     → own ≡ part values 0 count → hidden ≡ part masks 0 count → length ys ≡ length (take count out)

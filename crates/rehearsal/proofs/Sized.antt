@@ -1,45 +1,47 @@
 -- The sizes of all parties' memory, as the code reckons them from the circuit that it read.
 -- Assumes nothing.
-use mathlib.Core.Path.{◌≡◌, sym, ap, ap₂, subst, ◌∙◌}
+use mathlib.Core.Path.{◌≡◌, refl, sym, ap, subst, ◌∙◌}
 use mathlib.Core.List.{List}
 use Prim.Native.Nat.{ℕ, ◌*◌, ◌≤◌}
 use native.Mathlib.Omega.{arith}
 use lib.ListN.{length}
-use Rattle.circuit.specs.declared.Reading.{Reading}
+use Rattle.circuit.specs.declared.Circuit.{Circuit}
 use Rattle.circuit.specs.Wires.{inputs_in}
 use Rattle.circuit.specs.File.{read_file}
 use Rattle.circuit.specs.Held.{wires_in, Holds}
 use Rattle.session.proofs.Circuits.{held_of, inputs-made}
 use Rattle.scheme.specs.Contribution.{contribution_size}
 use Rattle.contribution.proofs.Sizes.{times-most}
+use Rattle.std.specs.Prelude.{Result, Ok, Err, IsOk, IfOk, IfErr}
+use Rattle.checks.specs.declared.Refused.{Refused}
+use Rattle.checks.specs.Answer.{accepts}
+use Rattle.checks.proofs.Passed.{never}
 use Rattle.rehearsal.specs.Rehearsed.{Whole, Sized}
 use Rattle.rehearsal.specs.Hosts.{keys_by_input}
 use Rattle.rehearsal.specs.Turns.{KeysOfAll, OpenedByAll, DecodedByAll}
 
-module _ {reading : Reading} (file : List ℕ) {n K parties long : ℕ} (h : Holds reading (read_file file)) (p : parties ≡ n) (l : long ≡ K) where
-  pub sized : {size : ℕ} → size ≡ contribution_size long (wires_in reading.circuit)
-      → Sized file n K reading.circuit.inputs reading.circuit.made reading.circuit.given size (reading.circuit.inputs * long)
-      (reading.circuit.made * (parties * long))
+module _ {circuit : Circuit} (file : List ℕ) {n K : ℕ} (h : Holds circuit (read_file file)) where
+  pub sized : {size : ℕ} → size ≡ contribution_size K (wires_in circuit)
+      → Sized file n K circuit.inputs circuit.made circuit.given size (circuit.inputs * K) (circuit.made * (n * K))
   sized e =
       record {
         own_is = h.inputs;
         made_is = h.made;
         given_is = h.given;
-        size_is = e ∙ ap₂ contribution_size l h.wires;
-        each_is = ap₂ ◌*◌ h.inputs l;
-        wide_is = ap₂ ◌*◌ h.made (ap₂ ◌*◌ p l);
+        size_is = e ∙ ap (contribution_size K) h.wires;
+        each_is = ap (λ (a : ℕ). a * K) h.inputs;
+        wide_is = ap (λ (a : ℕ). a * (n * K)) h.made;
       }
 
   module _ (few : n ≤ 8) (short : K ≤ 128) where
-    pub each-most : reading.circuit.inputs * long ≤ 131072
-    each-most =
-        times-most reading.circuit.inputs long 1024 128 (omega (arith, inputs-made (held_of h), (held_of h).room.made)) (omega (arith, l, short))
+    pub each-most : circuit.inputs * K ≤ 131072
+    each-most = times-most circuit.inputs K 1024 128 (omega (arith, inputs-made (held_of h), (held_of h).room.made)) short
 
-    pub both_most : parties * long ≤ 1024
-    both_most = times-most parties long 8 128 (omega (arith, p, few)) (omega (arith, l, short))
+    pub both_most : n * K ≤ 1024
+    both_most = times-most n K 8 128 few short
 
-    pub wide_most : reading.circuit.made * (parties * long) ≤ 1048576
-    wide_most = times-most reading.circuit.made (parties * long) 1024 1024 (held_of h).room.made both_most
+    pub wide_most : circuit.made * (n * K) ≤ 1048576
+    wide_most = times-most circuit.made (n * K) 1024 1024 (held_of h).room.made both_most
 
 -- what each stage asks of the lengths, and the sizes by their own names
 module _ {file : List ℕ} {n K own made given size each wide : ℕ} (s : Sized file n K own made given size each wide)
@@ -47,10 +49,10 @@ module _ {file : List ℕ} {n K own made given size each wide : ℕ} (s : Sized 
   pub keys_fit : {all : ℕ} → all ≡ n * contribution_size K (read_file file).wires → (all ≡ n * size) × (length mine ≡ n * each)
   keys_fit c = (c ∙ ap (λ (x : ℕ). n * x) (sym s.size_is), w.mine_long ∙ ap (λ (x : ℕ). n * x) (sym s.each_is))
 
-  pub put_fit : {key after : ℕ} → key ≡ K → after ≡ length mine → (each ≡ own * key) × ((after ≡ n * each) × (length keys ≡ own * (n * key)))
-  put_fit l k = (
-    s.each_is ∙ ap₂ ◌*◌ (sym s.own_is) (sym l),
-    (k ∙ w.mine_long ∙ ap (λ (x : ℕ). n * x) (sym s.each_is), w.keys_long ∙ ap₂ (λ (x y : ℕ). x * (n * y)) (sym s.own_is) (sym l)),
+  pub put_fit : {after : ℕ} → after ≡ length mine → (each ≡ own * K) × ((after ≡ n * each) × (length keys ≡ own * (n * K)))
+  put_fit k = (
+    s.each_is ∙ ap (λ (x : ℕ). x * K) (sym s.own_is),
+    (k ∙ w.mine_long ∙ ap (λ (x : ℕ). n * x) (sym s.each_is), w.keys_long ∙ ap (λ (x : ℕ). x * (n * K)) (sym s.own_is)),
   )
 
   pub open_fit : {all : ℕ} → all ≡ n * contribution_size K (read_file file).wires → n ≤ 8
@@ -74,10 +76,10 @@ module _ {file : List ℕ} {n K own made given size each wide : ℕ} (s : Sized 
       subst (λ (x : ℕ). KeysOfAll file n K contributions x externals (inputs_in (read_file file).wires * K) mine₀ mine) s.size_is
       (subst (λ (x : ℕ). KeysOfAll file n K contributions size externals x mine₀ mine) s.each_is k)
 
-  pub put_as : (mine : List ℕ) {key : ℕ} {keys : List ℕ} → key ≡ K → keys ≡ keys_by_input n key own each mine
+  pub put_as : (mine : List ℕ) {keys : List ℕ} → keys ≡ keys_by_input n K own each mine
       → keys ≡ keys_by_input n K (inputs_in (read_file file).wires) (inputs_in (read_file file).wires * K) mine
-  put_as mine l e =
-      e ∙ ap₂ (λ (x y : ℕ). keys_by_input n x y each mine) l s.own_is ∙ ap (λ (x : ℕ). keys_by_input n K (inputs_in (read_file file).wires) x mine) s.each_is
+  put_as mine e =
+      e ∙ ap (λ (y : ℕ). keys_by_input n K y each mine) s.own_is ∙ ap (λ (x : ℕ). keys_by_input n K (inputs_in (read_file file).wires) x mine) s.each_is
 
   pub opened_as : {round : ℕ} {contributions externals keys rows wkeys₀ wexternals₀ wkeys wexternals : List ℕ}
       → OpenedByAll file n K round contributions size externals keys rows wide wkeys₀ made wexternals₀ wkeys wexternals
@@ -92,3 +94,12 @@ module _ {file : List ℕ} {n K own made given size each wide : ℕ} (s : Sized 
   decoded_as {wexternals} {masks} {results₀} {results} k =
       subst (λ (x : ℕ). DecodedByAll file n wexternals x masks (length (read_file file).outputs) results₀ results) s.made_is
       (subst (λ (x : ℕ). DecodedByAll file n wexternals made masks x results₀ results) s.given_is k)
+
+-- a file that the reader accepts is read, and the circuit read is the file's
+module _ (file : List ℕ) where
+  pub reads : (r : Result Circuit Refused) → (read_file file).answer ≡ accepts → IfErr r (λ why. (read_file file).answer ≡ Err why) → IsOk r
+  reads (Ok circuit) a e = refl
+  reads (Err why) a e = never (sym e ∙ a)
+
+  pub read_as : {r : Result Circuit Refused} {circuit : Circuit} → IfOk r (λ circuit. Holds circuit (read_file file)) → r ≡ Ok circuit → Holds circuit (read_file file)
+  read_as h e = subst (λ (x : Result Circuit Refused). IfOk x (λ circuit. Holds circuit (read_file file))) e h

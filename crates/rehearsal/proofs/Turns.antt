@@ -9,7 +9,6 @@ use Rattle.lists.specs.Blocks.{part, nth_piece}
 use Rattle.lists.proofs.Sums.{times-next}
 use Rattle.lists.proofs.Written.{lent}
 use Rattle.lists.proofs.Steps.{Level, level_start, steps_long, steps_call}
-use Rattle.checks.specs.declared.Answer.{Answer}
 use Rattle.checks.specs.Checked.{Reports}
 use Rattle.pads.specs.Pad.{shake_pad}
 use Rattle.calls.specs.InputKeys.{input_keys_checked, input_keys_after, InputKeysCall}
@@ -18,6 +17,7 @@ use Rattle.calls.specs.Decode.{decode_checked, decode_after, DecodeCall}
 use Rattle.round.specs.Played.{Answered}
 use Rattle.rehearsal.specs.Turns.{KeysOfAll, OpenedByAll, DecodedByAll}
 use Rattle.rehearsal.proofs.InTurn.{turn_start, turn-next, part-next, read_next, parts_all}
+use Rattle.checks.specs.Answer.{Answer}
 
 -- a part of what is only read, by its place
 own-part : (xs : List ℕ) {ys : List ℕ} {from : ℕ} (s i : ℕ) → ys ≡ part xs from s → from ≡ i * s → ys ≡ nth_piece xs s i

@@ -5,7 +5,7 @@ ghost use Rattle.counts.specs.Counts.{Counts, mark, owned_by};
 ghost use Rattle.rehearsal.specs.Hosts.{Picked, scattered, keys_by_input};
 
 use circuit::Circuit;
-use lists::{copy, piece};
+use lists::piece;
 use words::Gate;
 
 // All parties' input keys, which lie party by party, `inputs` keys of `k` bytes each, put by input, then party.
@@ -23,7 +23,7 @@ pub fn put_keys_by_input(n: u32, k: usize, inputs: usize, each: usize, mine: &[u
             let past = from + each;
             let to = at + k;
             let key = piece(mine, from, k);
-            copy(&mut keys[at..to], key);
+            keys[at..to].copy_from_slice(key);
             at = to;
             from = past;
             party += 1;

@@ -1,5 +1,6 @@
 // At each party the external values of its own inputs, put to their wires.
 ghost use Rattle.std.specs.Prelude.{◌≡◌, ◌≤◌, length, take};
+ghost use Rattle.checks.specs.Answer.{accepts};
 ghost use Rattle.circuit.specs.Wires.{inputs_in};
 ghost use Rattle.circuit.specs.File.{read_file};
 ghost use Rattle.circuit.specs.Held.{wires_in, Held};
@@ -11,7 +12,6 @@ use circuit::{Circuit, read};
 use counts::inputs_of;
 use engine::{Reported, lupiknam_externals};
 use lists::piece;
-use party_calls::counted;
 
 // The call, on the first `count` bytes of each buffer.
 pub fn ask(
@@ -46,7 +46,7 @@ pub fn party_externals(
     ensures { OwnCall file.now n (wires_in circuit) values.now masks.now party result.number result.place
         × (externals.new ≡ own_scattered file.now n (wires_in circuit) values.now masks.now party externals.old) }
 {
-    let count = counted(inputs_of(circuit, party));
+    let count = inputs_of(circuit, party) as usize;
     let own = picked(circuit, party, values);
     let hidden = picked(circuit, party, masks);
     let mut mine = blank();
@@ -74,12 +74,11 @@ fn externals_of_all(
     }
 }
 
-// The same, of the circuit in the file.
+// The same, of the circuit in a file that the reader accepts.
 pub fn mask_all(file: &[u8], n: u32, values: &[u8], masks: &[u8], externals: &mut [u8])
-    requires { length externals.old ≡ inputs_in (read_file file.now).wires }
+    requires accepted { (read_file file.now).answer ≡ accepts }
+    requires externals_len { length externals.old ≡ inputs_in (read_file file.now).wires }
     ensures { Masked file.now n (read_file file.now).wires values.now masks.now externals.old externals.new }
 {
-    let reading = read(file);
-    let circuit = reading.circuit;
-    externals_of_all(file, circuit, n, values, masks, externals);
+    externals_of_all(file, read(file).unwrap(), n, values, masks, externals);
 }

@@ -7,7 +7,6 @@ use super::masking::mask_all;
 use super::memory::sizes_of;
 use super::parties::{Shares, decode_all, keys_of_all, open_all};
 use engine::{lupiknam_garble, lupiknam_plain};
-use party_calls::counted;
 use session::AskedSession;
 
 // Under demand 3's conditions every call accepts, each party opens value plus mask on every wire, and decodes the plain circuit's outputs. The named
@@ -52,7 +51,7 @@ pub fn rehearse(
     let size = sizes.size;
     let each = sizes.each;
     let wide = sizes.wide;
-    let key = counted(k);
+    let key = k as usize;
     let garbled = lupiknam_garble(
         file,
         n,

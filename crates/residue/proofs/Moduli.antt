@@ -7,16 +7,19 @@ use mathlib.Core.Bool.{Bool, true, false, cond, ◌&&◌, ◌||◌, true≢false
 use mathlib.Core.List.{List}
 use Prim.Native.Nat.{ℕ, zero, suc, ◌+◌, ◌-◌, ◌%◌, ◌≤◌, ◌<◌}
 use native.Mathlib.Nat.{le_of_suc-le-suc, not-suc-le-zero, eq-or-lt_of_le, le_refl, le-suc, le_trans, le_of_lt}
-use native.Mathlib.Decide.{le_ind}
+use native.Mathlib.Decide.{le_ind, dec_lt}
 use native.Mathlib.Omega.{arith}
 use lib.Dec.{leb, ltb, eqb}
 use lib.ListN.{length, get_or}
-use borrow.Author.Tests.{ltb-true, leb-true, eqb-true, le-ltb, lt-ltb, le-leb, eq-eqb, ne_eqb}
-use Rattle.residue.specs.Prime.{remainders_below, is_prime, Prime, primes_below, prime_within, prime_from, PrimeAt, Primes}
+use Rattle.std.specs.Prelude.{Some, nat_eq, slice_get}
+use Rattle.std.specs.Option.{option_eq}
+use Rattle.std.specs.List.Sorted.{IsPartitionPoint, IsNonDecreasingBy}
+use Rattle.std.proofs.lemmas.Bool.{and_from, or_right}
+use Rattle.std.proofs.lemmas.Option.{slice_get-get_or, slice_get_past}
+use Rattle.std.proofs.lemmas.List.Sorted.{IsNonDecreasingBy-from_default}
+use borrow.Author.Tests.{ltb-true, ltb-false, leb-true, eqb-true, le-ltb, lt-ltb, le-leb, eq-eqb, ne_eqb}
+use Rattle.residue.specs.Prime.{remainders_below, is_prime, Prime, primes_below, prime_within, prime_from, found, PrimeAt, Primes}
 use Rattle.residue.proofs.Table.{and_left, and_right, every, at}
-
-and_both : (a b : Bool) → a ≡ true → b ≡ true → (a && b) ≡ true
-and_both a b e f = rw (e, f)
 
 remainders : (p n : ℕ) → remainders_below p n ≡ true → (d : ℕ) → 2 ≤ d → d < n → 0 < p % d
 unfolding remainders_below
@@ -38,15 +41,11 @@ is_prime→Prime p e = record {
   remainder = λ d h l. remainders p p (and_right (leb 2 p) (remainders_below p p) e) d h l;
 }
 
-or_right : (a b : Bool) → b ≡ true → (a || b) ≡ true
-or_right true b e = refl
-or_right false b e = e
-
 remainders_hold : (p n : ℕ) → ((d : ℕ) → 2 ≤ d → d < n → 0 < p % d) → remainders_below p n ≡ true
 unfolding remainders_below
 remainders_hold p zero h = refl
 remainders_hold p (suc n) h =
-    and_both (remainders_below p n) _ (remainders_hold p n (λ d t l. h d t (omega arith))) (last n (p % n) (λ t. h n t (omega arith)))
+    and_from (remainders_below p n) _ (remainders_hold p n (λ d t l. h d t (omega arith))) (last n (p % n) (λ t. h n t (omega arith)))
   where
     last : (d r : ℕ) → (2 ≤ d → 0 < r) → (ltb d 2 || ltb 0 r) ≡ true
     last zero r k = refl
@@ -56,7 +55,7 @@ remainders_hold p (suc n) h =
 -- and at every prime
 pub Prime→is_prime : {p : ℕ} → Prime p → is_prime p ≡ true
 unfolding is_prime
-Prime→is_prime {p} h = and_both (leb 2 p) _ (le-leb 2 p h.two) (remainders_hold p p h.remainder)
+Prime→is_prime {p} h = and_from (leb 2 p) _ (le-leb 2 p h.two) (remainders_hold p p h.remainder)
 
 -- a prime is one more for the numbers above it
 pub primes_below_prime : (n : ℕ) → is_prime n ≡ true → primes_below (suc n) ≡ suc (primes_below n)
@@ -115,6 +114,14 @@ entry-from a h = omega (arith, primes_below_mono h, a.place)
 pub byte-place : {x : ℕ} → x < 256 → primes_below x ≤ 54
 byte-place h = omega (arith, primes_below_mono (le_of_lt h), bytes_primes)
 
+-- where a table's entries cease to be below x, as many stand as primes are below x
+pub place_found : {xs : List ℕ} {x i : ℕ} → Primes xs → x < 256 → i ≤ length xs → IsPartitionPoint (λ y. ltb y x ≡ true) (λ y. ltb y x ≡ false) xs i
+    → i ≡ primes_below x
+place_found {xs} {x} {i} t h s d =
+    let fewer : primes_below x < i → ⊥ = λ w. omega (arith, entry-below (t.entry (i - 1) (omega (arith, t.size))) (ltb-true (get_or xs (i - 1) 0) x (d.0 (i - 1) 0 (omega arith) (omega arith)))) in
+    let more : i < primes_below x → ⊥ = λ w. omega (arith, entry-from (t.entry i (omega (arith, byte-place h))) (ltb-false (get_or xs i 0) x (d.1 i 0 (omega arith) (omega (arith, t.size, byte-place h))))) in
+    omega arith
+
 pub prime-place : {p : ℕ} → is_prime p ≡ true → p < 256 → primes_below p < 54
 prime-place e h = omega (arith, primes_below_past e h, bytes_primes)
 
@@ -134,6 +141,9 @@ ascending {xs} {i} {j} t l h =
     let left = t.entry i (omega arith) in
     let not-below : get_or xs j 0 ≤ get_or xs i 0 → ⊥ = λ w. omega (arith, entry-from left w, (t.entry j h).place) in
     omega arith
+
+pub rising : {xs : List ℕ} → Primes xs → IsNonDecreasingBy (λ p. p) xs
+rising {xs} t = IsNonDecreasingBy-from_default (λ p. p) xs 0 (λ i j l h. (let fallen : get_or xs j 0 < get_or xs i 0 → ⊥ = λ w. ⊎_elim (λ (v : i ≡ j). omega (arith, ap (λ (k : ℕ). get_or xs k 0) v)) (λ (v : i < j). omega (arith, ascending t v (omega (arith, t.size)))) (eq-or-lt_of_le l) in omega arith))
 
 -- the entry at the place of x is the smallest prime at least x
 pub first_reaches : {x r : ℕ} → PrimeAt (primes_below x) r → x ≤ r
@@ -177,6 +187,22 @@ none_first x {i} e h = within_none (256 - x) x (λ q k l. go q k (omega arith) (
     go q k l true w = absurd (omega (arith, prime-place w l, primes_below_mono k))
     go q k l false w = w
 
+-- both ways: the entry at the place of x, and none past the table's end
+some_prime : (r : ℕ) → is_prime r ≡ true → Some r ≡ found r
+unfolding is_prime
+some_prime zero e = cc
+some_prime (suc r) e = refl
+
+pub prime_found : {xs : List ℕ} (x : ℕ) {i : ℕ} → Primes xs → i ≡ primes_below x → slice_get xs i ≡ found (prime_from x)
+prime_found {xs} x {i} t e = go (dec_lt i 54)
+  where
+    go : Dec (i < 54) → slice_get xs i ≡ found (prime_from x)
+    go (yes h) =
+        slice_get-get_or xs i 0 (omega (arith, t.size))
+        ∙ some_prime (get_or xs i 0) (t.entry i h).prime
+        ∙ ap found (entry_first x e h (t.entry i h))
+    go (no h) = slice_get_past xs i (omega (arith, t.size)) ∙ ap found (none_first x e (omega arith))
+
 -- whatever prime byte lies from x on, the smallest is reached: it is prime, at least x, and no larger
 pub record Reached (x q r : ℕ) : Type 0 where
   pub prime : is_prime r ≡ true
@@ -214,7 +240,7 @@ zero-first : prime_from 0 ≡ 2
 unfolding prime_from prime_within is_prime remainders_below
 zero-first = refl
 
-pub first_tells : {p r : ℕ} → p < 256 → r ≡ prime_from p → eqb r p ≡ is_prime p
+first_tells : {p r : ℕ} → p < 256 → r ≡ prime_from p → eqb r p ≡ is_prime p
 unfolding prime_from
 first_tells {p} {r} b s = rw s (go (is_prime p) refl)
   where
@@ -225,3 +251,8 @@ first_tells {p} {r} b s = rw s (go (is_prime p) refl)
     go : (q : Bool) → is_prime p ≡ q → eqb (prime_from p) p ≡ is_prime p
     go true w = eq-eqb (prime_from p) p (sym (within_is w (256 - p) p (le_refl p) (omega arith) (λ q t k. k))) ∙ sym w
     go false w = ne_eqb (prime_from p) p (λ e. true≢false (sym (itself p e) ∙ w)) ∙ sym w
+
+pub found_tells : {p r : ℕ} → p < 256 → r ≡ prime_from p → option_eq nat_eq (found r) (Some p) ≡ is_prime p
+found_tells {p} {r = suc r} h e = first_tells h e
+found_tells {p = suc p} {r = zero} h e = sym (ne_eqb 0 (suc p) (λ w. cc)) ∙ first_tells h e
+found_tells {p = zero} {r = zero} h e = absurd (omega (arith, e, zero-first))

@@ -1,12 +1,13 @@
 -- Sums, differences, multiples and keys go part by part: of a front, of what is left after it, and of two vectors in a row. So do
 -- their bounds. Assumes nothing.
 use mathlib.Core.Path.{◌≡◌, refl, ◌∙◌, ap}
-use mathlib.Core.List.{List, [], ◌∷◌, ◌++◌, map, zip_with}
+use mathlib.Core.List.{List, [], ◌∷◌, ◌++◌, zip_with}
 use Prim.Native.Nat.{ℕ, zero, suc, ◌+◌}
 use native.Mathlib.Nat.{suc_inj}
 use native.Mathlib.Omega.{arith}
 use lib.ListN.{length, take, drop, length-take, length-drop}
 use lib.Seq.{get_or-take, get_or-drop}
+use Rattle.std.proofs.lemmas.List.{take-map, drop-map}
 use Rattle.residue.specs.Residue.{add, mul}
 use Rattle.residue.specs.Vector.{add_v, mul_v, key_v, AllBelow}
 
@@ -36,16 +37,6 @@ zip_append f [] (y ∷ ys) xs' ys' e = absurd (omega arith)
 zip_append f (x ∷ xs) [] xs' ys' e = absurd (omega arith)
 zip_append f (x ∷ xs) (y ∷ ys) xs' ys' e = ap (λ (l : List ℕ). f x y ∷ l) (zip_append f xs ys xs' ys' (suc_inj e))
 
-map-take : (f : ℕ → ℕ) (n : ℕ) (xs : List ℕ) → take n (map f xs) ≡ map f (take n xs)
-map-take f zero xs = refl
-map-take f (suc n) [] = refl
-map-take f (suc n) (x ∷ xs) = ap (λ (l : List ℕ). f x ∷ l) (map-take f n xs)
-
-map-drop : (f : ℕ → ℕ) (n : ℕ) (xs : List ℕ) → drop n (map f xs) ≡ map f (drop n xs)
-map-drop f zero xs = refl
-map-drop f (suc n) [] = refl
-map-drop f (suc n) (x ∷ xs) = map-drop f n xs
-
 module _ (p : ℕ) where
   pub add_v-take : (n : ℕ) (xs ys : List ℕ) → take n (add_v p xs ys) ≡ add_v p (take n xs) (take n ys)
   unfolding add_v
@@ -57,11 +48,11 @@ module _ (p : ℕ) where
 
   pub mul_v-take : (n c : ℕ) (xs : List ℕ) → take n (mul_v p c xs) ≡ mul_v p c (take n xs)
   unfolding mul_v
-  mul_v-take n c xs = map-take (mul p c) n xs
+  mul_v-take n c xs = take-map (mul p c) n xs
 
   pub mul_v-drop : (n c : ℕ) (xs : List ℕ) → drop n (mul_v p c xs) ≡ mul_v p c (drop n xs)
   unfolding mul_v
-  mul_v-drop n c xs = map-drop (mul p c) n xs
+  mul_v-drop n c xs = drop-map (mul p c) n xs
 
   pub key_v-take : (n : ℕ) (k : List ℕ) (e : ℕ) (d : List ℕ) → take n (key_v p k e d) ≡ key_v p (take n k) e (take n d)
   unfolding key_v

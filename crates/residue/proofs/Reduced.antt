@@ -2,7 +2,7 @@
 -- 16 bits, and a remainder by the reciprocal. Assumes nothing.
 use mathlib.Core.Path.{◌≡◌, ◌∙◌, sym, ap}
 use Prim.Native.Nat.{ℕ, ◌+◌, ◌-◌, ◌*◌, ◌/◌, ◌%◌, ◌≤◌, ◌<◌}
-use native.Mathlib.Nat.{mod-lt, mod-eq_of_lt, mod-eq-sub-mod, div-add-mod, div-le_self, mul-div-le, mul-le-mul, mul-le-mul_left, mul-lt-mul_of_pos_left, add-mod-mod, le-pred_of_lt}
+use native.Mathlib.Nat.{mod-lt, mod-eq_of_lt, mod-eq-sub-mod, div-add-mod, mul-div-le, mul-le-mul_left, mul-lt-mul_of_pos_left, add-mod-mod}
 use lib.Arith.{digits_mod}
 use native.Mathlib.Omega.{arith}
 use Rattle.residue.specs.Residue.{add, sub, mul}
@@ -28,10 +28,6 @@ pub sub_passes : {p a b : ℕ} → b < p → a < b → a + (p - b) ≡ sub p a b
 unfolding sub
 sub_passes {p} {a} {b} t h = rw (mod-eq_of_lt {n = b} {m = p} t) (sym (mod-eq_of_lt (omega arith)))
 
--- two bytes' product leaves room for a third byte in 16 bits
-pub bytes_product : {a b : ℕ} → a < 256 → b < 256 → a * b ≤ 65025
-bytes_product s t = mul-le-mul (le-pred_of_lt s) (le-pred_of_lt t)
-
 pub add_multiple : (p a c b : ℕ) → (a + c * b) % p ≡ add p a (mul p c b)
 unfolding add mul
 add_multiple p a c b = sym (add-mod-mod a (c * b) p)
@@ -43,11 +39,6 @@ module _ (p m x : ℕ) (positive : 0 < p) (reciprocal : m ≡ 65536 / p) (small 
 
   high : 65536 ≤ p * m + p
   high = rw reciprocal (omega (arith, div-add-mod 65536 p, mod-lt 65536 positive))
-
-  pub product-fits : x * m < 4294967296
-  product-fits =
-      let most : x * m ≤ 65535 * 65536 = mul-le-mul {n₂ = 65535} {m₂ = 65536} (omega arith) (rw reciprocal (div-le_self 65536 p)) in
-      omega arith
 
   pub quotient_low : x * m / 65536 * p ≤ x
   quotient_low =

@@ -1,11 +1,12 @@
 -- Laws of key vectors: the length of a sum, a difference, a multiple and a key, the entry at each place, and that all of
 -- these have entries below p. Assumes nothing.
 use mathlib.Core.Path.{◌≡◌, refl, ◌∙◌, sym, ap}
-use mathlib.Core.List.{List, [], ◌∷◌, map, zip_with}
+use mathlib.Core.List.{List, [], ◌∷◌, zip_with}
 use Prim.Native.Nat.{ℕ, zero, suc, ◌+◌, ◌*◌, ◌%◌, ◌<◌}
 use native.Mathlib.Nat.{le_of_suc-le-suc, not-suc-le-zero, mod-lt, suc_inj, zero-add}
 use native.Mathlib.Omega.{arith}
 use lib.ListN.{length, get_or, length-map}
+use Rattle.std.proofs.lemmas.List.{get_or-map}
 use Rattle.residue.specs.Residue.{add, sub, mul}
 use Rattle.residue.specs.Vector.{add_v, sub_v, mul_v, key_v, AllBelow}
 use Rattle.residue.proofs.Reduced.{add_multiple}
@@ -31,11 +32,6 @@ zip_below f p t [] ys i h = absurd (not-suc-le-zero h)
 zip_below f p t (x ∷ xs) [] i h = absurd (not-suc-le-zero h)
 zip_below f p t (x ∷ xs) (y ∷ ys) zero h = t x y
 zip_below f p t (x ∷ xs) (y ∷ ys) (suc i) h = zip_below f p t xs ys i (le_of_suc-le-suc h)
-
-pub map_at : (f : ℕ → ℕ) (xs : List ℕ) (i : ℕ) → i < length xs → get_or (map f xs) i 0 ≡ f (get_or xs i 0)
-map_at f [] i h = absurd (not-suc-le-zero h)
-map_at f (x ∷ xs) zero h = refl
-map_at f (x ∷ xs) (suc i) h = map_at f xs i (le_of_suc-le-suc h)
 
 pub add-below : {p : ℕ} → 0 < p → (a b : ℕ) → add p a b < p
 unfolding add
@@ -77,7 +73,7 @@ sub_v-at p xs ys e i h = zip_at (sub p) xs ys e i h
 
 pub mul_v-at : (p c : ℕ) (xs : List ℕ) (i : ℕ) → i < length xs → get_or (mul_v p c xs) i 0 ≡ mul p c (get_or xs i 0)
 unfolding mul_v
-mul_v-at p c xs i h = map_at (mul p c) xs i h
+mul_v-at p c xs i h = get_or-map (mul p c) xs i 0 0 h
 
 pub key_v-at : (p : ℕ) (k : List ℕ) (e : ℕ) (d : List ℕ) → length k ≡ length d → (i : ℕ) → i < length k
     → get_or (key_v p k e d) i 0 ≡ add p (get_or k i 0) (mul p e (get_or d i 0))

@@ -1,6 +1,6 @@
 -- Prime numbers: the test that computes, what it means, and how many primes lie below a number.
 -- Assumes nothing.
-use Rattle.std.specs.Prelude.{◌≡◌, Bool, true, cond, ◌&&◌, ◌||◌, List, ℕ, zero, suc, ◌-◌, ◌%◌, ◌≤◌, ◌<◌, leb, ltb, length, get_or}
+use Rattle.std.specs.Prelude.{◌≡◌, Bool, true, cond, ◌&&◌, ◌||◌, List, ℕ, zero, suc, ◌-◌, ◌%◌, ◌≤◌, ◌<◌, leb, ltb, length, get_or, Option, None, Some}
 
 -- remainders_below p n: p divided by d leaves a remainder, for each d from 2 below n
 unfoldable pub remainders_below : ℕ → ℕ → Bool
@@ -29,6 +29,11 @@ prime_within x (suc left) = cond (is_prime x) x (prime_within (suc x) left)
 -- the smallest prime at least x that is a byte; where there is none, 0
 unfoldable pub prime_from : ℕ → ℕ
 prime_from x = prime_within x (256 - x)
+
+-- the same as an answer: none where it is 0, which is no prime
+abbrev pub found : ℕ → Option ℕ
+found zero = None
+found (suc p) = Some (suc p)
 
 -- r is the prime that has i primes below it, so the i-th from 0: 2 for 0, 3 for 1, 5 for 2, ..
 pub record PrimeAt (i r : ℕ) : Type 0 where

@@ -11,10 +11,8 @@ pub fn scale(p: u8, c: u8, out: &mut [u8])
     ensures { out.new ≡ mul_v p c out.old }
 {
     let m = reciprocal(p);
-    let mut i = 0;
-    while i < out.len() {
-        out[i] = reduce(p, m, multiple_added(0, c, out[i]));
-        i += 1;
+    for x in out.iter_mut() {
+        *x = reduce(p, m, multiple_added(0, c, *x));
     }
 }
 
@@ -24,10 +22,8 @@ pub fn add_multiple(p: u8, c: u8, b: &[u8], out: &mut [u8])
     ensures { out.new ≡ add_v p out.old (mul_v p c b.now) }
 {
     let m = reciprocal(p);
-    let mut i = 0;
-    while i < b.len() {
-        out[i] = reduce(p, m, multiple_added(out[i], c, b[i]));
-        i += 1;
+    for (i, x) in out.iter_mut().enumerate() {
+        *x = reduce(p, m, multiple_added(*x, c, b[i]));
     }
 }
 
@@ -38,10 +34,8 @@ pub fn key_of(p: u8, zero: &[u8], e: u8, offset: &[u8], out: &mut [u8])
     ensures { out.new ≡ key_v p zero.now e offset.now }
 {
     let m = reciprocal(p);
-    let mut i = 0;
-    while i < out.len() {
-        out[i] = reduce(p, m, multiple_added(zero[i], e, offset[i]));
-        i += 1;
+    for (i, x) in out.iter_mut().enumerate() {
+        *x = reduce(p, m, multiple_added(zero[i], e, offset[i]));
     }
 }
 

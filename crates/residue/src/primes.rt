@@ -1,6 +1,6 @@
 // The moduli: a table of the primes from 2 to 251, and the questions that it answers.
 ghost use Rattle.std.specs.Prelude.{◌≡◌};
-ghost use Rattle.residue.specs.Prime.{is_prime, primes_below, prime_from, Primes};
+ghost use Rattle.residue.specs.Prime.{is_prime, primes_below, prime_from, found, Primes};
 
 const PRIMES: [u8; 54] = [
     2, 3, 5, 7, 11, 13, 17, 19, 23, 29, 31, 37, 41, 43, 47, 53, 59, 61, 67, 71, 73, 79, 83, 89, 97,
@@ -15,37 +15,23 @@ pub fn prime_table() -> [u8; 54]
     PRIMES
 }
 
-// The place of the first prime that is not below `x`, or 54 where there is none: as many primes are below `x`. Found by halving: the
-// entries before `low` are below `x`, and those from `high` on are not.
+// The place of the first prime that is not below `x`, or 54 where there is none: as many primes are below `x`.
 pub fn primes_below(x: u8) -> usize
     ensures { result ≡ primes_below x }
 {
-    let table = prime_table();
-    let mut low = 0;
-    let mut high = 54;
-    while low < high {
-        let middle = (low + high) / 2;
-        if table[middle] < x {
-            low = middle + 1;
-        } else {
-            high = middle;
-        }
-    }
-    low
+    prime_table().partition_point(|prime| *prime < x)
 }
 
-// The smallest prime at least `x`; above 251 no byte is one, and the answer is 0.
-pub fn prime_from(x: u8) -> u8
-    ensures { result ≡ prime_from x }
+// The smallest prime at least `x`; above 251 no byte is one.
+pub fn prime_from(x: u8) -> Option<u8>
+    ensures { result ≡ found (prime_from x) }
 {
-    let table = prime_table();
-    let place = primes_below(x);
-    if place < 54 { table[place] } else { 0 }
+    prime_table().get(primes_below(x)).copied()
 }
 
 // Whether `p` is a modulus, so a prime: then, and only then, it is the smallest from itself on.
 pub fn is_modulus(p: u8) -> bool
     ensures { result ≡ is_prime p }
 {
-    prime_from(p) == p
+    prime_from(p) == Some(p)
 }

@@ -22,8 +22,8 @@ pub fn mul(p: u8, a: u8, b: u8) -> u8
     requires { 0 < p }
     ensures { result ≡ mul p a b }
 {
-    let product = (a as u16) * (b as u16);
-    (product % (p as u16)) as u8
+    let product = u16::from(a) * u16::from(b);
+    (product % u16::from(p)) as u8
 }
 
 // What `reduce` multiplies by where it would divide by `p`.
@@ -31,7 +31,7 @@ pub fn reciprocal(p: u8) -> u32
     requires { 0 < p }
     ensures { result ≡ 65536 / p }
 {
-    65536 / (p as u32)
+    65536 / u32::from(p)
 }
 
 // `x` modulo `p`, with `m` the reciprocal of `p`. The quotient found is at most one too small.
@@ -39,8 +39,8 @@ pub fn reduce(p: u8, m: u32, x: u16) -> u8
     requires { (0 < p) × (m ≡ 65536 / p) }
     ensures { result ≡ x % p }
 {
-    let wide = x as u32;
-    let modulus = p as u32;
+    let wide = u32::from(x);
+    let modulus = u32::from(p);
     let quotient = wide * m / 65536;
     let rest = wide - quotient * modulus;
     if rest < modulus {
@@ -54,5 +54,5 @@ pub fn reduce(p: u8, m: u32, x: u16) -> u8
 pub fn multiple_added(a: u8, c: u8, b: u8) -> u16
     ensures { result ≡ a + c * b }
 {
-    (a as u16) + (c as u16) * (b as u16)
+    u16::from(a) + u16::from(c) * u16::from(b)
 }

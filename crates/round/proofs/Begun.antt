@@ -4,7 +4,6 @@ use mathlib.Core.Path.{◌≡◌}
 use mathlib.Core.List.{List}
 use Prim.Native.Nat.{ℕ, ◌*◌}
 use lib.ListN.{length, get_or}
-use Rattle.checks.specs.declared.Answer.TheVariants.{Accepted}
 use Rattle.meter.specs.Meter.{Charge}
 use Rattle.words.specs.declared.gate.Wire.{Wire}
 use Rattle.circuit.specs.Wires.{wire_at}
@@ -24,6 +23,7 @@ use Rattle.scheme.proofs.Bounds.{input-first}
 use Rattle.round.proofs.FromContributions.{well_drawn, own_part}
 use Rattle.round.proofs.Inputs.{input-made, input-owned}
 use Rattle.round.proofs.Start.{Drew, Gathers, Start}
+use Rattle.checks.specs.Answer.{accepts}
 
 module _ {file : List ℕ} {wires : List Wire} {outputs : List ℕ} (circuit : AcceptedCircuit file wires outputs) where
   gathers : Gathers wires
@@ -38,7 +38,7 @@ module _ {file : List ℕ} {wires : List Wire} {outputs : List ℕ} (circuit : A
   }
 
   module _ (n K : ℕ) (contributions : List ℕ) (size : length contributions ≡ n * contribution_size K wires)
-      (bytes : contributions_checked n K wires contributions ≡ Accepted) (offsets : offsets_checked n K wires contributions ≡ Accepted) where
+      (bytes : contributions_checked n K wires contributions ≡ accepts) (offsets : offsets_checked n K wires contributions ≡ accepts) where
     contributed : Contributed n K wires contributions
     contributed = contributions-below n K wires contributions size bytes
 

@@ -11,7 +11,6 @@ use Rattle.lists.proofs.Blocks.{length_blocks_same}
 use Rattle.residue.specs.Vector.{NotZero}
 use Rattle.checks.specs.declared.Refusal.TheVariants.{ContributionTooLarge, ZeroOffset}
 use Rattle.checks.proofs.Passed.{none_bad_passed, none_bad_none}
-use Rattle.checks.specs.declared.Answer.TheVariants.{Accepted}
 use Rattle.words.specs.declared.gate.Wire.{Wire}
 use Rattle.counts.specs.Moduli.{used, some_below}
 use Rattle.scheme.specs.Contribution.{offset_at, contribution_size, contribution_moduli}
@@ -23,11 +22,12 @@ use Rattle.scheme.proofs.Contributed.{Contributed, length_nth, nth_whole}
 use Rattle.scheme.proofs.Drawn.{own-offset, offset_nth}
 use Rattle.scheme.specs.Bytes.{all_zero, contributions_checked, zero_offset, offsets_checked}
 use Rattle.scheme.proofs.ByteChecks.{bytes-passed, bytes_below}
+use Rattle.checks.specs.Answer.{accepts}
 
 -- ---- 16
 
 module _ (n K : ℕ) (wires : List Wire) (contributions : List ℕ) where
-  pub contributions-below : length contributions ≡ n * contribution_size K wires → contributions_checked n K wires contributions ≡ Accepted → Contributed n K wires contributions
+  pub contributions-below : length contributions ≡ n * contribution_size K wires → contributions_checked n K wires contributions ≡ accepts → Contributed n K wires contributions
   unfolding contributions_checked
   contributions-below e k =
       let moduli : List ℕ = contribution_moduli K wires in
@@ -37,7 +37,7 @@ module _ (n K : ℕ) (wires : List Wire) (contributions : List ℕ) where
       } in
       record { size = e; party = each_nth (length-contribution_moduli K wires) u }
 
-  pub contributions_passed : Contributed n K wires contributions → contributions_checked n K wires contributions ≡ Accepted
+  pub contributions_passed : Contributed n K wires contributions → contributions_checked n K wires contributions ≡ accepts
   unfolding contributions_checked
   contributions_passed r =
       bytes-passed contributions (blocks n (λ _. contribution_moduli K wires)) ContributionTooLarge
@@ -64,7 +64,7 @@ module _ (n K : ℕ) (wires : List Wire) (contributions : List ℕ) where
   abbrev offset_of : ℕ → ℕ → List ℕ
   offset_of p s = part (nth_piece contributions (contribution_size K wires) s) (offset_at K wires p) K
 
-  pub offsets_not_zero : offsets_checked n K wires contributions ≡ Accepted → (p s : ℕ) → p < 256 → used wires p ≡ true → s < n
+  pub offsets_not_zero : offsets_checked n K wires contributions ≡ accepts → (p s : ℕ) → p < 256 → used wires p ≡ true → s < n
       → all_zero (part (nth_piece contributions (contribution_size K wires) s) (offset_at K wires p) K) ≡ false
   unfolding offsets_checked zero_offset
   offsets_not_zero e p s h t l =
@@ -75,7 +75,7 @@ module _ (n K : ℕ) (wires : List Wire) (contributions : List ℕ) where
 
   pub offsets_passed : ((p s : ℕ) → p < 256 → used wires p ≡ true → s < n
       → all_zero (part (nth_piece contributions (contribution_size K wires) s) (offset_at K wires p) K) ≡ false)
-      → offsets_checked n K wires contributions ≡ Accepted
+      → offsets_checked n K wires contributions ≡ accepts
   unfolding offsets_checked zero_offset
   offsets_passed fine =
       none_bad_passed 256 (zero_offset n K wires contributions) ZeroOffset (λ p h. go p h (used wires p) refl)
@@ -87,8 +87,8 @@ module _ (n K : ℕ) (wires : List Wire) (contributions : List ℕ) where
 -- ---- what passes for all parties passes for party s alone, and its offsets are not zero
 
 module _ (n K : ℕ) (wires : List Wire) (contributions : List ℕ) (s : ℕ) (party : s < n) where
-  module _ (long : length contributions ≡ n * contribution_size K wires) (fine : offsets_checked n K wires contributions ≡ Accepted) where
-    pub own_offsets_passed : offsets_checked 1 K wires (nth_piece contributions (contribution_size K wires) s) ≡ Accepted
+  module _ (long : length contributions ≡ n * contribution_size K wires) (fine : offsets_checked n K wires contributions ≡ accepts) where
+    pub own_offsets_passed : offsets_checked 1 K wires (nth_piece contributions (contribution_size K wires) s) ≡ accepts
     own_offsets_passed =
         offsets_passed 1 K wires (nth_piece contributions (contribution_size K wires) s)
         (λ p t h u l. (

@@ -11,7 +11,6 @@ use Rattle.residue.specs.Residue.{sub}
 use Rattle.residue.proofs.Vectors.{add-below}
 use Rattle.residue.proofs.Laws.{sub-add}
 use Rattle.checks.proofs.Passed.{and_then_passed, afterwards_passed}
-use Rattle.checks.specs.declared.Answer.TheVariants.{Accepted}
 use Rattle.meter.specs.Meter.{Charge}
 use Rattle.words.specs.declared.gate.Wire.{Wire}
 use Rattle.circuit.specs.Wires.{modulus_at}
@@ -35,6 +34,7 @@ use Rattle.round.proofs.Shared.{parties_fit, partakers_pass}
 use Rattle.round.proofs.Masks.{same-readable}
 use Rattle.round.proofs.Garbled.{sheet-long, sheet-at}
 use Rattle.round.proofs.Opens.{opened-externals, opened-external}
+use Rattle.checks.specs.Answer.{accepts}
 
 module _ {pad : Pad} {file : List ℕ} {n K : ℕ} {contributions values : List ℕ} {meter : Charge} {lent : Lent}
     (start : Start pad file n K contributions values meter lent) where
@@ -52,7 +52,7 @@ module _ {pad : Pad} {file : List ℕ} {n K : ℕ} {contributions values : List 
 
   -- ---- plain evaluation
 
-  pub evaluates : plainly pad file n K contributions values meter lent ≡ Accepted
+  pub evaluates : plainly pad file n K contributions values meter lent ≡ accepts
   unfolding plainly plain_checked
   evaluates =
       and_then_passed start.conditions.accepted
@@ -80,7 +80,7 @@ module _ {pad : Pad} {file : List ℕ} {n K : ℕ} {contributions values : List 
         rw (sheet-at start party h i l may)
         (mask_below start.accepted start.drew.well (get_or outputs i 0) (start.accepted.outputs_made i l))
 
-    pub decodes : decoding pad file n K contributions values meter lent party ≡ Accepted
+    pub decodes : decoding pad file n K contributions values meter lent party ≡ accepts
     unfolding decoding
     decodes =
         decode_passed file n party bytes sheet (lent.results party) start.conditions.accepted (parties_fit start) h (partakers_pass start)

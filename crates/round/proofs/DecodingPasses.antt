@@ -8,7 +8,6 @@ use lib.Dec.{ltb}
 use borrow.Author.Tests.{ltb-true}
 use lib.ListN.{length, get_or}
 use Rattle.checks.specs.declared.Refusal.TheVariants.{ValueTooLarge}
-use Rattle.checks.specs.declared.Answer.TheVariants.{Accepted}
 use Rattle.checks.proofs.Passed.{and_then_passed, none_bad_passed}
 use Rattle.words.specs.declared.gate.Wire.{Wire}
 use Rattle.circuit.specs.Wires.{modulus_at}
@@ -18,6 +17,7 @@ use Rattle.session.specs.Session.{partakers_checked, too_large}
 use Rattle.calls.specs.Decode.{decode_lent, decode_checked}
 use Rattle.session.proofs.Sessions.{PartiesFit, parties_passed, party_passed, lengths-passed}
 use Rattle.scheme.proofs.ByteChecks.{below-too_large, either_fine}
+use Rattle.checks.specs.Answer.{accepts}
 
 -- what is lent to someone who may read certain outputs: of the masks only theirs count
 pub record DecodeFits (wires : List Wire) (outputs : List ℕ) (may : ℕ → Bool) (externals masks results : List ℕ) : Type 0 where
@@ -33,7 +33,7 @@ tested true b fine = fine refl
 tested false b fine = refl
 
 pub lent-passed : {wires : List Wire} {outputs : List ℕ} {may : ℕ → Bool} {externals masks results : List ℕ}
-    → DecodeFits wires outputs may externals masks results → decode_lent wires outputs may externals masks (length results) ≡ Accepted
+    → DecodeFits wires outputs may externals masks results → decode_lent wires outputs may externals masks (length results) ≡ accepts
 lent-passed {wires} {outputs} {may} {externals} {masks} {results} r =
     let modulus : ℕ → ℕ = λ i. modulus_at wires (get_or outputs i 0) in
     and_then_passed (lengths-passed (rw (r.externals_length, r.masks_length, r.results_length)))
@@ -46,9 +46,9 @@ lent-passed {wires} {outputs} {may} {externals} {masks} {results} r =
     (λ h. tested (may i) (too_large masks modulus i) (λ e. below-too_large masks modulus i (r.mask i (ltb-true i (length outputs) h) e))))))
 
 module _ (file : List ℕ) (n party : ℕ) (externals masks results : List ℕ) where
-  pub decode_passed : (read_file file).answer ≡ Accepted → PartiesFit n → party < n → partakers_checked n (read_file file).wires (read_file file).named ≡ Accepted
+  pub decode_passed : (read_file file).answer ≡ accepts → PartiesFit n → party < n → partakers_checked n (read_file file).wires (read_file file).named ≡ accepts
       → DecodeFits (read_file file).wires (read_file file).outputs (readable (read_file file).named party) externals masks results
-      → decode_checked file n party externals masks results ≡ Accepted
+      → decode_checked file n party externals masks results ≡ accepts
   unfolding decode_checked
   decode_passed read parties h partakers lent =
       and_then_passed read (and_then_passed (parties_passed parties) (and_then_passed (party_passed h) (and_then_passed partakers (lent-passed lent))))

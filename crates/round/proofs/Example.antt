@@ -13,7 +13,6 @@ use Rattle.lists.specs.First.{first_from, first}
 use Rattle.shake.specs.Numbers.{bytes_of}
 use Rattle.residue.specs.Prime.{remainders_below, is_prime}
 use Rattle.residue.specs.Residue.{add, mul}
-use Rattle.checks.specs.declared.Answer.TheVariants.{Accepted}
 use Rattle.checks.specs.Checked.{unless, none_bad}
 use Rattle.words.specs.declared.gate.Gate.TheVariants.{Multiply}
 use Rattle.words.specs.declared.gate.Wire.{Wire}
@@ -37,6 +36,7 @@ use Rattle.round.specs.Copies.{CopyOf}
 use Rattle.words.specs.Encode.{file_of}
 use Rattle.round.specs.Example.{file, wires, outputs, named, contributions, values, meter, lent}
 use Rattle.round.proofs.RealPad.{shake_claim}
+use Rattle.checks.specs.Answer.{accepts}
 
 reads : read_file file ≡ accepted wires outputs named
 unfolding file file_of bytes_of wires outputs named blocks read_file headed read_from after ended read_word said check after_entry is_prime remainders_below
@@ -66,11 +66,11 @@ size : length contributions ≡ 2 * contribution_size 1 wires
 unfolding contributions contribution_size wires sum_to some_below recipe
 size = refl
 
-bytes : contributions_checked 2 1 wires contributions ≡ Accepted
+bytes : contributions_checked 2 1 wires contributions ≡ accepts
 unfolding contributions_checked bytes_checked none_bad unless first first_from blocks contributions contribution_moduli wires some_below recipe
 bytes = refl
 
-offsets : offsets_checked 2 1 wires contributions ≡ Accepted
+offsets : offsets_checked 2 1 wires contributions ≡ accepts
 unfolding offsets_checked zero_offset none_bad unless first first_from part contributions contribution_size offset_at all_zero wires sum_to some_below recipe
 offsets = refl
 
@@ -126,8 +126,8 @@ conditions =
           (subst (λ (parties : List ℕ). names (get_or parties i 0) party ≡ true) named_read e);
       key_length = omega arith;
       contributions_length = as_read (λ ws. length contributions ≡ 2 * contribution_size 1 ws) size;
-      contributions_bytes = as_read (λ ws. contributions_checked 2 1 ws contributions ≡ Accepted) bytes;
-      offsets = as_read (λ ws. offsets_checked 2 1 ws contributions ≡ Accepted) offsets;
+      contributions_bytes = as_read (λ ws. contributions_checked 2 1 ws contributions ≡ accepts) bytes;
+      offsets = as_read (λ ws. offsets_checked 2 1 ws contributions ≡ accepts) offsets;
       values_length = as_read (λ ws. length values ≡ inputs_in ws) values-size;
       values_below = as_read (λ ws. (w : ℕ) → w < inputs_in ws → get_or values w 0 < modulus_at ws w) below;
       lengths =

@@ -9,7 +9,6 @@ use Rattle.lists.proofs.Blocks.{length-tab, get_or-tab}
 use Rattle.residue.specs.Residue.{add}
 use Rattle.residue.proofs.Vectors.{add-below}
 use Rattle.checks.proofs.Passed.{afterwards_passed}
-use Rattle.checks.specs.declared.Answer.TheVariants.{Accepted}
 use Rattle.meter.specs.Meter.{Charge}
 use Rattle.words.specs.declared.gate.Wire.{Wire}
 use Rattle.circuit.specs.Wires.{modulus_at, inputs_in}
@@ -25,6 +24,7 @@ use Rattle.round.proofs.Inputs.{input-made}
 use Rattle.round.proofs.Start.{Start}
 use Rattle.round.proofs.Shared.{parties_fit, partakers_pass}
 use Rattle.round.proofs.Garbled.{input_mask_at}
+use Rattle.checks.specs.Answer.{accepts}
 
 map_at : (f : ℕ → ℕ) (xs : List ℕ) (i : ℕ) → i < length xs → get_or (map f xs) i 0 ≡ f (get_or xs i 0)
 map_at f [] i h = absurd (not-suc-le-zero h)
@@ -62,7 +62,7 @@ module _ {pad : Pad} {file : List ℕ} {n K : ℕ} {contributions values : List 
       → get_or (own all party) i 0 < modulus_at wires (get_or (own_inputs party wires) i 0)
   own_fits all party i below h = rw (own_at all party i h) (below (get_or (own_inputs party wires) i 0) (start.gathers.input party i h))
 
-  pub has-externals : (party : ℕ) → party < n → external_values pad file n K contributions values meter lent party ≡ Accepted
+  pub has-externals : (party : ℕ) → party < n → external_values pad file n K contributions values meter lent party ≡ accepts
   unfolding external_values
   has-externals party h =
       externals_passed

@@ -6,7 +6,6 @@ use mathlib.Core.List.{List}
 use Prim.Native.Nat.{ℕ, ◌<◌}
 use lib.ListN.{length, get_or}
 use Rattle.checks.specs.declared.Refusal.TheVariants.{ValueTooLarge}
-use Rattle.checks.specs.declared.Answer.TheVariants.{Accepted}
 use Rattle.checks.proofs.Passed.{and_then_passed, none_bad_passed}
 use Rattle.circuit.specs.Wires.{modulus_at}
 use Rattle.circuit.specs.File.{read_file}
@@ -14,12 +13,13 @@ use Rattle.session.specs.Session.{partakers_checked, too_large}
 use Rattle.calls.specs.Externals.{own_inputs, externals_checked}
 use Rattle.session.proofs.Sessions.{PartiesFit, parties_passed, party_passed, lengths-passed}
 use Rattle.scheme.proofs.ByteChecks.{below-too_large, either_fine}
+use Rattle.checks.specs.Answer.{accepts}
 
 pub record ExternalsFit (file : List ℕ) (n party : ℕ) (values masks externals : List ℕ) : Type 0 where
-  pub read : (read_file file).answer ≡ Accepted
+  pub read : (read_file file).answer ≡ accepts
   pub parties : PartiesFit n
   pub takes_part : party < n
-  pub partakers : partakers_checked n (read_file file).wires (read_file file).named ≡ Accepted
+  pub partakers : partakers_checked n (read_file file).wires (read_file file).named ≡ accepts
   pub values_length : length values ≡ length (own_inputs party (read_file file).wires)
   pub masks_length : length masks ≡ length (own_inputs party (read_file file).wires)
   pub externals_length : length externals ≡ length (own_inputs party (read_file file).wires)
@@ -28,7 +28,7 @@ pub record ExternalsFit (file : List ℕ) (n party : ℕ) (values masks external
   pub mask : (i : ℕ) → i < length (own_inputs party (read_file file).wires)
       → get_or masks i 0 < modulus_at (read_file file).wires (get_or (own_inputs party (read_file file).wires) i 0)
 
-pub externals_passed : {file : List ℕ} {n party : ℕ} {values masks externals : List ℕ} → ExternalsFit file n party values masks externals → externals_checked file n party values masks externals ≡ Accepted
+pub externals_passed : {file : List ℕ} {n party : ℕ} {values masks externals : List ℕ} → ExternalsFit file n party values masks externals → externals_checked file n party values masks externals ≡ accepts
 unfolding externals_checked
 externals_passed {file} {n} {party} {values} {masks} {externals} r =
     let own : List ℕ = own_inputs party (read_file file).wires in

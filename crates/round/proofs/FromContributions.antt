@@ -6,7 +6,6 @@ use Prim.Native.Nat.{ℕ, ◌<◌}
 use native.Mathlib.Omega.{arith}
 use Rattle.lists.specs.Blocks.{nth_piece}
 use Rattle.residue.proofs.Moduli.{is_prime→Prime}
-use Rattle.checks.specs.declared.Answer.TheVariants.{Accepted}
 use Rattle.words.specs.declared.gate.Wire.{Wire}
 use Rattle.circuit.specs.Wires.{modulus_at}
 use Rattle.circuit.specs.Accepted.{AcceptedCircuit}
@@ -18,6 +17,7 @@ use Rattle.scheme.proofs.Drawn.{offset-length, offset-below, key-length, mask_be
 use Rattle.scheme.specs.Bytes.{offsets_checked}
 use Rattle.round.proofs.Contributions.{own_offset_not_zero}
 use Rattle.scheme.specs.Drawn.{WellDrawn, OwnPart}
+use Rattle.checks.specs.Answer.{accepts}
 
 module _ {n K : ℕ} {file : List ℕ} {wires : List Wire} {outputs contributions : List ℕ} (accepted : AcceptedCircuit file wires outputs) (r : Contributed n K wires contributions) where
   pub well_drawn : WellDrawn n K wires (drawn n K wires contributions)
@@ -30,7 +30,7 @@ module _ {n K : ℕ} {file : List ℕ} {wires : List Wire} {outputs contribution
         mask_below n K wires contributions w j (omega (arith, (is_prime→Prime (modulus_at wires w) (accepted.fits w h).prime).two));
   }
 
-  pub own_part : offsets_checked n K wires contributions ≡ Accepted → (s : ℕ) → s < n → OwnPart n K s wires (drawn n K wires contributions) (drawn 1 K wires (nth_piece contributions (contribution_size K wires) s))
+  pub own_part : offsets_checked n K wires contributions ≡ accepts → (s : ℕ) → s < n → OwnPart n K s wires (drawn n K wires contributions) (drawn 1 K wires (nth_piece contributions (contribution_size K wires) s))
   own_part fine s l = record {
     party = l;
     key = λ w h k. own_key n K wires contributions r.size w 0 h k s l;

@@ -6,7 +6,6 @@ use mathlib.Core.List.{List}
 use Prim.Native.Nat.{ℕ, ◌<◌}
 use lib.ListN.{length, get_or}
 use Rattle.checks.proofs.Passed.{afterwards_passed}
-use Rattle.checks.specs.declared.Answer.TheVariants.{Accepted}
 use Rattle.meter.specs.Meter.{Charge}
 use Rattle.words.specs.declared.gate.Wire.{Wire}
 use Rattle.circuit.specs.Wires.{inputs_in}
@@ -22,6 +21,7 @@ use Rattle.round.specs.Round.{Lent, sheet_of, garbling, rows, input_masks, outpu
 use Rattle.round.proofs.Start.{Start}
 use Rattle.round.proofs.Shared.{session-fits, partakers_pass}
 use Rattle.round.proofs.Masks.{input-mask, sheet-size, sheet-mask, nth_sheet}
+use Rattle.checks.specs.Answer.{accepts}
 
 module _ {pad : Pad} {file : List ℕ} {n K : ℕ} {contributions values : List ℕ} {meter : Charge} {lent : Lent}
     (start : Start pad file n K contributions values meter lent) where
@@ -37,7 +37,7 @@ module _ {pad : Pad} {file : List ℕ} {n K : ℕ} {contributions values : List 
   abbrev draw : Draw
   draw = drawn n K wires contributions
 
-  pub garbles : garbling pad file n K contributions values meter lent ≡ Accepted
+  pub garbles : garbling pad file n K contributions values meter lent ≡ accepts
   unfolding garbling
   garbles =
       garble_passed file n K contributions lent.rows lent.input_masks lent.output_masks meter

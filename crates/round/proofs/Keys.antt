@@ -13,7 +13,6 @@ use Rattle.lists.proofs.Blocks.{length_blocks_same, blocks_ext, part_blocks_same
 use Rattle.residue.specs.Vector.{key_v}
 use Rattle.residue.proofs.Vectors.{key_v-length, key_v-below}
 use Rattle.checks.proofs.Passed.{afterwards_passed}
-use Rattle.checks.specs.declared.Answer.TheVariants.{Accepted}
 use Rattle.meter.specs.Meter.{Charge}
 use Rattle.words.specs.declared.gate.Wire.{Wire}
 use Rattle.circuit.specs.Wires.{modulus_at, inputs_in}
@@ -34,6 +33,7 @@ use Rattle.round.proofs.Shared.{session-fits, partakers_pass}
 use Rattle.round.proofs.Inputs.{input-made, input-recorded, input-zero_key}
 use Rattle.round.proofs.Own.{own-contribution, own_alone, own-offsets, own-part}
 use Rattle.round.proofs.External.{externals-size, external-fits}
+use Rattle.checks.specs.Answer.{accepts}
 
 module _ {pad : Pad} {file : List ℕ} {n K : ℕ} {contributions values : List ℕ} {meter : Charge} {lent : Lent}
     (start : Start pad file n K contributions values meter lent) where
@@ -63,7 +63,7 @@ module _ {pad : Pad} {file : List ℕ} {n K : ℕ} {contributions values : List 
 
   -- ---- a party's keys
 
-  pub has-keys : (party : ℕ) → party < n → input_keys pad file n K contributions values meter lent party ≡ Accepted
+  pub has-keys : (party : ℕ) → party < n → input_keys pad file n K contributions values meter lent party ≡ accepts
   unfolding input_keys
   has-keys party h =
       input_keys_passed
@@ -125,7 +125,7 @@ module _ {pad : Pad} {file : List ℕ} {n K : ℕ} {contributions values : List 
   pub keys-at : (w : ℕ) → w < inputs_in wires → nth_piece (keys pad file n K contributions values meter lent) (n * K) w ≡ key w
   keys-at w h = ap (λ (xs : List ℕ). nth_piece xs (n * K) w) keys-are ∙ part_blocks_same (inputs_in wires) (n * K) key key-size w h
 
-  pub keys_pass : keys_checked n K wires (keys pad file n K contributions values meter lent) ≡ Accepted
+  pub keys_pass : keys_checked n K wires (keys pad file n K contributions values meter lent) ≡ accepts
   keys_pass =
       rw keys-are
       (keys_passed n K wires key key-size (λ w h. key_v-below (positive start.accepted w (input-made start.accepted w h)) _ _ _))

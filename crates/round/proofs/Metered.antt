@@ -9,8 +9,6 @@ use native.Mathlib.Omega.{arith}
 use borrow.Author.Tests.{ne_eqb}
 use lib.Dec.{eqb}
 use lib.ListN.{length, get_or, get_or-replicate}
-use Rattle.checks.specs.declared.Answer.{Answer}
-use Rattle.checks.specs.declared.Answer.TheVariants.{Accepted, Refused}
 use Rattle.checks.specs.Checked.{and_then, afterwards}
 use Rattle.checks.proofs.Passed.{never, afterwards_passed}
 use Rattle.checks.proofs.Answers.{afterwards-refused}
@@ -23,6 +21,8 @@ use Rattle.counts.specs.Counts.{rows_in}
 use Rattle.session.specs.Session.{file_checked}
 use Rattle.calls.specs.Garble.{garble_asked, garble_checked, garble_meter}
 use Rattle.round.specs.Metered.{Call, Met, AllMet, totals_left, rows_charged, Accounted, EachTotalIsAccounted, CarriedTotalIsAccounted, OtherTotalsStay}
+use Rattle.std.specs.Prelude.{Ok, Err}
+use Rattle.checks.specs.Answer.{Answer}
 
 -- a call, as the meter sees it
 unfoldable garbling_of : Call → Garbling
@@ -52,8 +52,8 @@ module _ {totals : List ℕ} (call : Call) (met : Met totals call) where
     where
       go : (checks : Answer) → checks_at totals (garbling_of call) ≡ checks
           → cond (eqb call.number 0 && eqb call.account account) (rows_in (read_file call.file).wires) 0 ≡ afterwards (checks_at totals (garbling_of call)) (rows account) 0
-      go Accepted e = rw (passed_zero met.answer e) (sym (afterwards_passed e (rows account) 0))
-      go (Refused reason place) e =
+      go (Ok done) e = rw (passed_zero met.answer e) (sym (afterwards_passed e (rows account) 0))
+      go (Err why) e =
           rw (ne_eqb call.number 0 (λ z. never (sym e ∙ zero_passed met.answer z))) (afterwards-refused e (rows account) 0)
 
 pub other_stays : OtherTotalsStay

@@ -6,7 +6,6 @@ use Prim.Native.Nat.{ℕ, ◌*◌, ◌<◌}
 use native.Mathlib.Omega.{arith}
 use lib.ListN.{length, get_or}
 use Rattle.checks.specs.declared.Refusal.TheVariants.{ValueTooLarge, NoMultiplier}
-use Rattle.checks.specs.declared.Answer.TheVariants.{Accepted}
 use Rattle.checks.proofs.Passed.{and_then-left, and_then-right, none_bad_none, afterwards_passed}
 use Rattle.checks.proofs.Numbers.{zero_passed}
 use Rattle.words.specs.declared.gate.Wire.{Wire}
@@ -25,6 +24,7 @@ use Rattle.scheme.proofs.ByteChecks.{too_large-below, keys_below}
 use Rattle.calls.specs.Open.{open_bytes, open_lent, gates_checked, before_opening, open_checked, open_keys, open_externals, OpenCall}
 use Rattle.round.proofs.RealPad.{shake_pad-size}
 use Rattle.round.proofs.Reduced.{Checked}
+use Rattle.checks.specs.Answer.{accepts}
 
 module _ {file : List ℕ} {n K party round : ℕ} {contribution externals keys rows wkeys₀ wexternals₀ : List ℕ} {place : ℕ} {wkeys wexternals : List ℕ}
     (call : OpenCall file n K party round contribution externals keys rows wkeys₀ wexternals₀ 0 place wkeys wexternals) where
@@ -34,15 +34,15 @@ module _ {file : List ℕ} {n K party round : ℕ} {contribution externals keys 
   abbrev own : Draw
   own = drawn 1 K wires contribution
 
-  before : before_opening file n K party contribution externals keys rows wkeys₀ wexternals₀ ≡ Accepted
+  before : before_opening file n K party contribution externals keys rows wkeys₀ wexternals₀ ≡ accepts
   unfolding open_checked
   before = and_then-left _ _ (zero_passed call.answer refl)
 
-  gates : gates_checked (shake_pad round) n K party wires own externals keys rows ≡ Accepted
+  gates : gates_checked (shake_pad round) n K party wires own externals keys rows ≡ accepts
   unfolding open_checked
   gates = and_then-right _ _ (zero_passed call.answer refl)
 
-  lent : open_lent n K wires contribution externals keys rows (length wkeys₀) (length wexternals₀) ≡ Accepted
+  lent : open_lent n K wires contribution externals keys rows (length wkeys₀) (length wexternals₀) ≡ accepts
   unfolding before_opening
   lent = and_then-right _ _ (and_then-right _ _ (and_then-right _ _ (and_then-right _ _ (and_then-left _ _ before))))
 
@@ -50,13 +50,13 @@ module _ {file : List ℕ} {n K party round : ℕ} {contribution externals keys 
       ≡ get_or (contribution_size K wires ∷ inputs_in wires ∷ inputs_in wires * (n * K) ∷ rows_in wires * (n * K) ∷ length wires * (n * K) ∷ length wires ∷ []) i 0
   lengths i = ap (λ (l : List ℕ). get_or l i 0) (lengths_same _ _ (and_then-left _ _ lent))
 
-  bytes : open_bytes n K wires contribution externals keys rows ≡ Accepted
+  bytes : open_bytes n K wires contribution externals keys rows ≡ accepts
   bytes = and_then-right _ _ lent
 
-  values : values_checked externals (modulus_at wires) ≡ Accepted
+  values : values_checked externals (modulus_at wires) ≡ accepts
   values = and_then-left _ _ bytes
 
-  input_keys : keys_checked n K wires keys ≡ Accepted
+  input_keys : keys_checked n K wires keys ≡ accepts
   input_keys = and_then-left _ _ (and_then-right _ _ (and_then-right _ _ (and_then-right _ _ bytes)))
 
   value-below : (w : ℕ) → w < inputs_in wires → get_or externals w 0 < modulus_at wires w

@@ -7,7 +7,6 @@ use Prim.Native.Nat.{ℕ, ◌+◌, ◌*◌, ◌<◌}
 use lib.ListN.{length, get_or}
 use Rattle.lists.specs.Blocks.{nth_piece}
 use Rattle.checks.specs.declared.Refusal.TheVariants.{WrongInputKey}
-use Rattle.checks.specs.declared.Answer.TheVariants.{Accepted}
 use Rattle.checks.proofs.Passed.{and_then_passed, none_bad_passed}
 use Rattle.words.specs.declared.gate.Wire.{Wire}
 use Rattle.circuit.specs.Wires.{modulus_at, inputs_in}
@@ -25,12 +24,13 @@ use Rattle.session.specs.Session.{partakers_checked}
 use Rattle.session.proofs.Sessions.{SessionFits, session_passed, party_passed, lengths-passed}
 use Rattle.scheme.proofs.ByteChecks.{values_passed}
 use Rattle.round.proofs.Contributions.{contributions_passed}
+use Rattle.checks.specs.Answer.{accepts}
 
 pub record OpeningFits (file : List ℕ) (n K party : ℕ) (contribution externals keys rows wkeys wexternals : List ℕ) : Type 0 where
-  pub read : (read_file file).answer ≡ Accepted
+  pub read : (read_file file).answer ≡ accepts
   pub session : SessionFits n K
   pub takes_part : party < n
-  pub partakers : partakers_checked n (read_file file).wires (read_file file).named ≡ Accepted
+  pub partakers : partakers_checked n (read_file file).wires (read_file file).named ≡ accepts
   pub contribution_length : length contribution ≡ contribution_size K (read_file file).wires
   pub externals_length : length externals ≡ inputs_in (read_file file).wires
   pub keys_length : length keys ≡ inputs_in (read_file file).wires * (n * K)
@@ -39,15 +39,15 @@ pub record OpeningFits (file : List ℕ) (n K party : ℕ) (contribution externa
   pub wexternals_length : length wexternals ≡ length (read_file file).wires
   pub external : (w : ℕ) → w < length externals → get_or externals w 0 < modulus_at (read_file file).wires w
   pub contributed : Contributed 1 K (read_file file).wires contribution
-  pub offsets : offsets_checked 1 K (read_file file).wires contribution ≡ Accepted
-  pub keys_below : keys_checked n K (read_file file).wires keys ≡ Accepted
-  pub rows_below : rows_checked n K (read_file file).wires rows ≡ Accepted
+  pub offsets : offsets_checked 1 K (read_file file).wires contribution ≡ accepts
+  pub keys_below : keys_checked n K (read_file file).wires keys ≡ accepts
+  pub rows_below : rows_checked n K (read_file file).wires rows ≡ accepts
   pub own_key : (w : ℕ) → w < inputs_in (read_file file).wires
       → nth_piece keys K (w * n + party) ≡ input_key (read_file file).wires (drawn 1 K (read_file file).wires contribution) externals w
 
 pub opening_passed : {file : List ℕ} {n K party : ℕ} {contribution externals keys rows wkeys wexternals : List ℕ}
     → OpeningFits file n K party contribution externals keys rows wkeys wexternals
-    → before_opening file n K party contribution externals keys rows wkeys wexternals ≡ Accepted
+    → before_opening file n K party contribution externals keys rows wkeys wexternals ≡ accepts
 unfolding before_opening
 opening_passed {file} {n} {K} {party} {contribution} {externals} {keys} {rows} {wkeys} {wexternals} r =
     let wires : List Wire = (read_file file).wires in

@@ -16,7 +16,6 @@ use Rattle.residue.specs.Vector.{key_v}
 use Rattle.residue.proofs.Vectors.{key_v-length}
 use Rattle.checks.specs.declared.Refusal.TheVariants.{NoMultiplier}
 use Rattle.checks.proofs.Passed.{and_then_passed, none_bad_passed, afterwards_passed}
-use Rattle.checks.specs.declared.Answer.TheVariants.{Accepted}
 use Rattle.meter.specs.Meter.{Charge}
 use Rattle.words.specs.declared.gate.Wire.{Wire}
 use Rattle.circuit.specs.Wires.{modulus_at}
@@ -46,6 +45,7 @@ use Rattle.round.proofs.Keys.{keys-size, keys-at, keys_pass, key_among}
 use Rattle.round.proofs.RowBytes.{rows-below}
 use Rattle.round.proofs.Parties.{zero_key-part}
 use Rattle.round.proofs.Wires.{keys_of, externals-long, external-of}
+use Rattle.checks.specs.Answer.{accepts}
 
 module _ {pad : Pad} {file : List ℕ} {n K : ℕ} {contributions values : List ℕ} {meter : Charge} {lent : Lent}
     (start : Start pad file n K contributions values meter lent) where
@@ -93,7 +93,7 @@ module _ {pad : Pad} {file : List ℕ} {n K : ℕ} {contributions values : List 
       ∙ sum_to_times (length wires) (n * K) (rows_of wires)
       ∙ mul_comm (n * K) (rows_in wires)
 
-  rows_pass : rows_checked n K wires garbled ≡ Accepted
+  rows_pass : rows_checked n K wires garbled ≡ accepts
   unfolding gate_rows
   rows_pass =
       rw rows_blocks
@@ -128,7 +128,7 @@ module _ {pad : Pad} {file : List ℕ} {n K : ℕ} {contributions values : List 
 
     -- ---- the checks
 
-    before : before_opening file n K party (contribution party) inputs input_keys garbled (lent.wire_keys party) (lent.wire_externals party) ≡ Accepted
+    before : before_opening file n K party (contribution party) inputs input_keys garbled (lent.wire_keys party) (lent.wire_externals party) ≡ accepts
     before =
         opening_passed
         (record {
@@ -150,10 +150,10 @@ module _ {pad : Pad} {file : List ℕ} {n K : ℕ} {contributions values : List 
           own_key = λ w l. key_among start party w h l;
         })
 
-    gates : gates_checked pad n K party wires (own party) inputs input_keys garbled ≡ Accepted
+    gates : gates_checked pad n K party wires (own party) inputs input_keys garbled ≡ accepts
     gates = none_bad_passed (length wires) _ NoMultiplier (λ w made. ap not (rightly w made).fits)
 
-    pub opens : opening pad file n K contributions values meter lent party ≡ Accepted
+    pub opens : opening pad file n K contributions values meter lent party ≡ accepts
     unfolding opening open_checked
     opens = and_then_passed before gates
 

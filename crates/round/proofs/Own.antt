@@ -4,7 +4,6 @@ use mathlib.Core.Path.{◌≡◌}
 use mathlib.Core.List.{List}
 use Prim.Native.Nat.{ℕ, ◌<◌}
 use lib.ListN.{length}
-use Rattle.checks.specs.declared.Answer.TheVariants.{Accepted}
 use Rattle.meter.specs.Meter.{Charge}
 use Rattle.words.specs.declared.gate.Wire.{Wire}
 use Rattle.circuit.specs.File.{read_file}
@@ -16,6 +15,7 @@ use Rattle.scheme.specs.Bytes.{offsets_checked}
 use Rattle.scheme.specs.Drawn.{OwnPart}
 use Rattle.round.specs.Round.{Lent, contribution_of}
 use Rattle.round.proofs.Start.{Start}
+use Rattle.checks.specs.Answer.{accepts}
 
 module _ {pad : Pad} {file : List ℕ} {n K : ℕ} {contributions values : List ℕ} {meter : Charge} {lent : Lent}
     (start : Start pad file n K contributions values meter lent) (party : ℕ) (h : party < n) where
@@ -31,7 +31,7 @@ module _ {pad : Pad} {file : List ℕ} {n K : ℕ} {contributions values : List 
   pub own_alone : Contributed 1 K wires contribution
   own_alone = start.drew.alone party h
 
-  pub own-offsets : offsets_checked 1 K wires contribution ≡ Accepted
+  pub own-offsets : offsets_checked 1 K wires contribution ≡ accepts
   own-offsets = start.drew.offsets party h
 
   pub own-part : OwnPart n K party wires (drawn n K wires contributions) (drawn 1 K wires contribution)

@@ -5,7 +5,6 @@ use mathlib.Core.Path.{◌≡◌, ap, subst}
 use mathlib.Core.List.{List}
 use Prim.Native.Nat.{ℕ, ◌<◌}
 use native.Mathlib.Omega.{arith}
-use Rattle.checks.specs.declared.Answer.TheVariants.{Accepted}
 use Rattle.meter.specs.Meter.{Charge}
 use Rattle.circuit.specs.File.{read_file}
 use Rattle.circuit.proofs.Outputs.{named-there}
@@ -16,6 +15,7 @@ use Rattle.session.proofs.Named.{NamedFit, partakers_passed}
 use Rattle.round.specs.Round.{Lent, owner_of}
 use Rattle.scheme.proofs.Bounds.{input-first}
 use Rattle.round.proofs.Start.{Start}
+use Rattle.checks.specs.Answer.{accepts}
 
 module _ {pad : Pad} {file : List ℕ} {n K : ℕ} {contributions values : List ℕ} {meter : Charge} {lent : Lent}
     (start : Start pad file n K contributions values meter lent) where
@@ -36,5 +36,5 @@ module _ {pad : Pad} {file : List ℕ} {n K : ℕ} {contributions values : List 
   named_fit : NamedFit n (read_file file).named
   named_fit = record { below = λ i party h e. start.conditions.named i party (omega (arith, (named-there file).many)) e }
 
-  pub partakers_pass : partakers_checked n (read_file file).wires (read_file file).named ≡ Accepted
+  pub partakers_pass : partakers_checked n (read_file file).wires (read_file file).named ≡ accepts
   partakers_pass = partakers_passed owners_fit named_fit

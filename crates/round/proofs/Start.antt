@@ -6,7 +6,6 @@ use mathlib.Core.List.{List}
 use Prim.Native.Nat.{ℕ, ◌<◌}
 use lib.ListN.{length, get_or}
 use Rattle.lists.specs.Blocks.{nth_piece}
-use Rattle.checks.specs.declared.Answer.TheVariants.{Accepted}
 use Rattle.meter.specs.Meter.{Charge}
 use Rattle.words.specs.declared.gate.Wire.{Wire}
 use Rattle.circuit.specs.Wires.{inputs_in}
@@ -22,6 +21,7 @@ use Rattle.calls.specs.Externals.{own_inputs}
 use Rattle.scheme.specs.Drawn.{PadSize, WellDrawn, OwnPart}
 use Rattle.round.specs.Round.{Lent, owner_at, place_at}
 use Rattle.round.specs.Claim.{Conditions}
+use Rattle.checks.specs.Answer.{accepts}
 
 -- contributions that pass the checks: a well-formed draw, and each party's own contribution passes them too
 pub record Drew (n K : ℕ) (wires : List Wire) (contributions : List ℕ) : Type 0 where
@@ -31,7 +31,7 @@ pub record Drew (n K : ℕ) (wires : List Wire) (contributions : List ℕ) : Typ
   pub size : (party : ℕ) → party < n → length (nth_piece contributions (contribution_size K wires) party) ≡ contribution_size K wires
   pub all : Contributed n K wires contributions
   pub alone : (party : ℕ) → party < n → Contributed 1 K wires (nth_piece contributions (contribution_size K wires) party)
-  pub offsets : (party : ℕ) → party < n → offsets_checked 1 K wires (nth_piece contributions (contribution_size K wires) party) ≡ Accepted
+  pub offsets : (party : ℕ) → party < n → offsets_checked 1 K wires (nth_piece contributions (contribution_size K wires) party) ≡ accepts
 
 -- a party's own inputs are inputs, and an input stands at its place among its owner's
 pub record Gathers (wires : List Wire) : Type 0 where

@@ -5,7 +5,6 @@ use Rattle.std.specs.Prelude.{◌≡◌, true, cond, List, ℕ, ◌*◌, ◌≤�
 use Rattle.lists.specs.Blocks.{nth_piece, tab}
 use Rattle.residue.specs.Residue.{add}
 use Rattle.residue.specs.Vector.{key_v}
-use Rattle.checks.specs.declared.Answer.TheVariants.{Accepted}
 use Rattle.words.specs.declared.gate.Wire.{Wire}
 use Rattle.circuit.specs.Wires.{modulus_at, inputs_in}
 use Rattle.circuit.specs.File.{read_file}
@@ -20,6 +19,7 @@ use Rattle.scheme.specs.Bytes.{contributions_checked, offsets_checked}
 use Rattle.meter.specs.Meter.{accounts, Charge, HasSpace}
 use Rattle.round.specs.Round as round
 use Rattle.round.specs.Round.{Lent, owner_at, contribution_of}
+use Rattle.checks.specs.Answer.{accepts}
 
 -- "the lent lengths be right", of the buffers that calls write
 pub record LengthsRight (n K : ℕ) (wires : List Wire) (outputs : List ℕ) (lent : Lent) : Type 0 where
@@ -46,7 +46,7 @@ module _ (file : List ℕ) (n K : ℕ) (contributions values : List ℕ) where
   -- the conditions of demand 3
   pub record Conditions (meter : Charge) (lent : Lent) : Type 0 where
     -- "every circuit that the reader accepts"
-    pub accepted : (read_file file).answer ≡ Accepted
+    pub accepted : (read_file file).answer ≡ accepts
     -- "two to eight seats taking part"
     pub parties : (2 ≤ n) × (n ≤ 8)
     -- "every input's owner [is] among [them]"
@@ -56,8 +56,8 @@ module _ (file : List ℕ) (n K : ℕ) (contributions values : List ℕ) where
     -- "key length and contributions pass the checks"
     pub key_length : (1 ≤ K) × (K ≤ 128)
     pub contributions_length : length contributions ≡ n * contribution_size K wires
-    pub contributions_bytes : contributions_checked n K wires contributions ≡ Accepted
-    pub offsets : offsets_checked n K wires contributions ≡ Accepted
+    pub contributions_bytes : contributions_checked n K wires contributions ≡ accepts
+    pub offsets : offsets_checked n K wires contributions ≡ accepts
     -- "each input [is] below its modulus"
     pub values_length : length values ≡ inputs_in wires
     pub values_below : (w : ℕ) → w < inputs_in wires → get_or values w 0 < modulus_at wires w
@@ -107,12 +107,12 @@ module _ (file : List ℕ) (n K : ℕ) (contributions values : List ℕ) where
 -- what demand 3 promises of the round
 pub record Promise (pad : Pad) (file : List ℕ) (n K : ℕ) (contributions values : List ℕ) (meter : Charge) (lent : Lent) : Type 0 where
   -- "every call of the round in document 01 accepts, garbling and each seat's opening included"
-  pub garbles : round.garbling pad file n K contributions values meter lent ≡ Accepted
-  pub has_externals : (party : ℕ) → party < n → round.external_values pad file n K contributions values meter lent party ≡ Accepted
-  pub has_keys : (party : ℕ) → party < n → round.input_keys pad file n K contributions values meter lent party ≡ Accepted
-  pub opens : (party : ℕ) → party < n → round.opening pad file n K contributions values meter lent party ≡ Accepted
-  pub decodes : (party : ℕ) → party < n → round.decoding pad file n K contributions values meter lent party ≡ Accepted
-  pub evaluates : round.plainly pad file n K contributions values meter lent ≡ Accepted
+  pub garbles : round.garbling pad file n K contributions values meter lent ≡ accepts
+  pub has_externals : (party : ℕ) → party < n → round.external_values pad file n K contributions values meter lent party ≡ accepts
+  pub has_keys : (party : ℕ) → party < n → round.input_keys pad file n K contributions values meter lent party ≡ accepts
+  pub opens : (party : ℕ) → party < n → round.opening pad file n K contributions values meter lent party ≡ accepts
+  pub decodes : (party : ℕ) → party < n → round.decoding pad file n K contributions values meter lent party ≡ accepts
+  pub evaluates : round.plainly pad file n K contributions values meter lent ≡ accepts
   -- and what the rest of it says of what they leave
   pub delivers : Delivered file n K contributions values (round.wire_keys pad file n K contributions values meter lent)
       (round.wire_externals pad file n K contributions values meter lent) (round.figures pad file n K contributions values meter lent)

@@ -4,7 +4,6 @@
 -- Assumes nothing.
 use Rattle.std.specs.Prelude.{◌≡◌, List, ℕ, ◌*◌, ◌<◌, length, get_or}
 use Rattle.lists.specs.Blocks.{nth_piece}
-use Rattle.checks.specs.declared.Answer.TheVariants.{Accepted}
 use Rattle.words.specs.declared.gate.Gate.TheVariants.{Multiply}
 use Rattle.words.specs.declared.gate.Wire.{Wire}
 use Rattle.circuit.specs.Wires.{wire_at, modulus_at}
@@ -15,6 +14,7 @@ use Rattle.scheme.specs.Draw.{Draw, drawn}
 use Rattle.scheme.specs.Zero.{zero_key, mask}
 use Rattle.scheme.specs.Bytes.{contributions_checked}
 use Rattle.calls.specs.Open.{OpenCall}
+use Rattle.checks.specs.Answer.{accepts}
 
 module _ (file : List ℕ) where
   abbrev wires : List Wire
@@ -22,7 +22,7 @@ module _ (file : List ℕ) where
 
   -- wire w of an accepted circuit is the bit a times itself
   pub record CopyOf (w a : ℕ) : Type 0 where
-    pub accepted : (read_file file).answer ≡ Accepted
+    pub accepted : (read_file file).answer ≡ accepts
     pub made : w < length wires
     pub gate : (wire_at wires w).gate ≡ Multiply (record { a = a; b = a })
     pub bit : modulus_at wires w ≡ 2
@@ -42,7 +42,7 @@ module _ (file : List ℕ) where
 
   abbrev pub CopiesAreDrawn : Type 0
   CopiesAreDrawn =
-      (n K : ℕ) (contributions : List ℕ) → length contributions ≡ n * contribution_size K wires → contributions_checked n K wires contributions ≡ Accepted
+      (n K : ℕ) (contributions : List ℕ) → length contributions ≡ n * contribution_size K wires → contributions_checked n K wires contributions ≡ accepts
       → (w a : ℕ) → CopyOf w a → SameDrawn (drawn n K wires contributions) w a
 
   -- an accepted opening: what the call was given, what it left, and that it met its promise and answered 0

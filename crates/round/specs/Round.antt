@@ -3,7 +3,6 @@
 -- Assumes nothing.
 use Rattle.std.specs.Prelude.{List, map, ℕ, length, get_or}
 use Rattle.lists.specs.Blocks.{blocks, tab, nth_piece, sum_to}
-use Rattle.checks.specs.declared.Answer.{Answer}
 use Rattle.meter.specs.Meter.{Charge}
 use Rattle.words.specs.declared.gate.Gate.{Gate}
 use Rattle.words.specs.declared.gate.Gate.TheVariants.{Input, Add, Scale, Multiply, Project, Select}
@@ -19,6 +18,7 @@ use Rattle.calls.specs.InputKeys.{input_keys_checked, input_keys_after}
 use Rattle.calls.specs.Open.{open_checked, open_keys, open_externals}
 use Rattle.calls.specs.Decode.{decode_checked, decode_after}
 use Rattle.plain.specs.Call.{plain_checked, plain_after}
+use Rattle.checks.specs.Answer.{Answer}
 
 -- what the buffers that are lent to be written hold before the calls, for each party where each party makes the call
 pub record Lent : Type 0 where

@@ -15,17 +15,14 @@ use Rattle.lists.specs.First.{first}
 use Rattle.lists.proofs.Blocks.{length_blocks_same, part_blocks_same}
 use Rattle.residue.proofs.Moduli.{is_prime→Prime}
 use Rattle.residue.proofs.Vectors.{key_v-length}
-use Rattle.checks.specs.declared.Answer.{Answer}
-use Rattle.checks.specs.declared.Answer.TheVariants.{Accepted, Refused}
 use Rattle.checks.specs.declared.Refusal.{Refusal}
 use Rattle.checks.specs.declared.Refusal.TheVariants.{WrongInputKey, NoMultiplier}
-use Rattle.checks.specs.Answer.{number_in, place_in}
+use Rattle.checks.specs.Answer.{Answer, number_in, place_in, accepts, refuses}
 use Rattle.checks.specs.Checked.{and_then, afterwards, named}
 use Rattle.checks.proofs.Passed.{and_then-left, and_then-right, afterwards_passed}
-use Rattle.checks.proofs.Answers.{named_past, named-found, afterwards-refused, reports, none_bad-found, and_then_stop, and_then-next}
+use Rattle.checks.proofs.Answers.{named_past, named-found, afterwards-refused, reports, none_bad-found, and_then_stop, and_then-next, stage_passed, stage_refused}
 use Rattle.words.specs.declared.gate.Wire.{Wire}
 use Rattle.circuit.specs.declared.Circuit.{Circuit}
-use Rattle.circuit.specs.declared.Reading.{Reading}
 use Rattle.circuit.specs.Wires.{wire_at, modulus_at, inputs_in}
 use Rattle.circuit.specs.File.{read_file}
 use Rattle.circuit.specs.Held.{wires_in, named_in, Held, Holds}
@@ -48,16 +45,9 @@ use Rattle.opening.specs.Given.{Given, OpensAll}
 use Rattle.row_calls.specs.Opened.{OpenSizes, Compared, first_wrong, GatesOpened, InputsOpened}
 use Rattle.party_calls.proofs.TwoBuffers.{first_ext}
 use Rattle.party_calls.proofs.KeyPlaces.{one_key}
-use Rattle.party_calls.proofs.Ending.{lent_is, stage_next, stage_refused, stage_followed, read_met, check-accepted, circuit-accepted}
-
--- ---- 15 to 18
-
-pub bytes_met : (n K : ℕ) (wires : List Wire) (contribution externals keys rows : List ℕ) {values bytes offsets lent lines last third second first : Answer}
-    → values ≡ values_checked externals (modulus_at wires) → bytes ≡ contributions_checked 1 K wires contribution → offsets ≡ offsets_checked 1 K wires contribution
-    → lent ≡ keys_checked n K wires keys → lines ≡ rows_checked n K wires rows → last ≡ and_then lent lines → third ≡ and_then offsets last → second ≡ and_then bytes third
-    → first ≡ and_then values second → first ≡ open_bytes n K wires contribution externals keys rows
-bytes_met n K wires contribution externals keys rows v b o k r e f g h =
-    stage_followed v (stage_followed b (stage_followed o (stage_followed k r e) f) g) h
+use Rattle.party_calls.proofs.Ending.{lent_is, circuit-accepted, behind_file}
+use Rattle.std.specs.Prelude.{Err}
+use Rattle.checks.specs.declared.Refused.{Refused}
 
 -- ---- 14, and then those
 
@@ -65,64 +55,30 @@ six_same : {a b c d m n x y z t u v : ℕ} → a ≡ x → b ≡ y → c ≡ z �
     → ◌≡◌ {A = List ℕ} (a ∷ b ∷ c ∷ d ∷ m ∷ n ∷ []) (x ∷ y ∷ z ∷ t ∷ u ∷ v ∷ [])
 six_same e f g h i j = rw (e, f, g, h, i, j)
 
-module _ {circuit : Circuit} (held : Held circuit) (n K : ℕ) (few : n ≤ 8) (most : K ≤ 128) (contribution externals keys rows : List ℕ) (wkeys wexternals : ℕ)
-    {parties long size raw count : ℕ} (p : parties ≡ n) (l : long ≡ K) (s : Counts 429056 (contribution_size long (wires_in circuit)) size)
-    (c : Counts 524288 (rows_in (wires_in circuit)) raw) (d : count ≡ raw) {answer : Answer}
-    (m : answer ≡ lengths_checked (length contribution ∷ length externals ∷ length keys ∷ length rows ∷ wkeys ∷ wexternals ∷ []) (size ∷ circuit.inputs ∷ circuit.inputs * (parties * long) ∷ count * (parties * long) ∷ circuit.made * (parties * long) ∷ circuit.made ∷ [])) where
-  abbrev ws : List Wire
-  ws = wires_in circuit
-
+module _ {circuit : Circuit} (held : Held circuit) (n K : ℕ) (contribution externals keys rows : List ℕ) (wkeys wexternals : ℕ) {size raw : ℕ}
+    (s : Counts 429056 (contribution_size K (wires_in circuit)) size) (c : Counts 524288 (rows_in (wires_in circuit)) raw) {answer : Answer}
+    (m : answer ≡ lengths_checked (length contribution ∷ length externals ∷ length keys ∷ length rows ∷ wkeys ∷ wexternals ∷ []) (size ∷ circuit.inputs ∷ circuit.inputs * (n * K) ∷ raw * (n * K) ∷ circuit.made * (n * K) ∷ circuit.made ∷ [])) where
   abbrev lent : List ℕ
   lent = length contribution ∷ length externals ∷ length keys ∷ length rows ∷ wkeys ∷ wexternals ∷ []
 
-  abbrev rest : ℕ → ℕ → Answer
-  rest a b = open_bytes a b (wires_in circuit) contribution externals keys rows
-
-  wide : parties * long ≡ n * K
-  wide = ap₂ (λ (a b : ℕ). a * b) p l
-
-  lengths_met : answer ≡ open_lengths n K ws contribution externals keys rows wkeys wexternals
+  pub lengths_met : answer ≡ open_lengths n K (wires_in circuit) contribution externals keys rows wkeys wexternals
   lengths_met =
       m
       ∙ ap (lengths_checked lent)
-      (six_same (s.is ∙ ap (λ (k : ℕ). contribution_size k ws) l) held.inputs (ap₂ (λ (a b : ℕ). a * b) held.inputs wide)
-      (ap₂ (λ (a b : ℕ). a * b) (d ∙ c.is) wide) (ap₂ (λ (a b : ℕ). a * b) (sym (made-is held)) wide) (sym (made-is held)))
+      (six_same s.is held.inputs (ap (λ (a : ℕ). a * (n * K)) held.inputs) (ap (λ (a : ℕ). a * (n * K)) c.is) (ap (λ (a : ℕ). a * (n * K)) (sym (made-is held))) (sym (made-is held)))
 
-  pub open_sizes : answer ≡ Accepted → OpenSizes circuit parties long contribution externals keys rows
-  open_sizes e =
+  pub open_sizes : n ≤ 8 → K ≤ 128 → answer ≡ accepts → OpenSizes circuit n K contribution externals keys rows
+  open_sizes few most e =
       let same = lent_is _ _ (sym m ∙ e) in
       record {
         held = held;
-        parties = omega arith;
-        most = omega arith;
+        parties = few;
+        most = most;
         contribution_length = same 0 ∙ s.is;
         externals_length = same 1 ∙ held.inputs;
-        keys_length = same 2 ∙ ap (λ (a : ℕ). a * (parties * long)) held.inputs;
-        rows_length = same 3 ∙ ap (λ (a : ℕ). a * (parties * long)) (d ∙ c.is);
+        keys_length = same 2 ∙ ap (λ (a : ℕ). a * (n * K)) held.inputs;
+        rows_length = same 3 ∙ ap (λ (a : ℕ). a * (n * K)) c.is;
       }
-
-  pub lent-next : answer ≡ Accepted → {r : Answer} → r ≡ rest parties long → r ≡ open_lent n K (wires_in circuit) contribution externals keys rows wkeys wexternals
-  lent-next e k = stage_next lengths_met e (k ∙ ap₂ rest p l)
-
-  pub lent_stop : {reason : Refusal} {place : ℕ} → answer ≡ Refused reason place → Refused reason place ≡ open_lent n K (wires_in circuit) contribution externals keys rows wkeys wexternals
-  lent_stop e = stage_refused lengths_met (rest n K) e
-
--- ---- 12, 13 and 28
-
-module _ (n K : ℕ) (wires : List Wire) (contribution externals keys rows named : List ℕ) (party wkeys wexternals : ℕ) where
-  pub party_followed : {lent owned asked second first : Answer} → lent ≡ open_lent n K wires contribution externals keys rows wkeys wexternals → owned ≡ partakers_checked n wires named
-      → second ≡ and_then owned lent → asked ≡ party_checked n party → first ≡ and_then asked second → first ≡ open_party n K wires contribution externals keys rows named party wkeys wexternals
-  party_followed l o e p f = stage_followed p (stage_followed o l e) f
-
-  -- ---- 11
-
-  module _ {session : Answer} (m : session ≡ session_checked n K) where
-    pub open_next : session ≡ Accepted → {r : Answer} → r ≡ open_party n K wires contribution externals keys rows named party wkeys wexternals
-        → r ≡ open_asked n K wires contribution externals keys rows named party wkeys wexternals
-    open_next e k = stage_next m e k
-
-    pub open_stop : {reason : Refusal} {place : ℕ} → session ≡ Refused reason place → Refused reason place ≡ open_asked n K wires contribution externals keys rows named party wkeys wexternals
-    open_stop e = stage_refused m (open_party n K wires contribution externals keys rows named party wkeys wexternals) e
 
 -- ---- 19
 
@@ -232,7 +188,7 @@ module _ {circuit : Circuit} {n K party : ℕ} {contribution externals keys rows
 
       by : Dec (length wires ≤ r) → GatesOpened n K party round (wires_in circuit) contribution externals keys rows wkeys₀ wexternals₀ answer wkeys wexternals
       by (yes h) =
-          let a : fate round ≡ Accepted = sym met ∙ joined ∙ named_past (length wires) r NoMultiplier h in
+          let a : fate round ≡ accepts = sym met ∙ joined ∙ named_past (length wires) r NoMultiplier h in
           record {
             answer_is = met;
             keys_are = v.all_keys h ∙ sym (afterwards_passed a _ (replicate (length wkeys₀) 0));
@@ -240,7 +196,7 @@ module _ {circuit : Circuit} {n K party : ℕ} {contribution externals keys rows
           }
       by (no h) =
           let l : r < length wires = omega arith in
-          let a : fate round ≡ Refused NoMultiplier r = sym met ∙ joined ∙ named-found (length wires) r NoMultiplier l in
+          let a : fate round ≡ refuses NoMultiplier r = sym met ∙ joined ∙ named-found (length wires) r NoMultiplier l in
           record {
             answer_is = met;
             keys_are = v.no_keys l ∙ afterwards-refused a _ (replicate (length wkeys₀) 0);
@@ -262,52 +218,41 @@ module _ {circuit : Circuit} {n K party : ℕ} {contribution externals keys rows
         none_bad-found (inputs_in wires) (input_key_wrong n K party wires contribution externals keys) WrongInputKey f
         (e ∙ ap (λ (a : ℕ). named a r WrongInputKey) count)
 
-    pub own-next : {round : ℕ} {wkeys wexternals : List ℕ} {z : Answer} → answer ≡ Accepted
+    pub own-next : {round : ℕ} {wkeys wexternals : List ℕ} {z : Answer} → answer ≡ accepts
         → GatesOpened n K party round (wires_in circuit) contribution externals keys rows wkeys₀ wexternals₀ z wkeys wexternals → Opened round z wkeys wexternals
     own-next a t =
-        let p : own ≡ Accepted = sym own_met ∙ a in
+        let p : own ≡ accepts = sym own_met ∙ a in
         record {
-          answer_is = stage_next own_met a t.answer_is;
+          answer_is = stage_passed own_met a t.answer_is;
           keys_are = t.keys_are ∙ sym (afterwards_passed p _ wkeys₀);
           externals_are = t.externals_are ∙ sym (afterwards_passed p _ wexternals₀);
         }
 
-    pub own_stop : {round : ℕ} {reason : Refusal} {place : ℕ} → answer ≡ Refused reason place → Opened round (Refused reason place) wkeys₀ wexternals₀
-    own_stop {round} {reason} {place} a =
-        let m : own ≡ Refused reason place = sym own_met ∙ a in
-        record { answer_is = stage_refused own_met (fate round) a; keys_are = afterwards-refused m _ wkeys₀; externals_are = afterwards-refused m _ wexternals₀ }
+    pub own_stop : {round : ℕ} {z : Answer} {why : Refused} → z ≡ Err why → answer ≡ Err why → Opened round z wkeys₀ wexternals₀
+    own_stop {round} {z} {why} t a =
+        let m : own ≡ Err why = sym own_met ∙ a in
+        record { answer_is = t ∙ stage_refused own_met (fate round) a; keys_are = afterwards-refused m _ wkeys₀; externals_are = afterwards-refused m _ wexternals₀ }
 
 -- ---- the whole call
 
-after_both : (a b : Answer) (new old : List ℕ) → a ≡ Accepted → afterwards (and_then a b) new old ≡ afterwards b new old
+after_both : (a b : Answer) (new old : List ℕ) → a ≡ accepts → afterwards (and_then a b) new old ≡ afterwards b new old
 after_both a b new old e = ap (λ (c : Answer). afterwards c new old) (and_then-next b e)
 
-module _ {reading : Reading} (file : List ℕ) (n K party : ℕ) (contribution externals keys rows wkeys wexternals : List ℕ) (h : Holds reading (read_file file)) {check answer : Answer}
-    (checked : check ≡ open_asked n K (wires_in reading.circuit) contribution externals keys rows (named_in reading.circuit) party (length wkeys) (length wexternals))
-    (joined : answer ≡ and_then reading.answer check) where
+module _ (file : List ℕ) (n K party : ℕ) (contribution externals keys rows wkeys wexternals : List ℕ) where
   abbrev read : List Wire
   read = (read_file file).wires
 
-  abbrev circuit : Circuit
-  circuit = reading.circuit
-
-  abbrev here : List Wire
-  here = wires_in reading.circuit
+  abbrev asked_read : Answer
+  asked_read = open_asked n K read contribution externals keys rows (read_file file).named party (length wkeys) (length wexternals)
 
   abbrev earlier : Answer
-  earlier = and_then (file_checked file) (open_asked n K read contribution externals keys rows (read_file file).named party (length wkeys) (length wexternals))
+  earlier = and_then (file_checked file) asked_read
 
   abbrev own_keys : Answer
   own_keys = own_keys_checked n K party read contribution externals keys
 
   abbrev gates : ℕ → Answer
   gates round = gates_checked (shake_pad round) n K party read (drawn 1 K read contribution) externals keys rows
-
-  earlier_met : answer ≡ earlier
-  earlier_met =
-      read_met file h check joined
-      (checked
-      ∙ ap₂ (λ (w : List Wire) (x : List ℕ). open_asked n K w contribution externals keys rows x party (length wkeys) (length wexternals)) h.wires h.named)
 
   abbrev Opens : ℕ → Answer → List ℕ → List ℕ → Type 0
   Opens round a = OpenCall file n K party round contribution externals keys rows wkeys wexternals (number_in a) (place_in a)
@@ -327,96 +272,102 @@ module _ {reading : Reading} (file : List ℕ) (n K party : ℕ) (contribution e
   unfolding open_checked open_keys open_externals before_opening
   ends m k x = record { answer = reports m; wire_keys_is = k; wire_externals_is = x }
 
-  pub open_refused : {round : ℕ} {reason : Refusal} {place : ℕ} → answer ≡ Refused reason place → Opens round (Refused reason place) wkeys wexternals
-  open_refused {round} {reason} {place} e =
-      let m : Refused reason place ≡ and_then earlier own_keys = stage_refused earlier_met own_keys e in
-      ends (and_then_stop (gates round) (sym m)) (afterwards-refused (sym m) (zero_keys round) wkeys) (afterwards-refused (sym m) (zero_externals round) wexternals)
+  refused_call : {round : ℕ} {answer : Answer} {why : Refused} → answer ≡ Err why → Err why ≡ earlier → Opens round answer wkeys wexternals
+  refused_call {round} {answer} {why} e m =
+      let r : and_then earlier own_keys ≡ Err why = sym (and_then_stop own_keys (sym m)) in
+      ends (e ∙ and_then_stop (gates round) r) (afterwards-refused r (zero_keys round) wkeys) (afterwards-refused r (zero_externals round) wexternals)
 
-  module _ (e : answer ≡ Accepted) {parties long seat : ℕ} (p : parties ≡ n) (l : long ≡ K) (t : seat ≡ party) where
-    abbrev bytes : Answer
-    bytes = open_bytes n K here contribution externals keys rows
+  pub open_unread : {round : ℕ} {answer : Answer} {why : Refused} → answer ≡ Err why → (read_file file).answer ≡ Err why → Opens round answer wkeys wexternals
+  open_unread e r = refused_call e (and_then_stop asked_read r)
 
-    abbrev lengths : Answer
-    lengths = open_lengths n K here contribution externals keys rows (length wkeys) (length wexternals)
+  module _ {circuit : Circuit} (h : Holds circuit (read_file file)) {check : Answer}
+      (checked : check ≡ open_asked n K (wires_in circuit) contribution externals keys rows (named_in circuit) party (length wkeys) (length wexternals)) where
+    abbrev here : List Wire
+    here = wires_in circuit
 
-    abbrev asked : Answer
-    asked = open_party n K here contribution externals keys rows (named_in reading.circuit) party (length wkeys) (length wexternals)
+    earlier_met : check ≡ earlier
+    earlier_met =
+        behind_file file asked_read h
+        (checked
+        ∙ ap₂ (λ (w : List Wire) (x : List ℕ). open_asked n K w contribution externals keys rows x party (length wkeys) (length wexternals)) h.wires h.named)
 
-    all : and_then (session_checked n K) asked ≡ Accepted
-    all = sym checked ∙ check-accepted file h check joined e
+    pub open_refused : {round : ℕ} {answer : Answer} {why : Refused} → answer ≡ Err why → check ≡ Err why → Opens round answer wkeys wexternals
+    open_refused e k = refused_call e (sym k ∙ earlier_met)
 
-    fits : SessionFits n K
-    fits = session-fits n K (and_then-left (session_checked n K) asked all)
+    module _ (e : check ≡ accepts) where
+      abbrev bytes : Answer
+      bytes = open_bytes n K here contribution externals keys rows
 
-    seated : party < n
-    seated = party-below n party (and_then-left (party_checked n party) (and_then (partakers_checked n here (named_in reading.circuit)) (and_then lengths bytes)) (and_then-right (session_checked n K) asked all))
+      abbrev lengths : Answer
+      lengths = open_lengths n K here contribution externals keys rows (length wkeys) (length wexternals)
 
-    lent_passed : and_then lengths bytes ≡ Accepted
-    lent_passed =
-        and_then-right (partakers_checked n here (named_in reading.circuit)) (and_then lengths bytes)
-        (and_then-right (party_checked n party) (and_then (partakers_checked n here (named_in reading.circuit)) (and_then lengths bytes)) (and_then-right (session_checked n K) asked all))
+      abbrev asked : Answer
+      asked = open_party n K here contribution externals keys rows (named_in circuit) party (length wkeys) (length wexternals)
 
-    sizes : lengths ≡ Accepted
-    sizes = and_then-left lengths bytes lent_passed
+      all : and_then (session_checked n K) asked ≡ accepts
+      all = sym checked ∙ e
 
-    -- 16 on, 17 on, 18 on
-    abbrev lines : Answer
-    lines = and_then (keys_checked n K here keys) (rows_checked n K here rows)
+      fits : SessionFits n K
+      fits = session-fits n K (and_then-left (session_checked n K) asked all)
 
-    abbrev offsets : Answer
-    offsets = and_then (offsets_checked 1 K here contribution) lines
+      seated : party < n
+      seated = party-below n party (and_then-left (party_checked n party) (and_then (partakers_checked n here (named_in circuit)) (and_then lengths bytes)) (and_then-right (session_checked n K) asked all))
 
-    contents : bytes ≡ Accepted
-    contents = and_then-right lengths bytes lent_passed
+      lent_passed : and_then lengths bytes ≡ accepts
+      lent_passed =
+          and_then-right (partakers_checked n here (named_in circuit)) (and_then lengths bytes)
+          (and_then-right (party_checked n party) (and_then (partakers_checked n here (named_in circuit)) (and_then lengths bytes)) (and_then-right (session_checked n K) asked all))
 
-    contributed : and_then (contributions_checked 1 K here contribution) offsets ≡ Accepted
-    contributed = and_then-right (values_checked externals (modulus_at here)) (and_then (contributions_checked 1 K here contribution) offsets) contents
+      sizes : lengths ≡ accepts
+      sizes = and_then-left lengths bytes lent_passed
 
-    lined : lines ≡ Accepted
-    lined =
-        and_then-right (offsets_checked 1 K here contribution) lines (and_then-right (contributions_checked 1 K here contribution) offsets contributed)
+      -- 16 on, 17 on, 18 on
+      abbrev lines : Answer
+      lines = and_then (keys_checked n K here keys) (rows_checked n K here rows)
 
-    given : Given reading.circuit n K party contribution externals keys rows
-    given =
-        record {
-          file = file;
-          held = held_of h;
-          accepted = circuit-accepted file h check joined e;
-          sizes = record { some = omega (arith, fits.parties.least); parties = fits.parties.most; long = fits.least; short = fits.most };
-          seated = seated;
-          own_size = lent_is _ _ sizes 0;
-          externals_size = lent_is _ _ sizes 1;
-          keys_size = lent_is _ _ sizes 2;
-          rows_size = lent_is _ _ sizes 3;
-          externals_below = and_then-left (values_checked externals (modulus_at here)) (and_then (contributions_checked 1 K here contribution) offsets) contents;
-          contribution_below = and_then-left (contributions_checked 1 K here contribution) offsets contributed;
-          keys_below = and_then-left (keys_checked n K here keys) (rows_checked n K here rows) lined;
-          rows_below = and_then-right (keys_checked n K here keys) (rows_checked n K here rows) lined;
-        }
+      abbrev offsets : Answer
+      offsets = and_then (offsets_checked 1 K here contribution) lines
 
-    pub open_given : Given reading.circuit parties long seat contribution externals keys rows
-    open_given =
-        subst (λ (a : ℕ). Given circuit a long seat contribution externals keys rows) (sym p)
-        (subst (λ (b : ℕ). Given circuit n b seat contribution externals keys rows) (sym l)
-        (subst (λ (c : ℕ). Given circuit n K c contribution externals keys rows) (sym t) given))
+      contents : bytes ≡ accepts
+      contents = and_then-right lengths bytes lent_passed
 
-    pub open_room : (length wkeys ≡ reading.circuit.made * (parties * long)) × (length wexternals ≡ reading.circuit.made)
-    open_room =
-        (lent_is _ _ sizes 4 ∙ ap₂ (λ (a b : ℕ). a * b) (made-is (held_of h)) (ap₂ (λ (a b : ℕ). a * b) (sym p) (sym l)), lent_is _ _ sizes 5 ∙ made-is (held_of h))
+      contributed : and_then (contributions_checked 1 K here contribution) offsets ≡ accepts
+      contributed = and_then-right (values_checked externals (modulus_at here)) (and_then (contributions_checked 1 K here contribution) offsets) contents
 
-    -- what opening the rows gave, on the circuit of the code
-    abbrev Came : ℕ → ℕ → ℕ → ℕ → List Wire → Answer → List ℕ → List ℕ → Type 0
-    Came a b c round w = InputsOpened a b c round w contribution externals keys rows wkeys wexternals
+      lined : lines ≡ accepts
+      lined =
+          and_then-right (offsets_checked 1 K here contribution) lines (and_then-right (contributions_checked 1 K here contribution) offsets contributed)
 
-    pub open_done : {round : ℕ} {z : Answer} {wkeys' wexternals' : List ℕ} → Came parties long seat round (wires_in reading.circuit) z wkeys' wexternals' → Opens round z wkeys' wexternals'
-    open_done {round} {z} {wkeys'} {wexternals'} came =
-        let there : Came n K party round read z wkeys' wexternals' =
-        subst (λ (w : List Wire). Came n K party round w z wkeys' wexternals') h.wires
-        (subst (λ (a : ℕ). Came a K party round here z wkeys' wexternals') p
-        (subst (λ (b : ℕ). Came parties b party round here z wkeys' wexternals') l
-        (subst (λ (c : ℕ). Came parties long c round here z wkeys' wexternals') t came))) in
-        let q : earlier ≡ Accepted = sym earlier_met ∙ e in
-        ends
-        (there.answer_is ∙ sym (ap (λ (c : Answer). and_then c (gates round)) (and_then-next own_keys q)))
-        (there.keys_are ∙ sym (after_both earlier own_keys (zero_keys round) wkeys q))
-        (there.externals_are ∙ sym (after_both earlier own_keys (zero_externals round) wexternals q))
+      pub open_given : Given circuit n K party contribution externals keys rows
+      open_given =
+          record {
+            file = file;
+            held = held_of h;
+            accepted = circuit-accepted file h;
+            sizes = record { some = omega (arith, fits.parties.least); parties = fits.parties.most; long = fits.least; short = fits.most };
+            seated = seated;
+            own_size = lent_is _ _ sizes 0;
+            externals_size = lent_is _ _ sizes 1;
+            keys_size = lent_is _ _ sizes 2;
+            rows_size = lent_is _ _ sizes 3;
+            externals_below = and_then-left (values_checked externals (modulus_at here)) (and_then (contributions_checked 1 K here contribution) offsets) contents;
+            contribution_below = and_then-left (contributions_checked 1 K here contribution) offsets contributed;
+            keys_below = and_then-left (keys_checked n K here keys) (rows_checked n K here rows) lined;
+            rows_below = and_then-right (keys_checked n K here keys) (rows_checked n K here rows) lined;
+          }
+
+      pub open_room : (length wkeys ≡ circuit.made * (n * K)) × (length wexternals ≡ circuit.made)
+      open_room =
+          (lent_is _ _ sizes 4 ∙ ap (λ (a : ℕ). a * (n * K)) (made-is (held_of h)), lent_is _ _ sizes 5 ∙ made-is (held_of h))
+
+      -- what opening the rows gave, on the circuit of the code
+      pub open_done : {round : ℕ} {z : Answer} {wkeys' wexternals' : List ℕ}
+          → InputsOpened n K party round (wires_in circuit) contribution externals keys rows wkeys wexternals z wkeys' wexternals' → Opens round z wkeys' wexternals'
+      open_done {round} {z} {wkeys'} {wexternals'} came =
+          let there : InputsOpened n K party round read contribution externals keys rows wkeys wexternals z wkeys' wexternals' =
+          subst (λ (w : List Wire). InputsOpened n K party round w contribution externals keys rows wkeys wexternals z wkeys' wexternals') h.wires came in
+          let q : earlier ≡ accepts = sym earlier_met ∙ e in
+          ends
+          (there.answer_is ∙ sym (ap (λ (c : Answer). and_then c (gates round)) (and_then-next own_keys q)))
+          (there.keys_are ∙ sym (after_both earlier own_keys (zero_keys round) wkeys q))
+          (there.externals_are ∙ sym (after_both earlier own_keys (zero_externals round) wexternals q))

@@ -2,7 +2,6 @@
 -- Assumes nothing.
 use Rattle.std.specs.Prelude.{◌≡◌, List, ℕ, ◌*◌, ◌≤◌, ◌<◌, length, replicate}
 use Rattle.lists.specs.First.{first}
-use Rattle.checks.specs.declared.Answer.{Answer}
 use Rattle.checks.specs.Checked.{and_then, afterwards}
 use Rattle.words.specs.declared.gate.Wire.{Wire}
 use Rattle.circuit.specs.declared.Circuit.{Circuit}
@@ -14,6 +13,7 @@ use Rattle.scheme.specs.Draw.{drawn}
 use Rattle.scheme.specs.Opening.{wire_keys, wire_externals}
 use Rattle.pads.specs.Pad.{shake_pad}
 use Rattle.calls.specs.Open.{input_key_wrong, own_keys_checked, gates_checked}
+use Rattle.checks.specs.Answer.{Answer}
 
 -- buffers of their lengths
 pub record OpenSizes (circuit : Circuit) (n K : ℕ) (contribution externals keys rows : List ℕ) : Type 0 where

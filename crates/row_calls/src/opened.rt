@@ -4,23 +4,22 @@ ghost use Rattle.lists.specs.Blocks.{nth_piece};
 ghost use Rattle.lists.specs.First.{first};
 ghost use Rattle.search.specs.Search.{same};
 ghost use Rattle.checks.specs.Answer.{number_in, place_in};
-ghost use Rattle.circuit.specs.File.{read_file};
-ghost use Rattle.circuit.specs.Held.{wires_in, named_in, Held, Holds};
+ghost use Rattle.circuit.specs.Held.{wires_in, named_in, Held};
 ghost use Rattle.calls.specs.Open.{open_bytes, open_lent, open_party, open_asked, OpenCall};
 ghost use Rattle.opening.specs.Given.{Given};
 ghost use Rattle.row_calls.specs.Opened.{OpenSizes, Compared, first_wrong, GatesOpened, InputsOpened};
 
-use checks::{Answer, Refusal, followed, named};
-use circuit::{Circuit, Reading, read};
+use checks::{Answer, Refusal, named};
+use circuit::{Circuit, read};
 use contribution::{
     contribution_size, contributions_checked, keys_checked, offsets_checked, rows_checked,
 };
-use lists::nth_piece;
+use lists::{nth_piece, zeros};
 use opening::open_wires;
-use party_calls::{counted, put_keys};
+use party_calls::put_keys;
 use search::same_bytes;
 use session::{
-    AskedSeat, Seat, length_checked, partakers_checked, party_checked, session_checked,
+    AskedSeat, Seat, lengths_checked, partakers_checked, party_checked, session_checked,
     values_checked,
 };
 
@@ -37,13 +36,11 @@ fn bytes_checked(
     requires { OpenSizes circuit n k contribution.now externals.now keys.now rows.now }
     ensures { result ≡ open_bytes n k (wires_in circuit) contribution.now externals.now keys.now rows.now }
 {
-    let values = values_checked(circuit, externals);
-    let bytes = contributions_checked(circuit, 1, k, contribution);
-    let offsets = offsets_checked(circuit, 1, k, contribution);
-    let lent = keys_checked(circuit, n, k, keys);
-    let lines = rows_checked(circuit, n, k, rows);
-    let last = followed(lent, lines);
-    followed(values, followed(bytes, followed(offsets, last)))
+    values_checked(circuit, externals)?;
+    contributions_checked(circuit, 1, k, contribution)?;
+    offsets_checked(circuit, 1, k, contribution)?;
+    keys_checked(circuit, n, k, keys)?;
+    rows_checked(circuit, n, k, rows)
 }
 
 // The lengths of what is lent, and where they are right the bytes.
@@ -61,35 +58,31 @@ fn open_lent(
     requires { Held circuit × ((n ≤ 8) × (k ≤ 128)) }
     ensures { result ≡ open_lent n k (wires_in circuit) contribution.now externals.now keys.now rows.now wkeys wexternals }
 {
-    let parties = counted(n);
-    let long = counted(k);
-    let size = contribution_size(circuit, long);
-    let count = counted(counts::rows(circuit));
+    let parties = n as usize;
+    let long = k as usize;
+    let width = parties * long;
     let inputs = circuit.inputs;
     let made = circuit.made;
-    let width = parties * long;
-    let first = inputs * width;
-    let bytes = count * width;
-    let all = made * width;
-    let own = length_checked(contribution.len(), size);
-    let values = length_checked(externals.len(), inputs);
-    let lent = length_checked(keys.len(), first);
-    let lines = length_checked(rows.len(), bytes);
-    let opened = length_checked(wkeys, all);
-    let last = followed(opened, length_checked(wexternals, made));
-    let lengths = followed(own, followed(values, followed(lent, followed(lines, last))));
-    match lengths {
-        Answer::Accepted => bytes_checked(
-            circuit,
-            parties,
-            long,
-            contribution,
-            externals,
-            keys,
-            rows,
-        ),
-        Answer::Refused(reason, place) => Answer::Refused(reason, place),
-    }
+    let count = counts::rows(circuit) as usize;
+    lengths_checked(
+        &[
+            contribution.len(),
+            externals.len(),
+            keys.len(),
+            rows.len(),
+            wkeys,
+            wexternals,
+        ],
+        &[
+            contribution_size(circuit, long),
+            inputs,
+            inputs * width,
+            count * width,
+            made * width,
+            made,
+        ],
+    )?;
+    bytes_checked(circuit, parties, long, contribution, externals, keys, rows)
 }
 
 // The party asked for and all that the circuit needs take part, and then what is lent.
@@ -107,21 +100,19 @@ fn open_party(
     ensures { result ≡ open_party asked.n asked.k (wires_in circuit) contribution.now externals.now keys.now rows.now
         (named_in circuit) asked.party wkeys wexternals }
 {
-    let n = asked.n;
-    let k = asked.k;
-    let lent = open_lent(
+    party_checked(asked.n, asked.party)?;
+    partakers_checked(circuit, asked.n)?;
+    open_lent(
         circuit,
-        n,
-        k,
+        asked.n,
+        asked.k,
         contribution,
         externals,
         keys,
         rows,
         wkeys,
         wexternals,
-    );
-    let partakers = followed(partakers_checked(circuit, n), lent);
-    followed(party_checked(n, asked.party), partakers)
+    )
 }
 
 // The session, and where it is in range the rest.
@@ -139,20 +130,17 @@ fn open_asked(
     ensures { result ≡ open_asked asked.n asked.k (wires_in circuit) contribution.now externals.now keys.now rows.now
         (named_in circuit) asked.party wkeys wexternals }
 {
-    let session = session_checked(asked.n, asked.k);
-    match session {
-        Answer::Accepted => open_party(
-            circuit,
-            asked,
-            contribution,
-            externals,
-            keys,
-            rows,
-            wkeys,
-            wexternals,
-        ),
-        Answer::Refused(reason, place) => Answer::Refused(reason, place),
-    }
+    session_checked(asked.n, asked.k)?;
+    open_party(
+        circuit,
+        asked,
+        contribution,
+        externals,
+        keys,
+        rows,
+        wkeys,
+        wexternals,
+    )
 }
 
 // The lowest input on which the party's key is not its own of `own`; their number where there is none.
@@ -160,20 +148,14 @@ fn first_other(n: usize, k: usize, party: usize, inputs: usize, keys: &[u8], own
     requires { Compared n k party inputs keys.now own.now }
     ensures { result ≡ first inputs (λ w. not (same (nth_piece keys.now k (w * n + party)) (nth_piece own.now k w))) }
 {
-    let mut w = 0;
-    while w < inputs {
+    for w in 0..inputs {
         let lent = nth_piece(keys, k, w * n + party);
         let made = nth_piece(own, k, w);
         if !same_bytes(lent, made) {
             return w;
         }
-        w += 1;
     }
-    w
-}
-
-fn no_keys() -> [u8; 131072] {
-    [0u8; 131072]
+    inputs
 }
 
 // The same against the keys that the party makes itself, put into `own`.
@@ -196,33 +178,7 @@ fn first_unlike(
     first_other(seat.n, k, seat.party, inputs, keys, &*own)
 }
 
-// The same, with room for the keys of the most inputs there are.
-fn first_wrong_in(
-    circuit: Circuit,
-    seat: Seat,
-    contribution: &[u8],
-    externals: &[u8],
-    keys: &[u8],
-    rows: &[u8],
-    work: &mut [u8],
-) -> usize
-    requires given { Given circuit seat.n seat.k seat.party contribution.now externals.now keys.now rows.now }
-    requires work_len { length work.old ≡ 131072 }
-    ensures { result ≡ first_wrong seat.n seat.k seat.party (wires_in circuit) contribution.now externals.now keys.now }
-{
-    let bytes = circuit.inputs * seat.k;
-    first_unlike(
-        circuit,
-        seat,
-        contribution,
-        externals,
-        keys,
-        rows,
-        &mut work[..bytes],
-    )
-}
-
-// The same, with memory of its own.
+// The same, with memory for the keys of the most inputs there are.
 fn first_wrong(
     circuit: Circuit,
     seat: Seat,
@@ -234,15 +190,16 @@ fn first_wrong(
     requires { Given circuit seat.n seat.k seat.party contribution.now externals.now keys.now rows.now }
     ensures { result ≡ first_wrong seat.n seat.k seat.party (wires_in circuit) contribution.now externals.now keys.now }
 {
-    let mut work = no_keys();
-    first_wrong_in(
+    let mut work = zeros::<131072>();
+    let bytes = circuit.inputs * seat.k;
+    first_unlike(
         circuit,
         seat,
         contribution,
         externals,
         keys,
         rows,
-        &mut work,
+        &mut work[..bytes],
     )
 }
 
@@ -292,72 +249,18 @@ fn open_inputs(
     ensures { InputsOpened seat.n seat.k seat.party seat.round (wires_in circuit) contribution.now externals.now keys.now rows.now
         wkeys.old wexternals.old result wkeys.new wexternals.new }
 {
-    let inputs = circuit.inputs;
     let found = first_wrong(circuit, seat, contribution, externals, keys, rows);
-    let own = named(inputs, found, Refusal::WrongInputKey);
-    match own {
-        Answer::Accepted => open_gates(
-            circuit,
-            seat,
-            contribution,
-            externals,
-            keys,
-            rows,
-            wkeys,
-            wexternals,
-        ),
-        Answer::Refused(reason, place) => Answer::Refused(reason, place),
-    }
-}
-
-// The call, once the file is read.
-fn open_read(
-    reading: Reading,
-    file: &[u8],
-    asked: AskedSeat,
-    contribution: &[u8],
-    externals: &[u8],
-    keys: &[u8],
-    rows: &[u8],
-    wkeys: &mut [u8],
-    wexternals: &mut [u8],
-) -> Answer
-    requires { Holds reading (read_file file.now) }
-    ensures { OpenCall file.now asked.n asked.k asked.party asked.round contribution.now externals.now keys.now rows.now
-        wkeys.old wexternals.old (number_in result) (place_in result) wkeys.new wexternals.new }
-{
-    let read = reading.answer;
-    let circuit = reading.circuit;
-    let seat = Seat {
-        n: counted(asked.n),
-        k: counted(asked.k),
-        party: counted(asked.party),
-        round: asked.round,
-    };
-    let checked = open_asked(
+    named(circuit.inputs, found, Refusal::WrongInputKey)?;
+    open_gates(
         circuit,
-        asked,
+        seat,
         contribution,
         externals,
         keys,
         rows,
-        wkeys.len(),
-        wexternals.len(),
-    );
-    let answer = followed(read, checked);
-    match answer {
-        Answer::Accepted => open_inputs(
-            circuit,
-            seat,
-            contribution,
-            externals,
-            keys,
-            rows,
-            wkeys,
-            wexternals,
-        ),
-        Answer::Refused(reason, place) => Answer::Refused(reason, place),
-    }
+        wkeys,
+        wexternals,
+    )
 }
 
 // Opens garbled rows at a party. Refused or not, the contract gives the answer and every byte of the two buffers lent.
@@ -374,11 +277,20 @@ pub fn open_rows(
     ensures { OpenCall file.now asked.n asked.k asked.party asked.round contribution.now externals.now keys.now rows.now
         wkeys.old wexternals.old (number_in result) (place_in result) wkeys.new wexternals.new }
 {
-    let reading = read(file);
-    open_read(
-        reading,
-        file,
+    let circuit = read(file)?;
+    open_asked(
+        circuit,
         asked,
+        contribution,
+        externals,
+        keys,
+        rows,
+        wkeys.len(),
+        wexternals.len(),
+    )?;
+    open_inputs(
+        circuit,
+        asked.into(),
         contribution,
         externals,
         keys,

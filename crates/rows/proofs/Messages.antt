@@ -22,7 +22,7 @@ use Rattle.scheme.specs.Keyed.{Keyed, less}
 use Rattle.scheme.specs.Gate.{row, product_row₀, product_row₁, product_rows, chooser_row₀, chooser_row₁, corrector_row₀, corrector_row₁, choice_rows}
 use Rattle.scheme.specs.Message.{product_message₀, product_message₁, chooser_message₀, chooser_message₁, corrector_message₀, corrector_message₁}
 use Rattle.session.specs.Sizes.{Vector}
-use Rattle.rows.specs.Made.{Room, RoomFor, VectorFor, Four, Factors, row_of, component_rows, row_for, padded, linear_made, second_made, product_made, both_choosers, correctors_made, choice_made}
+use Rattle.rows.specs.Made.{Room, Factors, row_of, component_rows, row_for, padded, linear_made, second_made, product_made, both_choosers, correctors_made, choice_made}
 use Rattle.rows.specs.declared.gates.Made.{Made}
 use Rattle.rows.specs.declared.rows.Row.{Row as Shape}
 
@@ -68,23 +68,6 @@ module _ (r : Shape) {out : List ℕ} where
 -- ---- a component of a gate: the row that the code makes for it, and its rows
 
 module _ {made : Made} {q component : ℕ} {r : Shape} (e : r ≡ row_for made q component) where
-  pub row_room : {out : List ℕ} {rows : ℕ} → RoomFor made out rows → Room r.n r.k r.q out rows
-  row_room {out} {rows} v = subst (λ (s : Shape). Room s.n s.k s.q out rows) (sym e) v
-
-  pub component-room : {out : List ℕ} → RoomFor made out q → Room r.n r.k r.q out r.bound.modulus
-  component-room {out} v = subst (λ (s : Shape). Room s.n s.k s.q out s.bound.modulus) (sym e) v
-
-  pub row-vector : {xs : List ℕ} → VectorFor made xs → Vector r.n r.k xs
-  row-vector {xs} v = subst (λ (s : Shape). Vector s.n s.k xs) (sym e) v
-
-  pub row_four : {k D b g : List ℕ} → 0 < q → VectorFor made k → VectorFor made D → VectorFor made b → VectorFor made g → Four r k D b g
-  row_four {k} {D} {b} {g} h x y z w =
-      subst (λ (s : Shape). Four s k D b g) (sym e) (record { positive = h; zero = x; offset = y; base = z; given = w })
-
-  pub row_is : (k D b g : List ℕ) (α c : ℕ) {out : List ℕ} → out ≡ row_of r (key_v r.bound.modulus k α D) (key_v r.q b c g)
-      → out ≡ padded made q component (key_v q k α D) (key_v made.modulus b c g)
-  row_is k D b g α c o = o ∙ ap (λ (s : Shape). row_of s (key_v s.bound.modulus k α D) (key_v s.q b c g)) e
-
   pub component_is : (k D b g : List ℕ) {f : ℕ → ℕ} {factors out : List ℕ} (message : ℕ → List ℕ) → Factors q f factors
       → ((α : ℕ) → key_v made.modulus b (f α) g ≡ message α) → out ≡ component_rows r factors k D b g
       → out ≡ blocks q (λ α. padded made q component (key_v q k α D) (message α))

@@ -15,9 +15,6 @@ module _ {n K p : ℕ} {out₀ : List ℕ} {f : ℕ → List ℕ} {α at : ℕ} 
   pub next_fits : at + length zero ≤ length out
   next_fits = omega (arith, steps_fits r h, z.size)
 
-  pub next-room : at + length zero ≤ length out₀
-  next-room = omega (arith, next_fits, r.kept)
-
   -- what a call is lent for it is one row
   pub next-part : {q rows : ℕ} → Room n K q out₀ rows → Room n K q (take (at + length zero - at) (drop at out)) 1
   next-part v =

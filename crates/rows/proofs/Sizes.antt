@@ -25,9 +25,6 @@ module _ {n K : ℕ} where
       let product : n * K ≤ 8 * 128 = mul-le-mul s.parties s.short in
       omega (arith, product)
 
-  pub vector-kept : {xs ys : List ℕ} → Vector n K xs → length ys ≡ length xs → Vector n K ys
-  vector-kept v e = record { size = e ∙ v.size }
-
   pub same_size : {xs ys : List ℕ} → Vector n K xs → Vector n K ys → length xs ≡ length ys
   same_size v u = v.size ∙ sym u.size
 
@@ -44,9 +41,6 @@ module _ {n K : ℕ} where
 
     pub work-long : m ≡ length (take m xs)
     work-long = sym (length-take-le m xs work-fits)
-
-    pub work-vector : Vector n K (take m xs)
-    work-vector = record { size = length-take-le m xs work-fits ∙ e }
 
   pub room_as : {q rows rows' : ℕ} {out : List ℕ} → Room n K q out rows → rows ≡ rows' → Room n K q out rows'
   room_as {q} {rows} {rows'} {out} v e = record { sizes = v.sizes; modulus = v.modulus; size = v.size ∙ ap (λ (r : ℕ). r * (n * K)) e }
@@ -85,10 +79,6 @@ module _ {n K : ℕ} where
       wrote_both : (zs : List ℕ) → length zs ≡ length (take (length (ys ++ drop m out) - m) (drop m (ys ++ drop m out)))
           → Wrote out 0 (ys ++ zs) (length out) (lent m (length (ys ++ drop m out)) (ys ++ drop m out) zs)
       wrote_both zs l = wrote_rest (wrote_front out m {ys = ys} {zs = ys} front_fits k refl) {ys = zs} {zs = zs} l refl
-
-      pub both_length : (zs : List ℕ) → length zs ≡ length (take (length (ys ++ drop m out) - m) (drop m (ys ++ drop m out)))
-          → length (lent m (length (ys ++ drop m out)) (ys ++ drop m out) zs) ≡ length out
-      both_length zs l = (wrote_both zs l).kept
 
       pub both_parts : {zs xs ws : List ℕ} → ys ≡ xs → length zs ≡ length (take (length (ys ++ drop m out) - m) (drop m (ys ++ drop m out))) → zs ≡ ws
           → lent m (length (ys ++ drop m out)) (ys ++ drop m out) zs ≡ xs ++ ws

@@ -1,17 +1,31 @@
 // What the offsets are multiplied by in the messages of one component: a factor for each alpha below the keys' modulus.
-ghost use Rattle.std.specs.Prelude.{◌≡◌, ◌<◌, length};
+ghost use Rattle.std.specs.Prelude.{◌≡◌, ◌<◌, ℕ};
 ghost use Rattle.residue.specs.Residue.{add, sub, mul};
 ghost use Rattle.counts.specs.Recipe.{image_of};
 ghost use Rattle.counts.specs.Images.{ImageHeld, ImagesFit};
 ghost use Rattle.rows.specs.Made.{Factors};
 
 use counts::Images;
+use lists::zeros;
 use residue::{add, mul, sub};
 
-fn no_factors() -> [u8; 256]
-    ensures { length result ≡ 256 }
+// A factor for each alpha below `p`, as `of` says it.
+fn factors<F: Fn(u8) -> u8>(p: u8, of: F) -> [u8; 256]
+    requires { (α : ℕ) → α < p → F.pre of α }
+    ensures { (f : ℕ → ℕ) → ((α v : ℕ) → α < p → F.post of α v → v ≡ f α) → Factors p f result }
 {
-    [0u8; 256]
+    let mut factors = zeros();
+    for alpha in 0..p {
+        factors[usize::from(alpha)] = of(alpha);
+    }
+    factors
+}
+
+fn linear_factor(p: u8, start: u8, step: u8, alpha: u8) -> u8
+    requires { (start < p) × (alpha < p) }
+    ensures { result ≡ add p start (mul p alpha step) }
+{
+    add(p, start, mul(p, alpha, step))
 }
 
 // start + alpha·step modulo `p`.
@@ -19,14 +33,7 @@ pub fn linear_factors(p: u8, start: u8, step: u8) -> [u8; 256]
     requires { start < p }
     ensures { Factors p (λ α. add p start (mul p α step)) result }
 {
-    let mut factors = no_factors();
-    let mut alpha = 0;
-    while alpha < p {
-        let place = alpha as usize;
-        factors[place] = add(p, start, mul(p, alpha, step));
-        alpha += 1;
-    }
-    factors
+    factors(p, |alpha| linear_factor(p, start, step, alpha))
 }
 
 // The image of `v` by a table: in the file, bits 7 to 0 of its word, so the first of its bytes; or the square, modulo `q`.
@@ -36,7 +43,7 @@ pub fn image_of(file: &[u8], images: Images, q: u8, v: u8) -> u8
 {
     match images {
         Images::File(table) => {
-            let entry = table as usize + v as usize;
+            let entry = table as usize + usize::from(v);
             let at = 4 * entry;
             file[at]
         }
@@ -44,18 +51,21 @@ pub fn image_of(file: &[u8], images: Images, q: u8, v: u8) -> u8
     }
 }
 
+fn table_factor(file: &[u8], images: Images, p: u8, q: u8, mask: u8, share: u8, alpha: u8) -> u8
+    requires { ImagesFit file.now images p q × ((mask < p) × ((share < q) × (alpha < p))) }
+    ensures { result ≡ add q (image_of file.now images q (sub p alpha mask)) share }
+{
+    let v = sub(p, alpha, mask);
+    add(q, image_of(file, images, q, v), share)
+}
+
 // The image of alpha - mask, by a table of the values below `p`, plus the share, modulo `q`.
 pub fn table_factors(file: &[u8], images: Images, p: u8, q: u8, mask: u8, share: u8) -> [u8; 256]
     requires { ImagesFit file.now images p q × ((mask < p) × (share < q)) }
     ensures { Factors p (λ α. add q (image_of file.now images q (sub p α mask)) share) result }
 {
-    let mut factors = no_factors();
-    let mut alpha = 0;
-    while alpha < p {
-        let place = alpha as usize;
-        let v = sub(p, alpha, mask);
-        factors[place] = add(q, image_of(file, images, q, v), share);
-        alpha += 1;
-    }
-    factors
+    factors(
+        p,
+        |alpha| table_factor(file, images, p, q, mask, share, alpha),
+    )
 }

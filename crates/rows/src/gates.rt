@@ -5,9 +5,10 @@ ghost use Rattle.rows.specs.Made.{Operand, RoomFor, VectorFor, row_for, held_in,
 ghost use Rattle.rows.specs.Made.{chooser_made, both_choosers, correctors_made, choice_made};
 
 use crate::factors::{linear_factors, table_factors};
-use crate::keyed::{Keyed, less, masked};
-use crate::rows::{Row, component_rows, put_keyed_row, scratch};
+use crate::keyed::Keyed;
+use crate::rows::{Line, Row, component_rows, put_keyed_row};
 use counts::Images;
+use lists::zeros;
 use pads::Bound;
 use residue::{add, mul, sub};
 
@@ -21,20 +22,22 @@ pub struct Made {
     pub modulus: u8,
 }
 
-// Rows of a component, under keys of modulus `q`.
-fn row_of(made: Made, q: u8, component: u8) -> Row
-    ensures { result ≡ row_for made q component }
-{
-    Row {
-        n: made.n,
-        k: made.k,
-        q: made.modulus,
-        bound: Bound {
-            round: made.round,
-            modulus: q,
-            wire: made.wire,
-            component,
-        },
+impl Made {
+    // Rows of a component, under keys of modulus `q`.
+    fn row(self, q: u8, component: u8) -> Row
+        ensures { result ≡ row_for self q component }
+    {
+        Row {
+            n: self.n,
+            k: self.k,
+            q: self.modulus,
+            bound: Bound {
+                round: self.round,
+                modulus: q,
+                wire: self.wire,
+                component,
+            },
+        }
     }
 }
 
@@ -57,17 +60,15 @@ pub fn table_rows(
 {
     let m = made.n * made.k;
     let factors = table_factors(file, images, q, made.modulus, a.mask, z.mask);
-    let zero = a.key;
-    let base = z.key;
-    component_rows(
-        row_of(made, q, 0),
-        factors,
-        &zero[..m],
-        offset,
-        &base[..m],
-        given,
-        out,
-    );
+    let keys = Line {
+        base: &a.key[..m],
+        step: offset,
+    };
+    let messages = Line {
+        base: &z.key[..m],
+        step: given,
+    };
+    component_rows(made.row(q, 0), factors, keys, messages, out);
 }
 
 // A component whose messages are base + (start + alpha·step)·offset, under the keys zero + alpha·offset.
@@ -87,15 +88,19 @@ fn linear_rows(
 {
     let m = made.n * made.k;
     let p = made.modulus;
-    let keys = zero.key;
-    let first = base.key;
+    let keys = Line {
+        base: &zero.key[..m],
+        step: offset,
+    };
+    let messages = Line {
+        base: &base.key[..m],
+        step: offset,
+    };
     component_rows(
-        row_of(made, p, component),
+        made.row(p, component),
         linear_factors(p, start, step),
-        &keys[..m],
-        offset,
-        &first[..m],
-        offset,
+        keys,
+        messages,
         out,
     );
 }
@@ -108,16 +113,21 @@ fn second_rows(made: Made, offset: &[u8], a: Keyed, b: Keyed, second: Keyed, out
 {
     let m = made.n * made.k;
     let p = made.modulus;
-    let base = masked(p, m, second, offset);
-    let given = masked(p, m, a, offset);
-    let zero = b.key;
+    let base = second.masked(p, m, offset);
+    let given = a.masked(p, m, offset);
+    let keys = Line {
+        base: &b.key[..m],
+        step: offset,
+    };
+    let messages = Line {
+        base: &base[..m],
+        step: &given[..m],
+    };
     component_rows(
-        row_of(made, p, 1),
+        made.row(p, 1),
         linear_factors(p, 0, p - 1),
-        &zero[..m],
-        offset,
-        &base[..m],
-        &given[..m],
+        keys,
+        messages,
         out,
     );
 }
@@ -143,7 +153,7 @@ pub fn product_rows(
     let start = add(p, mul(p, b.mask, a.mask), first.mask);
     let step = sub(p, 0, b.mask);
     linear_rows(made, 0, start, step, a, first, offset, &mut out[..half]);
-    let second = less(p, m, z, first);
+    let second = z.less(p, m, first);
     second_rows(made, offset, a, b, second, &mut out[half..]);
 }
 
@@ -162,17 +172,21 @@ fn chooser_row(
     ensures { out.new ≡ chooser_made made offset.now pair.now (held_in made bit).key alpha (held_in made x) }
 {
     let m = made.n * made.k;
-    let mut work = scratch();
-    let zero = bit.key;
-    let base = x.key;
+    let mut work = zeros::<1024>();
+    let keys = Line {
+        base: &bit.key[..m],
+        step: pair,
+    };
+    let messages = Line {
+        base: &x.key[..m],
+        step: offset,
+    };
     put_keyed_row(
-        row_of(made, 2, 0),
+        made.row(2, 0),
         alpha,
         x.mask,
-        &zero[..m],
-        pair,
-        &base[..m],
-        offset,
+        keys,
+        messages,
         &mut work[..m],
         out,
     );
@@ -241,9 +255,9 @@ pub fn choice_rows(
     let m = made.n * made.k;
     let p = made.modulus;
     let two = 2 * m;
-    let chosen = less(p, m, second, d);
+    let chosen = second.less(p, m, d);
     chooser(made, offset, pair, bit, first, chosen, &mut out[..two]);
-    let rest0 = less(p, m, z, first);
-    let rest1 = less(p, m, z, second);
+    let rest0 = z.less(p, m, first);
+    let rest1 = z.less(p, m, second);
     correctors(made, offset, bit.mask, d, rest0, rest1, &mut out[two..]);
 }

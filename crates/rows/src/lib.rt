@@ -10,5 +10,5 @@ mod rows;
 
 pub use factors::{image_of, linear_factors, table_factors};
 pub use gates::{Made, choice_rows, product_rows, table_rows};
-pub use keyed::{Keyed, less};
-pub use rows::{Row, put_keyed_row, put_row};
+pub use keyed::Keyed;
+pub use rows::{Row, put_row};

@@ -4,6 +4,7 @@ ghost use Rattle.residue.specs.Vector.{key_v};
 ghost use Rattle.session.specs.Sizes.{Vector};
 ghost use Rattle.rows.specs.Made.{Room, Four, row_of, component_rows};
 
+use lists::zeros;
 use pads::Bound;
 use residue::key_of;
 
@@ -16,11 +17,11 @@ pub struct Row {
     pub bound: Bound,
 }
 
-// Work memory for one key vector.
-pub fn scratch() -> [u8; 1024]
-    ensures { length result ≡ 1024 }
-{
-    [0u8; 1024]
+// Vectors by a number e: base + e·step.
+#[derive(Clone, Copy)]
+pub struct Line<'a> {
+    pub base: &'a [u8],
+    pub step: &'a [u8],
 }
 
 // The row with message base + c·given under `keys`.
@@ -33,79 +34,44 @@ pub fn put_row(row: Row, keys: &[u8], base: &[u8], c: u8, given: &[u8], out: &mu
     pads::add_pad_row(row.q, row.bound, row.n, row.k, keys, out);
 }
 
-// The row with message base + c·given under the keys zero + alpha·offset, which are made in `work`.
+// The row with the message that is number `c` of its line, under the keys that are number `alpha` of theirs, which are made in `work`.
 pub fn put_keyed_row(
     row: Row,
     alpha: u8,
     c: u8,
-    zero: &[u8],
-    offset: &[u8],
-    base: &[u8],
-    given: &[u8],
+    keys: Line,
+    messages: Line,
     work: &mut [u8],
     out: &mut [u8],
 )
     requires room { Room row.n row.k row.q out.old 1 }
-    requires four { Four row zero.now offset.now base.now given.now × Vector row.n row.k work.old }
-    ensures { out.new ≡ row_of row (key_v row.bound.modulus zero.now alpha offset.now) (key_v row.q base.now c given.now) }
+    requires four { Four row keys.base.now keys.step.now messages.base.now messages.step.now × Vector row.n row.k work.old }
+    ensures { out.new ≡ row_of row (key_v row.bound.modulus keys.entry.base.now alpha keys.entry.step.now) (key_v row.q messages.entry.base.now c messages.entry.step.now) }
 {
-    key_of(row.bound.modulus, zero, alpha, offset, &mut *work);
-    put_row(row, &*work, base, c, given, out);
+    key_of(row.bound.modulus, keys.base, alpha, keys.step, &mut *work);
+    put_row(row, &*work, messages.base, c, messages.step, out);
 }
 
-// A row for each alpha below the keys' modulus: its message is base + factors[alpha]·given, and it is under the keys zero + alpha·offset.
-fn put_component(
-    row: Row,
-    factors: [u8; 256],
-    zero: &[u8],
-    offset: &[u8],
-    base: &[u8],
-    given: &[u8],
-    work: &mut [u8],
-    out: &mut [u8],
-)
+// A row for each alpha below the keys' modulus: its message is number factors[alpha], and it is under the keys of number alpha.
+pub fn component_rows(row: Row, factors: [u8; 256], keys: Line, messages: Line, out: &mut [u8])
     requires room { Room row.n row.k row.q out.old row.bound.modulus }
-    requires four { Four row zero.now offset.now base.now given.now × Vector row.n row.k work.old }
-    ensures { out.new ≡ component_rows row factors zero.now offset.now base.now given.now }
+    requires four { Four row keys.base.now keys.step.now messages.base.now messages.step.now }
+    ensures { out.new ≡ component_rows row factors keys.entry.base.now keys.entry.step.now messages.entry.base.now messages.entry.step.now }
 {
-    let m = zero.len();
-    let p = row.bound.modulus;
+    let m = keys.base.len();
+    let mut work = zeros::<1024>();
     let mut at = 0;
-    let mut alpha = 0;
-    while alpha < p {
+    for alpha in 0..row.bound.modulus {
         let to = at + m;
-        let place = alpha as usize;
         put_keyed_row(
             row,
             alpha,
-            factors[place],
-            zero,
-            offset,
-            base,
-            given,
-            &mut *work,
+            factors[usize::from(alpha)],
+            keys,
+            messages,
+            &mut work[..m],
             &mut out[at..to],
         );
         at = to;
-        alpha += 1;
     }
-}
-
-// The same, with work memory for a sender's keys.
-pub fn component_rows(
-    row: Row,
-    factors: [u8; 256],
-    zero: &[u8],
-    offset: &[u8],
-    base: &[u8],
-    given: &[u8],
-    out: &mut [u8],
-)
-    requires room { Room row.n row.k row.q out.old row.bound.modulus }
-    requires four { Four row zero.now offset.now base.now given.now }
-    ensures { out.new ≡ component_rows row factors zero.now offset.now base.now given.now }
-{
-    let mut work = scratch();
-    let m = zero.len();
-    put_component(row, factors, zero, offset, base, given, &mut work[..m], out);
 }

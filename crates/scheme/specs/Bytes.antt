@@ -4,7 +4,6 @@ use Rattle.std.specs.Prelude.{Bool, true, ◌&&◌, List, [], ◌∷◌, ℕ, �
 use Rattle.lists.specs.Blocks.{blocks, runs, part, nth_piece}
 use Rattle.checks.specs.declared.Refusal.{Refusal}
 use Rattle.checks.specs.declared.Refusal.TheVariants.{ContributionTooLarge, ZeroOffset, KeyOrRowTooLarge}
-use Rattle.checks.specs.declared.Answer.{Answer}
 use Rattle.checks.specs.Checked.{none_bad}
 use Rattle.words.specs.declared.gate.Wire.{Wire}
 use Rattle.circuit.specs.Wires.{modulus_at, inputs_in}
@@ -12,6 +11,7 @@ use Rattle.counts.specs.Counts.{rows_of}
 use Rattle.counts.specs.Moduli.{used, some_below}
 use Rattle.scheme.specs.Contribution.{contribution_size, contribution_moduli, offset_at}
 use Rattle.session.specs.Session.{too_large}
+use Rattle.checks.specs.Answer.{Answer}
 
 -- each byte against its modulus; the lowest bad one is named
 unfoldable pub bytes_checked : List ℕ → List ℕ → Refusal → Answer

@@ -7,6 +7,7 @@ use Prim.Native.Nat.{ℕ, ◌+◌, ◌≤◌, ◌<◌}
 use native.Mathlib.Omega.{arith}
 use lib.Dec.{eqb}
 use lib.ListN.{length, get_or}
+use lib.Pointwise.{pointwise}
 use lib.Seq.{ext_get_or}
 use borrow.Author.Count.{below_none, below_more}
 use borrow.Author.Tests.{eqb-true, eq-eqb}
@@ -36,12 +37,17 @@ decided xs ys h true e = absurd (h (same_true xs ys e))
 pub same_false : (xs ys : List ℕ) → (xs ≡ ys → ⊥) → same xs ys ≡ false
 same_false xs ys h = decided xs ys h (same xs ys) refl
 
--- lists of different lengths, and lists that differ at one place
-pub same-sizes : (xs ys : List ℕ) → (length ys ≡ length xs → ⊥) → same xs ys ≡ false
-same-sizes xs ys h = same_false xs ys (λ e. h (rw e refl))
-
+-- lists that differ at one place
 pub same_differs : (xs ys : List ℕ) (i : ℕ) → (get_or xs i 0 ≡ get_or ys i 0 → ⊥) → same xs ys ≡ false
 same_differs xs ys i h = same_false xs ys (λ e. h (ap (λ (l : List ℕ). get_or l i 0) e))
+
+-- the library's comparison of two slices
+pub same_pointwise : (xs ys : List ℕ) → pointwise eqb xs ys ≡ same xs ys
+unfolding same
+same_pointwise [] [] = refl
+same_pointwise [] (y ∷ ys) = refl
+same_pointwise (x ∷ xs) [] = refl
+same_pointwise (x ∷ xs) (y ∷ ys) = ap (λ (b : Bool). eqb x y && b) (same_pointwise xs ys)
 
 -- the first i elements of two lists are the same
 pub record Agree (xs ys : List ℕ) (i : ℕ) : Type 0 where

@@ -17,9 +17,6 @@ pub fn chosen_corrector<'a>(
     requires { (at + width ≤ length first.now) × (at + width ≤ length second.now) }
     ensures { (result.now ≡ part (named_corrector bit first.now second.now) at width) × (length result.now ≡ width) }
 {
-    if bit == 0 {
-        piece(first, at, width)
-    } else {
-        piece(second, at, width)
-    }
+    let named = if bit == 0 { first } else { second };
+    piece(named, at, width)
 }

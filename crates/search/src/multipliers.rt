@@ -21,23 +21,18 @@ pub fn multiplier(p: u8, zero: &[u8], offset: &[u8], key: &[u8]) -> u8
     ensures { result ≡ multiplier p zero.now offset.now key.now }
 {
     let m = reciprocal(p);
-    let n = key.len();
     let mut alpha = 0;
-    let found = 'search: loop {
+    // Document 01 has the search left by label, with the multiplier as the break's value; and p for none, as the definition `multiplier`.
+    'search: loop {
         if alpha == p {
             break 'search p;
         }
-        let mut i = 0;
-        'components: loop {
-            if i == n {
-                break 'search alpha;
+        for (i, byte) in key.iter().enumerate() {
+            if component(p, m, zero[i], alpha, offset[i]) != *byte {
+                alpha += 1;
+                continue 'search;
             }
-            if component(p, m, zero[i], alpha, offset[i]) != key[i] {
-                break 'components;
-            }
-            i += 1;
         }
-        alpha += 1;
-    };
-    found
+        break 'search alpha;
+    }
 }

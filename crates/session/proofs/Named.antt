@@ -1,31 +1,30 @@
 -- Order 9: whom outputs name. That a number of 2 ^ n or more names a party from n up, and the other way round; when 28 passes; and what the code's
 -- search comes to.
 -- Assumes nothing.
-use mathlib.Core.Path.{◌≡◌, refl, sym, ap, ap₂, ◌∙◌}
+use mathlib.Core.Path.{◌≡◌, refl, sym, ap, ◌∙◌}
 use mathlib.Core.Bool.{Bool, true, false}
 use mathlib.Core.List.{List}
-use Prim.Native.Nat.{ℕ, zero, suc, ◌+◌, ◌*◌, ◌/◌, ◌%◌, ◌^◌, ◌≤◌, ◌<◌}
-use native.Mathlib.Nat.{one-mul, div-eq_of_lt, le-div_iff_mul-le}
+use Prim.Native.Nat.{ℕ, zero, suc, ◌+◌, ◌/◌, ◌%◌, ◌^◌, ◌≤◌, ◌<◌}
+use native.Mathlib.Nat.{div-eq_of_lt, le-div_iff_mul-le}
 use native.Mathlib.Decide.{dec_lt}
 use native.Mathlib.Omega.{arith}
 use borrow.Author.Tests.{lt-leb, leb-true, leb-false, eqb-true, eq-eqb}
-use lib.Dec.{eqb, lit<}
+use lib.Dec.{eqb}
 use lib.ListN.{length, get_or}
-use lib.Seq.{length-take-le, get_or-take}
-use lib.Pow.{pow_pos, pow_mono, shl_exact, shr-shr}
+use lib.Seq.{length-take-le}
+use lib.Pow.{pow_pos, pow_mono, shr-shr}
 use Rattle.lists.specs.First.{first}
-use Rattle.checks.specs.declared.Answer.{Answer}
 use Rattle.checks.specs.declared.Refusal.TheVariants.{NamedAbsent}
-use Rattle.checks.specs.Checked.{and_then, none_bad, named}
-use Rattle.checks.specs.declared.Answer.TheVariants.{Accepted}
+use Rattle.checks.specs.Checked.{none_bad, named}
 use Rattle.checks.proofs.Answers.{none_bad-found}
 use Rattle.checks.proofs.Passed.{and_then_passed, none_bad_passed, none_bad_none}
 use Rattle.words.specs.declared.gate.Wire.{Wire}
 use Rattle.circuit.specs.declared.Circuit.{Circuit}
 use Rattle.circuit.specs.Held.{named_in, Held}
 use Rattle.circuit.specs.Named.{names}
-use Rattle.session.specs.Session.{owners_checked, named_absent, named_checked, partakers_checked}
+use Rattle.session.specs.Session.{named_absent, named_checked, partakers_checked}
 use Rattle.session.proofs.Sessions.{OwnersFit, owners_passed}
+use Rattle.checks.specs.Answer.{Answer, accepts}
 
 -- ---- a number names a party from n up exactly if it is 2 ^ n or more
 
@@ -79,16 +78,16 @@ pub record NamedFit (n : ℕ) (named : List ℕ) : Type 0 where
   pub below : (i s : ℕ) → i < length named → names (get_or named i 0) s ≡ true → s < n
 
 module _ {n : ℕ} {named : List ℕ} where
-  pub named_passed : NamedFit n named → named_checked n named ≡ Accepted
+  pub named_passed : NamedFit n named → named_checked n named ≡ accepts
   unfolding named_checked
   named_passed fit =
       none_bad_passed (length named) (λ i. named_absent n (get_or named i 0)) NamedAbsent (λ i h. none_absent n (get_or named i 0) (λ s e. fit.below i s h e))
 
-  pub partakers_passed : {wires : List Wire} → OwnersFit n wires → NamedFit n named → partakers_checked n wires named ≡ Accepted
+  pub partakers_passed : {wires : List Wire} → OwnersFit n wires → NamedFit n named → partakers_checked n wires named ≡ accepts
   unfolding partakers_checked
   partakers_passed owners fit = and_then_passed (owners_passed owners) (named_passed fit)
 
-pub named_fit : (n : ℕ) (named : List ℕ) → named_checked n named ≡ Accepted → NamedFit n named
+pub named_fit : (n : ℕ) (named : List ℕ) → named_checked n named ≡ accepts → NamedFit n named
 unfolding named_checked
 named_fit n named e =
     record {
@@ -107,9 +106,6 @@ eight h = pow_mono h
 pub all_take_part : (n parties : ℕ) → 8 ≤ n → parties < 256 → false ≡ named_absent n parties
 all_take_part n parties h l = sym (lt-leb (2 ^ n) parties (omega (arith, l, eight h)))
 
-pub shifted_one : (n : ℕ) → n < 8 → 1 * 2 ^ n % 2 ^ 32 ≡ 2 ^ n
-shifted_one n h = shl_exact {a = 1} 1 n 32 (lit< tt) (omega arith) ∙ one-mul (2 ^ n)
-
 -- ---- a search's answer, 28
 
 abbrev pub named_at : Circuit → ℕ → ℕ → Bool
@@ -121,16 +117,3 @@ unfolding named_checked
 named_met circuit n held e f =
     none_bad-found circuit.given (named_at circuit n) NamedAbsent e f
     ∙ ap (λ (m : ℕ). none_bad m (named_at circuit n) NamedAbsent) (sym (length-take-le circuit.given circuit.named (omega (arith, held.given, held.named))))
-
-pub named_is : (circuit : Circuit) (n i : ℕ) → i < circuit.given → {b : Bool} → b ≡ named_absent n (get_or circuit.named i 0) → named_at circuit n i ≡ b
-named_is circuit n i h e = ap (λ (parties : ℕ). named_absent n parties) (get_or-take circuit.given circuit.named i 0 h) ∙ sym e
-
--- 28 follows 13
-pub partakers_met :
-    (n : ℕ) (wires : List Wire) (named : List ℕ) {owners parties answer : Answer}
-    → owners ≡ owners_checked n wires
-    → parties ≡ named_checked n named
-    → answer ≡ and_then owners parties
-    → answer ≡ partakers_checked n wires named
-unfolding partakers_checked
-partakers_met n wires named e f g = g ∙ ap₂ and_then e f

@@ -2,57 +2,57 @@
 -- Assumes nothing.
 use mathlib.Core.Path.{◌≡◌, refl, sym, ap, ◌∙◌}
 use mathlib.Core.Bool.{Bool, true, false, ◌&&◌}
-use mathlib.Core.List.{List}
+use mathlib.Core.Logic.{◌⊎◌, inl, inr}
+use mathlib.Core.List.{List, [], ◌∷◌}
 use Prim.Native.Nat.{ℕ, ◌≤◌, ◌<◌}
 use native.Mathlib.Omega.{arith}
 use borrow.Author.Tests.{le-leb, lt-leb, le-ltb}
-use lib.Dec.{leb}
+use lib.Dec.{eqb, leb}
 use lib.ListN.{length, get_or}
 use lib.Seq.{length-take-le}
+use lib.Pointwise.{pointwise}
+use Rattle.std.specs.List.{zip}
+use Rattle.std.proofs.lemmas.Slice.Zip.{get_or-zip, length-zip}
 use Rattle.lists.specs.First.{first}
-use Rattle.checks.specs.declared.Answer.{Answer}
-use Rattle.checks.specs.declared.Answer.TheVariants.{Accepted, Refused}
-use Rattle.checks.specs.declared.Refusal.TheVariants.{SessionRange, NoSuchParty, OwnerAbsent, ValueTooLarge}
+use Rattle.lists.proofs.First.{first_ext}
+use Rattle.checks.specs.declared.Refusal.TheVariants.{SessionRange, NoSuchParty, OwnerAbsent, WrongLength, ValueTooLarge}
 use Rattle.checks.specs.Checked.{none_bad, named}
 use Rattle.checks.proofs.Answers.{unless-refused, none_bad-found}
+use Rattle.checks.proofs.Passed.{unless_passed}
 use Rattle.words.specs.declared.gate.Wire.{Wire}
 use Rattle.circuit.specs.declared.Circuit.{Circuit}
-use Rattle.circuit.specs.Wires.{wire_at, modulus_at}
+use Rattle.circuit.specs.Wires.{no_wire, wire_at, modulus_at}
 use Rattle.circuit.specs.Held.{wires_in, Room}
-use Rattle.counts.proofs.Wires.{wire-at, modulus-at}
 use Rattle.session.proofs.Sessions.{parties_passed}
-use Rattle.session.specs.Session.{parties_checked, session_checked, party_checked, owner_absent, owners_checked, too_large, values_checked}
+use Rattle.session.specs.Session.{parties_checked, session_checked, party_checked, owner_absent, owners_checked, same_numbers, lengths_checked, too_large, values_checked}
+use Rattle.checks.specs.Answer.{Answer, accepts, refuses}
 
 -- ---- 11
 
-pub few-parties : {n : ℕ} → n < 2 → Refused SessionRange 0 ≡ parties_checked n
-unfolding parties_checked
-few-parties {n} h = sym (unless-refused SessionRange 0 (rw (lt-leb 2 n h)))
-
-pub many-parties : {n : ℕ} → 8 < n → Refused SessionRange 0 ≡ parties_checked n
-unfolding parties_checked
-many-parties {n} h = sym (unless-refused SessionRange 0 (rw (le-leb 2 n (omega arith), lt-leb n 8 h)))
-
-pub parties_met : {n : ℕ} → 2 ≤ n → n ≤ 8 → Accepted ≡ parties_checked n
-parties_met h k = sym (parties_passed (record { least = h; most = k }))
-
--- key length too: 1 to 128
 no_and : (a : Bool) {b : Bool} → b ≡ false → (a && b) ≡ false
 no_and true e = e
 no_and false e = refl
 
+-- a number that is not in a range
+out-of : (low high : ℕ) {x : ℕ} → (x < low) ⊎ (high < x) → (leb low x && leb x high) ≡ false
+out-of low high {x} (inl h) = rw (lt-leb low x h)
+out-of low high {x} (inr h) = no_and (leb low x) (lt-leb x high h)
+
+pub parties-out : {n : ℕ} → (n < 2) ⊎ (8 < n) → refuses SessionRange 0 ≡ parties_checked n
+unfolding parties_checked
+parties-out h = sym (unless-refused SessionRange 0 (out-of 2 8 h))
+
+pub parties_met : {n : ℕ} → 2 ≤ n → n ≤ 8 → accepts ≡ parties_checked n
+parties_met h k = sym (parties_passed (record { least = h; most = k }))
+
+-- key length too: 1 to 128
 yes_and : (a : Bool) {b : Bool} → b ≡ true → (a && b) ≡ a
 yes_and true e = e
 yes_and false e = refl
 
-pub short-keys : (n : ℕ) {K : ℕ} → K < 1 → Refused SessionRange 0 ≡ session_checked n K
+pub keys-out : (n : ℕ) {K : ℕ} → (K < 1) ⊎ (128 < K) → refuses SessionRange 0 ≡ session_checked n K
 unfolding session_checked
-short-keys n {K} h = sym (unless-refused SessionRange 0 (no_and (leb 2 n && leb n 8) (rw (lt-leb 1 K h))))
-
-pub long-keys : (n : ℕ) {K : ℕ} → 128 < K → Refused SessionRange 0 ≡ session_checked n K
-unfolding session_checked
-long-keys n {K} h =
-    sym (unless-refused SessionRange 0 (no_and (leb 2 n && leb n 8) (rw (le-leb 1 K (omega arith), lt-leb K 128 h))))
+keys-out n h = sym (unless-refused SessionRange 0 (no_and (leb 2 n && leb n 8) (out-of 1 128 h)))
 
 pub session_met : (n : ℕ) {K : ℕ} {answer : Answer} → 1 ≤ K → K ≤ 128 → answer ≡ parties_checked n → answer ≡ session_checked n K
 unfolding session_checked parties_checked
@@ -61,9 +61,28 @@ session_met n {K} h k m =
 
 -- ---- 12
 
-pub party_absent : {n party place : ℕ} → n ≤ party → place ≡ party → Refused NoSuchParty place ≡ party_checked n party
+pub party_absent : {n party : ℕ} → n ≤ party → refuses NoSuchParty party ≡ party_checked n party
 unfolding party_checked
-party_absent {n} {party} {place} h e = rw e (sym (unless-refused NoSuchParty party (le-ltb party n h)))
+party_absent {n} {party} h = sym (unless-refused NoSuchParty party (le-ltb party n h))
+
+-- ---- 14
+
+-- the code compares the lists as the definition does
+pointwise-same : (xs ys : List ℕ) → pointwise eqb xs ys ≡ same_numbers xs ys
+unfolding same_numbers
+pointwise-same [] [] = refl
+pointwise-same [] (y ∷ ys) = refl
+pointwise-same (x ∷ xs) [] = refl
+pointwise-same (x ∷ xs) (y ∷ ys) = ap (λ (b : Bool). eqb x y && b) (pointwise-same xs ys)
+
+module _ (lent wanted : List ℕ) where
+  pub lengths_met : true ≡ pointwise eqb lent wanted → accepts ≡ lengths_checked lent wanted
+  unfolding lengths_checked
+  lengths_met e = sym (unless_passed WrongLength 0 (sym (e ∙ pointwise-same lent wanted)))
+
+  pub lengths-wrong : false ≡ pointwise eqb lent wanted → refuses WrongLength 0 ≡ lengths_checked lent wanted
+  unfolding lengths_checked
+  lengths-wrong e = sym (unless-refused WrongLength 0 (sym (e ∙ pointwise-same lent wanted)))
 
 -- ---- a search's answer, 13 and 15
 
@@ -82,17 +101,12 @@ pub values_met : (circuit : Circuit) (values : List ℕ) {found : ℕ} {answer :
 unfolding values_checked
 values_met circuit values room e f = none_bad-found (length values) (too_large values (modulus_at (wires_in circuit))) ValueTooLarge e f
 
--- what one turn of the searches tests
-module _ (circuit : Circuit) {i : ℕ} (h : i < circuit.made) where
-  pub absent_is : (n : ℕ) {b : Bool} → b ≡ owner_absent n (wire_at circuit.wires i).gate → absent_at circuit n i ≡ b
-  absent_is n {b} e = ap (λ (wire : Wire). owner_absent n wire.gate) (wire-at circuit.wires circuit.made i h) ∙ sym e
+-- a value beside its wire is too large where it is by their numbers
+module _ (values : List ℕ) (wires : List Wire) (room : length values ≤ length wires) where
+  pub pairs : length (zip values wires) ≡ length values
+  pairs = omega (arith, length-zip values wires)
 
-  module _ (values : List ℕ) where
-    same : modulus_at (wires_in circuit) i ≡ modulus_at circuit.wires i
-    same = modulus-at circuit.wires circuit.made i h
-
-    pub value_large : modulus_at circuit.wires i ≤ get_or values i 0 → too_large values (modulus_at (wires_in circuit)) i ≡ true
-    value_large l = le-leb (modulus_at (wires_in circuit) i) (get_or values i 0) (omega (arith, same))
-
-    pub value-small : get_or values i 0 < modulus_at circuit.wires i → too_large values (modulus_at (wires_in circuit)) i ≡ false
-    value-small l = lt-leb (modulus_at (wires_in circuit) i) (get_or values i 0) (omega (arith, same))
+  pub first-large : first (length values) (λ i. leb (get_or (zip values wires) i (0, no_wire)).1.modulus (get_or (zip values wires) i (0, no_wire)).0) ≡ first (length values) (too_large values (modulus_at wires))
+  first-large =
+      first_ext (length values) (λ i. leb (get_or (zip values wires) i (0, no_wire)).1.modulus (get_or (zip values wires) i (0, no_wire)).0) (too_large values (modulus_at wires))
+      (λ i h. ap (λ (p : ℕ × Wire). leb p.1.modulus p.0) (get_or-zip values wires i (0, no_wire) h (omega arith)))

@@ -3,13 +3,13 @@
 -- Assumes nothing.
 use Rattle.std.specs.Prelude.{Bool, true, false, ◌&&◌, List, [], ◌∷◌, ℕ, ◌^◌, eqb, leb, ltb, length, get_or}
 use Rattle.checks.specs.declared.Refusal.TheVariants.{SessionRange, NoSuchParty, OwnerAbsent, NamedAbsent, WrongLength, ValueTooLarge}
-use Rattle.checks.specs.declared.Answer.{Answer}
 use Rattle.checks.specs.Checked.{and_then, unless, none_bad}
 use Rattle.words.specs.declared.gate.Gate.{Gate}
 use Rattle.words.specs.declared.gate.Gate.TheVariants.{Input, Add, Scale, Multiply, Project, Select}
 use Rattle.words.specs.declared.gate.Wire.{Wire}
 use Rattle.circuit.specs.Wires.{wire_at}
 use Rattle.circuit.specs.File.{read_file}
+use Rattle.checks.specs.Answer.{Answer}
 
 -- 1 to 10: the reader's answer
 abbrev pub file_checked : List ℕ → Answer

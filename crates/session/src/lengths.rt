@@ -1,15 +1,16 @@
-// Whether a lent buffer has the length that is wanted.
-ghost use Rattle.std.specs.Prelude.{◌≡◌, [], ◌∷◌};
+// Whether lent buffers have the lengths that are wanted.
+ghost use Rattle.std.specs.Prelude.{◌≡◌};
 ghost use Rattle.session.specs.Session.{lengths_checked};
 
 use checks::{Answer, Refusal};
 
-// One length. Of several, each follows those before it.
-pub fn length_checked(lent: usize, wanted: usize) -> Answer
-    ensures { result ≡ lengths_checked (lent ∷ []) (wanted ∷ []) }
+// 14: each length that is lent is the one wanted, one by one.
+pub fn lengths_checked(lent: &[usize], wanted: &[usize]) -> Answer
+    ensures { result ≡ lengths_checked lent.now wanted.now }
 {
     if lent == wanted {
-        return Answer::Accepted;
+        Ok(())
+    } else {
+        Err(Refusal::WrongLength.at(0))
     }
-    Answer::Refused(Refusal::WrongLength, 0)
 }

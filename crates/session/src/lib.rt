@@ -10,7 +10,7 @@ mod parties;
 mod seats;
 mod values;
 
-pub use lengths::length_checked;
+pub use lengths::lengths_checked;
 pub use owners::owners_checked;
 pub use partakers::partakers_checked;
 pub use parties::{parties_checked, party_checked, session_checked};

@@ -5,18 +5,14 @@ ghost use Rattle.circuit.specs.Held.{wires_in, named_in, Held};
 ghost use Rattle.session.specs.Session.{named_absent, named_checked, partakers_checked};
 
 use super::owners::owners_checked;
-use checks::{Answer, Refusal, followed, named};
+use checks::{Answer, Refusal, named};
 use circuit::Circuit;
 
 // Whether some party from `n` up is among those named. There are eight at most.
 fn absent_named(parties: u8, n: u32) -> bool
     ensures { result ≡ named_absent n parties }
 {
-    if 8 <= n {
-        return false;
-    }
-    let all = parties as u32;
-    1 << n <= all
+    n < 8 && 1 << n <= u32::from(parties)
 }
 
 // The lowest output that names a party that does not take part; the number of outputs where there is none.
@@ -24,25 +20,21 @@ fn first_naming(circuit: Circuit, n: u32) -> usize
     requires { Held circuit }
     ensures { result ≡ first circuit.given (λ i. named_absent n (get_or (named_in circuit) i 0)) }
 {
-    let given = circuit.given;
-    let mut i = 0;
-    while i < given {
-        let parties = circuit.named[i];
-        if absent_named(parties, n) {
-            return i;
-        }
-        i += 1;
-    }
-    i
+    circuit.named[..circuit.given]
+        .iter()
+        .position(|parties| absent_named(*parties, n))
+        .unwrap_or(circuit.given)
 }
 
 fn named_checked(circuit: Circuit, n: u32) -> Answer
     requires { Held circuit }
     ensures { result ≡ named_checked n (named_in circuit) }
 {
-    let given = circuit.given;
-    let found = first_naming(circuit, n);
-    named(given, found, Refusal::NamedAbsent)
+    named(
+        circuit.given,
+        first_naming(circuit, n),
+        Refusal::NamedAbsent,
+    )
 }
 
 // The owners first.
@@ -50,7 +42,6 @@ pub fn partakers_checked(circuit: Circuit, n: u32) -> Answer
     requires { Held circuit }
     ensures { result ≡ partakers_checked n (wires_in circuit) (named_in circuit) }
 {
-    let owners = owners_checked(circuit, n);
-    let named = named_checked(circuit, n);
-    followed(owners, named)
+    owners_checked(circuit, n)?;
+    named_checked(circuit, n)
 }

@@ -13,17 +13,11 @@ fn first_too_large(circuit: Circuit, values: &[u8]) -> usize
     requires { Room circuit × (length values.now ≤ circuit.made) }
     ensures { result ≡ first (length values.now) (too_large values.now (modulus_at (wires_in circuit))) }
 {
-    let size = values.len();
-    let mut i = 0;
-    while i < size {
-        let wire = circuit.wires[i];
-        let p = wire.modulus;
-        if p <= values[i] {
-            return i;
-        }
-        i += 1;
-    }
-    i
+    values
+        .iter()
+        .zip(&circuit.wires[..circuit.made])
+        .position(|(value, wire)| wire.modulus <= *value)
+        .unwrap_or(values.len())
 }
 
 // One value for each of the first wires, of which there are no fewer.
@@ -31,6 +25,9 @@ pub fn values_checked(circuit: Circuit, values: &[u8]) -> Answer
     requires { Room circuit × (length values.now ≤ circuit.made) }
     ensures { result ≡ values_checked values.now (modulus_at (wires_in circuit)) }
 {
-    let found = first_too_large(circuit, values);
-    named(values.len(), found, Refusal::ValueTooLarge)
+    named(
+        values.len(),
+        first_too_large(circuit, values),
+        Refusal::ValueTooLarge,
+    )
 }

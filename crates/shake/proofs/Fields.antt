@@ -14,18 +14,17 @@ use lib.Seq.{drop-cons}
 use borrow.Author.Tests.{eqb-false, eq-eqb, ne_eqb}
 use Rattle.keccak.specs.Keccak.{keccak_f}
 use Rattle.keccak.proofs.Fits.{keccak_f-length}
-use Rattle.shake.specs.Stream.{mixed, settled, turned, with_byte, with_field}
-use Rattle.shake.specs.declared.Sponge.{Sponge}
+use Rattle.shake.specs.Stream.{Soaked, mixed, settled, turned, with_byte, with_field}
 use Rattle.shake.proofs.Bytes.{byte_shift}
 
 -- taking in fields one after another is taking in their concatenation
-pub fields : (s : Sponge) (xs ys : List ℕ) → with_field (with_field s xs) ys ≡ with_field s (xs ++ ys)
+pub fields : (s : Soaked) (xs ys : List ℕ) → with_field (with_field s xs) ys ≡ with_field s (xs ++ ys)
 unfolding with_field
 fields s [] ys = refl
 fields s (x ∷ xs) ys = fields (with_byte s x) xs ys
 
 -- a sponge whose place lies in the block, with the state's 25 lanes
-pub record Ready (s : Sponge) : Type 0 where
+pub record Ready (s : Soaked) : Type 0 where
   pub place : s.at < 136
   pub lanes25 : length s.lanes ≡ 25
 
@@ -37,11 +36,11 @@ settled-ready false lanes at h l e = record { place = within (eqb-false at 136 e
     within : (at ≡ 136 → ⊥) → at < 136
     within n = omega arith
 
-pub byte-ready : (s : Sponge) (b : ℕ) → Ready s → Ready (with_byte s b)
+pub byte-ready : (s : Soaked) (b : ℕ) → Ready s → Ready (with_byte s b)
 unfolding with_byte turned mixed
 byte-ready s b r = settled-ready (eqb (s.at + 1) 136) _ (s.at + 1) (omega arith) (simp length-set r.lanes25) refl
 
-pub field-ready : (s : Sponge) (bs : List ℕ) → Ready s → Ready (with_field s bs)
+pub field-ready : (s : Soaked) (bs : List ℕ) → Ready s → Ready (with_field s bs)
 unfolding with_field
 field-ready s [] r = r
 field-ready s (b ∷ bs) r = field-ready (with_byte s b) bs (byte-ready s b r)
@@ -83,16 +82,16 @@ module _ (lanes : List ℕ) (at b w : ℕ) (lanes' : List ℕ) (at' : ℕ) (e : 
   within t l a = turned-within (mixed lanes at b) (at + 1) t ∙ rw (l, a, written lanes at b w e h)
 
 -- nothing is left of the field
-pub ended : (s t : Sponge) (field : List ℕ) (i : ℕ) → length field ≤ i → with_field s (drop i field) ≡ t → s ≡ t
+pub ended : (s t : Soaked) (field : List ℕ) (i : ℕ) → length field ≤ i → with_field s (drop i field) ≡ t → s ≡ t
 unfolding with_field
 ended s t field i h e = rw (drop_of_length-le field h) at e
 
 -- the loop's invariant after a turn, from what the turn made of the sponge
-pub again : (lanes : List ℕ) (at : ℕ) (lanes' : List ℕ) (at' : ℕ) (field : List ℕ) (i : ℕ) (s : Sponge)
+pub again : (lanes : List ℕ) (at : ℕ) (lanes' : List ℕ) (at' : ℕ) (field : List ℕ) (i : ℕ) (s : Soaked)
     → i < length field → at < 136 → length lanes ≡ 25 → with_field (record { lanes = lanes; at = at }) (drop i field) ≡ with_field s field
     → turned (mixed lanes at (get_or field i 0)) (at + 1) ≡ record { lanes = lanes'; at = at' }
-    → (i + 1 ≤ length field) × (at' < 136) × (length lanes' ≡ 25) × (with_field (record { lanes = lanes'; at = at' }) (drop (i + 1) field) ≡ with_field s field)
+    → (at' < 136) × (length lanes' ≡ 25) × (with_field (record { lanes = lanes'; at = at' }) (drop (i + 1) field) ≡ with_field s field)
 unfolding with_byte
 again lanes at lanes' at' field i s h p l e t =
     let r : Ready (record { lanes = lanes'; at = at' }) = subst Ready t (byte-ready (record { lanes = lanes; at = at }) (get_or field i 0) (record { place = p; lanes25 = l })) in
-    (omega arith, r.place, r.lanes25, ap (λ (x : Sponge). with_field x (drop (i + 1) field)) (sym t) ∙ sym (turn lanes at field i h) ∙ e)
+    (r.place, r.lanes25, ap (λ (x : Soaked). with_field x (drop (i + 1) field)) (sym t) ∙ sym (turn lanes at field i h) ∙ e)

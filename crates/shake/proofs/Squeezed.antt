@@ -15,7 +15,8 @@ use Rattle.keccak.specs.Keccak.{keccak_f}
 use Rattle.keccak.proofs.Fits.{Fits, keccak_f-length, keccak_f-fits}
 use Rattle.shake.specs.Numbers.{little_endian, first_numbers, numbers, bytes_of}
 use Rattle.shake.specs.Shake.{lane_bytes, squeeze_blocks, squeezed}
-use Rattle.shake.proofs.Stream.{stream, stream_length, next-within, stream_step, past}
+use Rattle.shake.specs.Read.{byte_at, lane_at, stream}
+use Rattle.shake.proofs.Stream.{stream_length, next-within, stream_step, past}
 
 -- ---- bytes of lanes
 
@@ -39,10 +40,6 @@ pub lane_bytes-length : (xs : List ℕ) → length (lane_bytes xs) ≡ 8 * lengt
 unfolding lane_bytes
 lane_bytes-length [] = refl
 lane_bytes-length (x ∷ xs) = length-append (bytes_of 8 x) (lane_bytes xs) ∙ rw (bytes_of-length 8 x, lane_bytes-length xs) (omega arith)
-
--- the byte at a place, as the code reads it
-abbrev pub byte_at : List ℕ → ℕ → ℕ
-byte_at lanes at = get_or lanes (at / 8) 0 / 2 ^ (8 * (at % 8)) % 256
 
 -- eight places on is the next lane
 byte_at-next : (x : ℕ) (xs : List ℕ) (m : ℕ) → byte_at (x ∷ xs) (8 + m) ≡ byte_at xs m
@@ -134,10 +131,6 @@ little_endian-bytes_of (suc n) x h = ap (λ (y : ℕ). x % 256 + 256 * y) (littl
   where
     places : 8 * suc n ≡ 8 * n + 8
     places = omega arith
-
--- the lane at a place
-abbrev pub lane_at : List ℕ → ℕ → ℕ
-lane_at lanes j = get_or lanes j 0
 
 abbrev pub lanes_out : ℕ → List ℕ → ℕ → List ℕ
 lanes_out = stream 17 lane_at

@@ -19,14 +19,13 @@ use Rattle.keccak.proofs.Fits.{keccak_f-length}
 use Rattle.shake.specs.Numbers.{little_endian, first_numbers, numbers}
 use Rattle.shake.specs.Padding.{padded_message}
 use Rattle.shake.specs.Shake.{xored, absorb_block, absorb_blocks, zero_state, absorbed}
-use Rattle.shake.specs.Stream.{mixed, settled, turned, with_byte, with_field, empty, closed}
-use Rattle.shake.specs.declared.Sponge.{Sponge}
+use Rattle.shake.specs.Stream.{Soaked, mixed, settled, turned, with_byte, with_field, empty, closed}
 use Rattle.shake.proofs.Xor.{xor_sum}
 use Rattle.shake.proofs.Bytes.{Bytes, head_byte, tail_bytes, bytes_take, bytes_drop, bytes_append}
 use Rattle.shake.proofs.Fields.{fields, turned_full, turned-within, Ready, field-ready}
 use Rattle.shake.proofs.Padded.{tail, tail_length, bytes_tail, padded_is}
 
-abbrev sponge : List ℕ → ℕ → Sponge
+abbrev sponge : List ℕ → ℕ → Soaked
 sponge lanes at = record { lanes = lanes; at = at }
 
 -- ---- eight bytes are a number that goes into a lane
@@ -73,7 +72,7 @@ word_in (b ∷ []) lanes j k rest n p h hj l =
     ends = omega arith
 word_in (b ∷ b' ∷ bs) lanes j k rest n p h hj l =
     ap (λ (xs : List ℕ). with_field (turned xs (8 * j + k + 1)) (b' ∷ bs ++ rest)) (mixed-at lanes j k b (omega arith))
-    ∙ ap (λ (s : Sponge). with_field s (b' ∷ bs ++ rest)) (turned-within (into lanes j (b * 2 ^ (8 * k))) (8 * j + k + 1) (λ e. omega arith) ∙ ap (λ (a : ℕ). sponge (into lanes j (b * 2 ^ (8 * k))) a) (add_assoc (8 * j) k 1))
+    ∙ ap (λ (s : Soaked). with_field s (b' ∷ bs ++ rest)) (turned-within (into lanes j (b * 2 ^ (8 * k))) (8 * j + k + 1) (λ e. omega arith) ∙ ap (λ (a : ℕ). sponge (into lanes j (b * 2 ^ (8 * k))) a) (add_assoc (8 * j) k 1))
     ∙ word_in (b' ∷ bs) (into lanes j (b * 2 ^ (8 * k))) j (k + 1) rest (omega arith) (omega arith) (tail_bytes b (b' ∷ bs) h) hj (length-set lanes j (bit_xor (get_or lanes j 0) (b * 2 ^ (8 * k))) ∙ l)
     ∙ ap (λ (xs : List ℕ). with_field (turned xs (8 * j + 8)) rest) (into_into lanes j k b (little_endian (b' ∷ bs)) (omega arith) (head_byte b (b' ∷ bs) h))
 
@@ -112,7 +111,7 @@ words-in zero bs lanes j rest n s h l =
     ends : 8 * j ≡ 136
     ends = omega arith
 words-in (suc n) bs lanes j rest e s h l =
-    ap (λ (x : Sponge). with_field x (bs ++ rest)) (turned-within lanes (8 * j) (λ q. omega arith) ∙ ap (λ (a : ℕ). sponge lanes a) (sym (add-zero (8 * j))))
+    ap (λ (x : Soaked). with_field x (bs ++ rest)) (turned-within lanes (8 * j) (λ q. omega arith) ∙ ap (λ (a : ℕ). sponge lanes a) (sym (add-zero (8 * j))))
     ∙ ap (λ (xs : List ℕ). with_field (sponge lanes (8 * j + 0)) xs) (ap (λ (xs : List ℕ). xs ++ rest) (sym (take-append-drop 8 bs)) ∙ append_assoc (take 8 bs) (drop 8 bs) rest)
     ∙ word_in (take 8 bs) lanes j 0 (drop 8 bs ++ rest) (rw eight refl) (rw eight (lit< tt)) (bytes_take 8 bs h) (omega arith) l
     ∙ ap (λ (x : ℕ). with_field (turned (into lanes j x) (8 * j + 8)) (drop 8 bs ++ rest)) (mul-one (little_endian (take 8 bs)))
@@ -135,9 +134,9 @@ block_in : (bs : List ℕ) (lanes : List ℕ) (rest : List ℕ) → length bs �
     → with_field (sponge lanes 0) (bs ++ rest) ≡ with_field (sponge (absorb_block lanes bs) 0) rest
 unfolding absorb_block numbers
 block_in bs lanes rest n h l =
-    ap (λ (x : Sponge). with_field x (bs ++ rest)) (sym (turned-within lanes 0 (λ (q : ◌≡◌ {A = ℕ} 0 136). omega arith)))
+    ap (λ (x : Soaked). with_field x (bs ++ rest)) (sym (turned-within lanes 0 (λ (q : ◌≡◌ {A = ℕ} 0 136). omega arith)))
     ∙ words-in 17 bs lanes 0 rest refl n h l
-    ∙ ap (λ (x : Sponge). with_field x rest) (turned_full (xored lanes (first_numbers 17 bs)) 136 refl)
+    ∙ ap (λ (x : Soaked). with_field x rest) (turned_full (xored lanes (first_numbers 17 bs)) 136 refl)
     ∙ ap (λ (k : ℕ). with_field (sponge (keccak_f (xored lanes (first_numbers (k / 8) bs))) 0) rest) (sym n)
 
 pub absorb_block-length : (state block : List ℕ) → length (absorb_block state block) ≡ 25
@@ -170,7 +169,7 @@ unfolding with_field with_byte
 zeros_in zero lanes at rest h = ap (λ (a : ℕ). with_field (sponge lanes a) rest) (sym (add-zero at))
 zeros_in (suc e) lanes at rest h =
     ap (λ (xs : List ℕ). with_field (turned xs (at + 1)) (replicate e 0 ++ rest)) (zero_in lanes at)
-    ∙ ap (λ (s : Sponge). with_field s (replicate e 0 ++ rest)) (turned-within lanes (at + 1) (λ q. omega arith))
+    ∙ ap (λ (s : Soaked). with_field s (replicate e 0 ++ rest)) (turned-within lanes (at + 1) (λ q. omega arith))
     ∙ zeros_in e lanes (at + 1) rest (omega arith) ∙ ap (λ (a : ℕ). with_field (sponge lanes a) rest) places
   where
     places : at + 1 + e ≡ at + suc e
@@ -191,7 +190,7 @@ tail_in (suc zero) lanes at l e h =
     let p : at ≡ 135 = omega arith in
     rw p (ap (λ (xs : List ℕ). turned xs 136) (one_left lanes l) ∙ turned_full (mixed (mixed lanes 135 0x1F) 135 0x80) 136 refl)
 tail_in (suc (suc n)) lanes at l e h =
-    ap (λ (s : Sponge). with_field s (replicate n 0 ++ (0x80 ∷ []))) (turned-within (mixed lanes at 0x1F) (at + 1) (λ q. omega arith))
+    ap (λ (s : Soaked). with_field s (replicate n 0 ++ (0x80 ∷ []))) (turned-within (mixed lanes at 0x1F) (at + 1) (λ q. omega arith))
     ∙ zeros_in n (mixed lanes at 0x1F) (at + 1) (0x80 ∷ []) (omega arith)
     ∙ ap (λ (a : ℕ). with_field (sponge (mixed lanes at 0x1F) a) (0x80 ∷ [])) places
     ∙ turned_full (mixed (mixed lanes at 0x1F) 135 0x80) 136 refl
@@ -209,11 +208,11 @@ settled-place false lanes at e h = go (eqb-false at 136 e)
     go : (at ≡ 136 → ⊥) → at ≡ at % 136
     go n = omega arith
 
-byte-place : (s : Sponge) (b : ℕ) → s.at < 136 → (with_byte s b).at ≡ (s.at + 1) % 136
+byte-place : (s : Soaked) (b : ℕ) → s.at < 136 → (with_byte s b).at ≡ (s.at + 1) % 136
 unfolding with_byte turned
 byte-place s b h = settled-place (eqb (s.at + 1) 136) (mixed s.lanes s.at b) (s.at + 1) refl (omega arith)
 
-pub field-place : (s : Sponge) (bs : List ℕ) → s.at < 136 → (with_field s bs).at ≡ (s.at + length bs) % 136
+pub field-place : (s : Soaked) (bs : List ℕ) → s.at < 136 → (with_field s bs).at ≡ (s.at + length bs) % 136
 unfolding with_field
 field-place s [] h = omega arith
 field-place s (b ∷ bs) h =
@@ -234,7 +233,7 @@ pub streamed : (m : List ℕ) → Bytes m → closed (with_field empty m) ≡ ab
 unfolding absorbed empty zero_state
 streamed m h =
     let r : Ready (with_field empty m) = field-ready empty m empty-ready in
-    ap (λ (s : Sponge). s.lanes)
+    ap (λ (s : Soaked). s.lanes)
     (sym (tail_in (136 - length m % 136) (with_field empty m).lanes (with_field empty m).at r.lanes25 (rw (field-place empty m (lit< tt)) (places (length m))) (omega arith))
     ∙ fields empty m (tail (136 - length m % 136))
     ∙ ap (λ (xs : List ℕ). with_field empty xs) (sym (padded_is m h))

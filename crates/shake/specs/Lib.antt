@@ -1,4 +1,5 @@
 pub mod Numbers
 pub mod Padding
+pub mod Read
 pub mod Shake
 pub mod Stream

@@ -6,33 +6,37 @@ use Rattle.std.specs.Int.Bits.{bit_xor}
 use Rattle.keccak.specs.Keccak.{keccak_f}
 use Rattle.shake.specs.Padding.{rate}
 use Rattle.shake.specs.Shake.{zero_state}
-use Rattle.shake.specs.declared.Sponge.{Sponge}
+
+-- what a sponge holds: the lanes, and the place in the block of the next byte
+pub record Soaked : Type 0 where
+  pub lanes : List ℕ
+  pub at : ℕ
 
 -- the lanes with the byte b XORed in at the place at of their bytes
 unfoldable pub mixed : List ℕ → ℕ → ℕ → List ℕ
 mixed lanes at b = set lanes (at / 8) (bit_xor (get_or lanes (at / 8) 0) (b * 2 ^ (8 * (at % 8))))
 
 -- the sponge at a place; at the end of a block it is permuted, and starts the next one
-unfoldable pub settled : Bool → List ℕ → ℕ → Sponge
+unfoldable pub settled : Bool → List ℕ → ℕ → Soaked
 settled true lanes at = record { lanes = keccak_f lanes; at = 0 }
 settled false lanes at = record { lanes = lanes; at = at }
 
-unfoldable pub turned : List ℕ → ℕ → Sponge
+unfoldable pub turned : List ℕ → ℕ → Soaked
 turned lanes at = settled (eqb at rate) lanes at
 
 -- one byte more
-unfoldable pub with_byte : Sponge → ℕ → Sponge
+unfoldable pub with_byte : Soaked → ℕ → Soaked
 with_byte s b = turned (mixed s.lanes s.at b) (s.at + 1)
 
 -- a field's bytes more
-unfoldable pub with_field : Sponge → List ℕ → Sponge
+unfoldable pub with_field : Soaked → List ℕ → Soaked
 with_field s [] = s
 with_field s (b ∷ bs) = with_field (with_byte s b) bs
 
 -- before the first byte
-unfoldable pub empty : Sponge
+unfoldable pub empty : Soaked
 empty = record { lanes = zero_state; at = 0 }
 
 -- the state once the message has ended: the suffix 1111 and the first 1 of the padding make 0x1F, its last 1 is 0x80 in the block's last byte
-unfoldable pub closed : Sponge → List ℕ
+unfoldable pub closed : Soaked → List ℕ
 closed s = keccak_f (mixed (mixed s.lanes s.at 0x1F) 135 0x80)

@@ -1,5 +1,4 @@
 -- Laws of words.
-pub mod Fields
 pub mod Files
 pub mod Fitting
 pub mod Steps

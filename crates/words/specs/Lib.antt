@@ -7,4 +7,3 @@ pub mod Fits
 -- what functions promise each other, in the code's terms
 pub mod Entries
 pub mod Cut
-pub mod Clean

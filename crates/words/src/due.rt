@@ -7,40 +7,23 @@ use super::gate::Due;
 pub fn input_due(due: Due) -> bool
     ensures { result ≡ input_due due }
 {
-    match due {
-        Due::Inputs => true,
-        Due::Gates => false,
-        Due::Outputs => false,
-        Due::Entries(_, _) => false,
-        Due::Branches(_) => false,
-    }
+    matches!(due, Due::Inputs)
 }
 
 pub fn gate_due(due: Due) -> bool
     ensures { result ≡ gate_due due }
 {
-    match due {
-        Due::Inputs => true,
-        Due::Gates => true,
-        Due::Outputs => false,
-        Due::Entries(_, _) => false,
-        Due::Branches(_) => false,
-    }
+    matches!(due, Due::Inputs | Due::Gates)
 }
 
 // The end is due where an output is.
 pub fn output_due(due: Due) -> bool
     ensures { result ≡ output_due due }
 {
-    match due {
-        Due::Inputs => true,
-        Due::Gates => true,
-        Due::Outputs => true,
-        Due::Entries(_, _) => false,
-        Due::Branches(_) => false,
-    }
+    matches!(due, Due::Inputs | Due::Gates | Due::Outputs)
 }
 
+#[tactic(auto, unfolding(crate::specs::Items::after_entry))]
 pub fn after_entry(left: u8, modulus: u8) -> Due
     ensures { result ≡ after_entry left modulus }
 {

@@ -5,14 +5,6 @@ ghost use Rattle.words.specs.Cut.{cut_word};
 
 use super::item::Item;
 
-// A kind with one field.
-fn one(kind: u32, field: u32) -> u32
-    requires { kind ≤ 0xb000_0000 }
-    ensures { result ≡ kind + field % 1024 }
-{
-    kind + field % 1024
-}
-
 // A kind with two fields, of which the second has ten bits.
 fn two(kind: u32, high: u32, low: u32) -> u32
     requires { kind ≤ 0xb000_0000 }
@@ -21,25 +13,19 @@ fn two(kind: u32, high: u32, low: u32) -> u32
     kind + 1024 * (high % 1024) + low % 1024
 }
 
-fn input(owner: u32, modulus: u32) -> u32
-    ensures { result ≡ 0x2000_0000 + 65536 * (owner % 256) + modulus % 256 }
-{
-    0x2000_0000 + 65536 * (owner % 256) + modulus % 256
-}
-
 // The word of an item whose fields are not too wide for their bits; law `cut_fits` says so.
 pub fn encode(item: Item) -> u32
     ensures { result ≡ cut_word item }
 {
     match item {
         Item::Head => 0x1000_0000,
-        Item::Input(owner, modulus) => input(owner, modulus),
+        Item::Input(owner, modulus) => 0x2000_0000 + 65536 * (owner % 256) + modulus % 256,
         Item::Add(a, b) => two(0x3000_0000, a, b),
         Item::Scale(constant, a) => two(0x4000_0000, constant, a),
         Item::Multiply(a, b) => two(0x5000_0000, a, b),
         Item::Project(modulus, a) => two(0x6000_0000, modulus, a),
-        Item::Entry(image) => one(0x7000_0000, image),
-        Item::Select(bit) => one(0x8000_0000, bit),
+        Item::Entry(image) => 0x7000_0000 + image % 1024,
+        Item::Select(bit) => 0x8000_0000 + bit % 1024,
         Item::Branches(a, b) => two(0x9000_0000, a, b),
         Item::Output(named, a) => two(0xA000_0000, named, a),
         Item::End => 0xB000_0000,

@@ -2,15 +2,14 @@
 ghost use Rattle.std.specs.Prelude.{◌≡◌, true, ◌+◌, ◌*◌, ◌≤◌, length};
 ghost use Rattle.words.specs.Entries.{good_entry, GoodTo, GoodEntries};
 
-use super::bits::{both, word_at};
+use super::bits::word_at;
 
 // An entry with image 0 is 0x7000_0000, and the images follow it: one range holds all that the definition asks.
 fn good_entry(modulus: u8, w: u32) -> bool
     ensures { result ≡ good_entry modulus w }
 {
     let first = 0x7000_0000;
-    let past = first + (modulus as u32);
-    both(first <= w, w < past)
+    (first <= w) & (w < first + u32::from(modulus))
 }
 
 // Whether the `count` words from an index on are all such entries. No word ends the loop, so that the compiler may test several at once.
@@ -19,11 +18,8 @@ fn all_good(file: &[u8], from: usize, count: usize, modulus: u8) -> bool
     ensures { result ≡ true → GoodTo file.now from count modulus }
 {
     let mut good = true;
-    let mut i = 0;
-    while i < count {
-        let w = word_at(file, from + i);
-        good = both(good, good_entry(modulus, w));
-        i += 1;
+    for i in 0..count {
+        good &= good_entry(modulus, word_at(file, from + i));
     }
     good
 }
@@ -36,14 +32,10 @@ pub fn good_entries(file: &[u8], from: usize, count: usize, modulus: u8) -> usiz
     if all_good(file, from, count, modulus) {
         return count;
     }
-    let mut i = 0;
-    while i < count {
-        let w = word_at(file, from + i);
-        if good_entry(modulus, w) {
-            i += 1;
-        } else {
+    for i in 0..count {
+        if !good_entry(modulus, word_at(file, from + i)) {
             return i;
         }
     }
-    i
+    count
 }

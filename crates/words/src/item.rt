@@ -2,7 +2,7 @@
 // be any numbers.
 
 // In the order of their kinds, 1 to 11; the fields in the order of a word's bits, from the highest down.
-#[derive(Clone, Copy)]
+#[derive(Clone, Copy, Debug, PartialEq, Eq)]
 pub enum Item {
     Head,
     // owner and modulus

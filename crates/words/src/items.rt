@@ -1,21 +1,17 @@
 // What an item does where it stands. Its checks are made in the order of their numbers, as in the definition; they go by the fields' values, so a
-// field that is too wide for a word fails the check on it.
-ghost use Rattle.std.specs.Prelude.{◌≡◌, cond, ◌&&◌, ◌+◌, ◌≤◌, ◌<◌, ◌^◌, ltb, get_or, length, take};
-ghost use Rattle.words.specs.Items.{check, wire_of, pair_of, is_modulus, input_item, pair_item, scale_item, project_item, entry_item};
+// field that is too wide for a word fails the check on it. The wires made so far have these moduli, one for each. What is known of the place comes as single
+// numbers and not as one struct: each item is given what its checks go by, and nothing else.
+
+#![tactic(auto, unfolding(crate::specs::Items::check))]
+
+ghost use Rattle.std.specs.Prelude.{◌≡◌, cond, ◌&&◌, ◌+◌, ◌≤◌, ◌<◌, ◌^◌, ltb, length};
+ghost use Rattle.words.specs.Items.{wire_of, pair_of, is_modulus, input_item, pair_item, scale_item, project_item, entry_item};
 ghost use Rattle.words.specs.Items.{select_item, branches_item, output_item, end_item, judged};
 
-use super::bits::both;
 use super::due::{after_entry, gate_due, input_due, output_due};
 use super::gate::{Choice, Due, Gate, Owned, Pair, Projection, Scaling, Step, Wire};
 use super::item::Item;
 use checks::Refusal;
-
-// Where a check fails the item is refused.
-fn check(ok: bool, reason: Refusal, next: Step) -> Step
-    ensures { result ≡ check ok reason next }
-{
-    if ok { next } else { Step::Refused(reason) }
-}
 
 fn makes(gate: Gate, modulus: u8, due: Due) -> Step
     ensures { result ≡ Step.Makes (wire_of gate modulus) due }
@@ -23,36 +19,23 @@ fn makes(gate: Gate, modulus: u8, due: Due) -> Step
     Step::Makes(Wire { gate, modulus }, due)
 }
 
-fn is_made(made: usize, wire: u32) -> bool
-    ensures { result ≡ ltb wire made }
+fn is_made(moduli: &[u8], wire: u32) -> bool
+    ensures { result ≡ ltb wire (length moduli.now) }
 {
-    let number = wire as usize;
-    number < made
+    (wire as usize) < moduli.len()
 }
 
-fn both_made(made: usize, a: u32, b: u32) -> bool
-    ensures { result ≡ (ltb a made && ltb b made) }
+fn both_made(moduli: &[u8], a: u32, b: u32) -> bool
+    ensures { result ≡ (ltb a (length moduli.now) && ltb b (length moduli.now)) }
 {
-    both(is_made(made, a), is_made(made, b))
-}
-
-// The modulus of a wire that is made, else 0.
-fn modulus_of(moduli: &[u8], made: usize, wire: u32) -> u8
-    requires { made ≤ length moduli.now }
-    ensures { result ≡ get_or (take made moduli.now) wire 0 }
-{
-    let number = wire as usize;
-    if number < made { moduli[number] } else { 0 }
+    is_made(moduli, a) & is_made(moduli, b)
 }
 
 // Whether a number of any size is one of the 54 moduli.
 fn is_modulus(p: u32) -> bool
     ensures { result ≡ is_modulus p }
 {
-    if 256 <= p {
-        return false;
-    }
-    residue::is_modulus(p as u8)
+    p < 256 && residue::is_modulus(p as u8)
 }
 
 pub fn input_item(made: usize, due: Due, owner: u32, modulus: u32) -> Step
@@ -75,31 +58,31 @@ pub fn input_item(made: usize, due: Due, owner: u32, modulus: u32) -> Step
     makes(Gate::Input(Owned { owner: party }), prime, Due::Inputs)
 }
 
-// A sum or a product of two wires.
+// A sum or a product of two wires. A test and not a function that is passed in: that would need clauses about its calls.
 fn pair_gate(product: bool, a: u16, b: u16) -> Gate
     ensures { result ≡ cond product (Gate.Multiply (pair_of a b)) (Gate.Add (pair_of a b)) }
 {
     if product {
-        return Gate::Multiply(Pair { a, b });
+        Gate::Multiply(Pair { a, b })
+    } else {
+        Gate::Add(Pair { a, b })
     }
-    Gate::Add(Pair { a, b })
 }
 
-pub fn pair_item(moduli: &[u8], made: usize, due: Due, product: bool, a: u32, b: u32) -> Step
-    requires { made ≤ length moduli.now }
-    ensures { result ≡ pair_item (take made moduli.now) due (cond product (Gate.Multiply (pair_of a b)) (Gate.Add (pair_of a b))) a b }
+pub fn pair_item(moduli: &[u8], due: Due, product: bool, a: u32, b: u32) -> Step
+    ensures { result ≡ pair_item moduli.now due (cond product (Gate.Multiply (pair_of a b)) (Gate.Add (pair_of a b))) a b }
 {
     if !gate_due(due) {
         return Step::Refused(Refusal::NotDue);
     }
-    if !both_made(made, a, b) {
+    if !both_made(moduli, a, b) {
         return Step::Refused(Refusal::NotMade);
     }
-    let modulus = modulus_of(moduli, made, a);
-    if modulus != modulus_of(moduli, made, b) {
+    let modulus = moduli[a as usize];
+    if modulus != moduli[b as usize] {
         return Step::Refused(Refusal::ModuliDiffer);
     }
-    if 1024 <= made {
+    if 1024 <= moduli.len() {
         return Step::Refused(Refusal::TooMany);
     }
     let left = a as u16;
@@ -107,22 +90,20 @@ pub fn pair_item(moduli: &[u8], made: usize, due: Due, product: bool, a: u32, b:
     makes(pair_gate(product, left, right), modulus, Due::Gates)
 }
 
-pub fn scale_item(moduli: &[u8], made: usize, due: Due, constant: u32, a: u32) -> Step
-    requires { made ≤ length moduli.now }
-    ensures { result ≡ scale_item (take made moduli.now) due constant a }
+pub fn scale_item(moduli: &[u8], due: Due, constant: u32, a: u32) -> Step
+    ensures { result ≡ scale_item moduli.now due constant a }
 {
     if !gate_due(due) {
         return Step::Refused(Refusal::NotDue);
     }
-    if !is_made(made, a) {
+    if !is_made(moduli, a) {
         return Step::Refused(Refusal::NotMade);
     }
-    let modulus = modulus_of(moduli, made, a);
-    let past = modulus as u32;
-    if !both(0 < constant, constant < past) {
+    let modulus = moduli[a as usize];
+    if constant == 0 || u32::from(modulus) <= constant {
         return Step::Refused(Refusal::OutOfRange);
     }
-    if 1024 <= made {
+    if 1024 <= moduli.len() {
         return Step::Refused(Refusal::TooMany);
     }
     let factor = constant as u8;
@@ -137,9 +118,9 @@ pub fn scale_item(moduli: &[u8], made: usize, due: Due, constant: u32, a: u32) -
     )
 }
 
-pub fn project_item(moduli: &[u8], made: usize, at: u32, due: Due, modulus: u32, a: u32) -> Step
-    requires { (made ≤ length moduli.now) × (at + 1 < 2 ^ 32) }
-    ensures { result ≡ project_item (take made moduli.now) at due modulus a }
+pub fn project_item(moduli: &[u8], at: u32, due: Due, modulus: u32, a: u32) -> Step
+    requires { at + 1 < 2 ^ 32 }
+    ensures { result ≡ project_item moduli.now at due modulus a }
 {
     if !gate_due(due) {
         return Step::Refused(Refusal::NotDue);
@@ -147,16 +128,16 @@ pub fn project_item(moduli: &[u8], made: usize, at: u32, due: Due, modulus: u32,
     if !is_modulus(modulus) {
         return Step::Refused(Refusal::NotPrime);
     }
-    if !is_made(made, a) {
+    if !is_made(moduli, a) {
         return Step::Refused(Refusal::NotMade);
     }
-    if 1024 <= made {
+    if 1024 <= moduli.len() {
         return Step::Refused(Refusal::TooMany);
     }
     let table = at + 1;
     let wire = a as u16;
     let prime = modulus as u8;
-    let values = modulus_of(moduli, made, a);
+    let values = moduli[a as usize];
     let entries = Due::Entries(values, prime);
     makes(Gate::Project(Projection { a: wire, table }), prime, entries)
 }
@@ -164,51 +145,46 @@ pub fn project_item(moduli: &[u8], made: usize, at: u32, due: Due, modulus: u32,
 pub fn entry_item(due: Due, image: u32) -> Step
     ensures { result ≡ entry_item due image }
 {
-    match due {
-        Due::Inputs => Step::Refused(Refusal::NotDue),
-        Due::Gates => Step::Refused(Refusal::NotDue),
-        Due::Outputs => Step::Refused(Refusal::NotDue),
-        Due::Entries(left, modulus) => {
-            let past = modulus as u32;
-            check(
-                image < past,
-                Refusal::OutOfRange,
-                Step::Goes(after_entry(left, modulus)),
-            )
-        }
-        Due::Branches(_) => Step::Refused(Refusal::NotDue),
+    let Due::Entries(left, modulus) = due else {
+        return Step::Refused(Refusal::NotDue);
+    };
+    if u32::from(modulus) <= image {
+        return Step::Refused(Refusal::OutOfRange);
     }
+    Step::Goes(after_entry(left, modulus))
 }
 
-pub fn select_item(moduli: &[u8], made: usize, due: Due, bit: u32) -> Step
-    requires { made ≤ length moduli.now }
-    ensures { result ≡ select_item (take made moduli.now) due bit }
+pub fn select_item(moduli: &[u8], due: Due, bit: u32) -> Step
+    ensures { result ≡ select_item moduli.now due bit }
 {
     if !gate_due(due) {
         return Step::Refused(Refusal::NotDue);
     }
-    if !is_made(made, bit) {
+    if !is_made(moduli, bit) {
         return Step::Refused(Refusal::NotMade);
     }
-    if modulus_of(moduli, made, bit) != 2 {
+    if moduli[bit as usize] != 2 {
         return Step::Refused(Refusal::ModuliDiffer);
     }
-    if 1024 <= made {
+    if 1024 <= moduli.len() {
         return Step::Refused(Refusal::TooMany);
     }
     let wire = bit as u16;
     Step::Goes(Due::Branches(wire))
 }
 
-fn selection(moduli: &[u8], made: usize, bit: u16, a: u32, b: u32) -> Step
-    requires { (made ≤ length moduli.now) × (made ≤ 1024) }
-    ensures { result ≡ branches_item (take made moduli.now) (Due.Branches bit) a b }
+pub fn branches_item(moduli: &[u8], due: Due, a: u32, b: u32) -> Step
+    requires { length moduli.now ≤ 1024 }
+    ensures { result ≡ branches_item moduli.now due a b }
 {
-    if !both_made(made, a, b) {
+    let Due::Branches(bit) = due else {
+        return Step::Refused(Refusal::NotDue);
+    };
+    if !both_made(moduli, a, b) {
         return Step::Refused(Refusal::NotMade);
     }
-    let modulus = modulus_of(moduli, made, a);
-    if modulus != modulus_of(moduli, made, b) {
+    let modulus = moduli[a as usize];
+    if modulus != moduli[b as usize] {
         return Step::Refused(Refusal::ModuliDiffer);
     }
     let left = a as u16;
@@ -224,27 +200,14 @@ fn selection(moduli: &[u8], made: usize, bit: u16, a: u32, b: u32) -> Step
     )
 }
 
-pub fn branches_item(moduli: &[u8], made: usize, due: Due, a: u32, b: u32) -> Step
-    requires { (made ≤ length moduli.now) × (made ≤ 1024) }
-    ensures { result ≡ branches_item (take made moduli.now) due a b }
-{
-    match due {
-        Due::Inputs => Step::Refused(Refusal::NotDue),
-        Due::Gates => Step::Refused(Refusal::NotDue),
-        Due::Outputs => Step::Refused(Refusal::NotDue),
-        Due::Entries(_, _) => Step::Refused(Refusal::NotDue),
-        Due::Branches(bit) => selection(moduli, made, bit, a, b),
-    }
-}
-
-pub fn output_item(moduli: &[u8], made: usize, given: usize, due: Due, a: u32) -> Step
-    requires { (made ≤ length moduli.now) × (made ≤ 1024) }
-    ensures { result ≡ output_item (take made moduli.now) given due a }
+pub fn output_item(moduli: &[u8], given: usize, due: Due, a: u32) -> Step
+    requires { length moduli.now ≤ 1024 }
+    ensures { result ≡ output_item moduli.now given due a }
 {
     if !output_due(due) {
         return Step::Refused(Refusal::NotDue);
     }
-    if !is_made(made, a) {
+    if !is_made(moduli, a) {
         return Step::Refused(Refusal::NotMade);
     }
     if 256 <= given {
@@ -257,29 +220,29 @@ pub fn output_item(moduli: &[u8], made: usize, given: usize, due: Due, a: u32) -
 pub fn end_item(given: usize, due: Due) -> Step
     ensures { result ≡ end_item given due }
 {
-    check(
-        output_due(due),
-        Refusal::NotDue,
-        check(0 < given, Refusal::NoOutput, Step::Ends),
-    )
+    match (output_due(due), given) {
+        (false, _) => Step::Refused(Refusal::NotDue),
+        (true, 0) => Step::Refused(Refusal::NoOutput),
+        (true, _) => Step::Ends,
+    }
 }
 
-// What an item does at an index of the file, where `made` wires are made, with these moduli, `given` outputs are given, and `due` is due.
-pub fn judge(moduli: &[u8], made: usize, given: usize, at: u32, due: Due, item: Item) -> Step
-    requires { (made ≤ length moduli.now) × (made ≤ 1024) × (at + 1 < 2 ^ 32) }
-    ensures { result ≡ judged (take made moduli.now) given at due item }
+// What an item does at an index of the file, where `given` outputs are given, and `due` is due.
+pub fn judge(moduli: &[u8], given: usize, at: u32, due: Due, item: Item) -> Step
+    requires { (length moduli.now ≤ 1024) × (at + 1 < 2 ^ 32) }
+    ensures { result ≡ judged moduli.now given at due item }
 {
     match item {
         Item::Head => Step::Refused(Refusal::NotDue),
-        Item::Input(owner, modulus) => input_item(made, due, owner, modulus),
-        Item::Add(a, b) => pair_item(moduli, made, due, false, a, b),
-        Item::Scale(constant, a) => scale_item(moduli, made, due, constant, a),
-        Item::Multiply(a, b) => pair_item(moduli, made, due, true, a, b),
-        Item::Project(modulus, a) => project_item(moduli, made, at, due, modulus, a),
+        Item::Input(owner, modulus) => input_item(moduli.len(), due, owner, modulus),
+        Item::Add(a, b) => pair_item(moduli, due, false, a, b),
+        Item::Scale(constant, a) => scale_item(moduli, due, constant, a),
+        Item::Multiply(a, b) => pair_item(moduli, due, true, a, b),
+        Item::Project(modulus, a) => project_item(moduli, at, due, modulus, a),
         Item::Entry(image) => entry_item(due, image),
-        Item::Select(bit) => select_item(moduli, made, due, bit),
-        Item::Branches(a, b) => branches_item(moduli, made, due, a, b),
-        Item::Output(_, a) => output_item(moduli, made, given, due, a),
+        Item::Select(bit) => select_item(moduli, due, bit),
+        Item::Branches(a, b) => branches_item(moduli, due, a, b),
+        Item::Output(_, a) => output_item(moduli, given, due, a),
         Item::End => end_item(given, due),
     }
 }

@@ -9,8 +9,6 @@ use native.Mathlib.Nat.{le_refl}
 use native.Mathlib.Omega.{arith}
 use lib.ListN.{length, take, set, length-set}
 use lib.Seq.{length-take-le}
-use Rattle.checks.specs.declared.Answer.{Answer}
-use Rattle.checks.specs.declared.Answer.TheVariants.{Accepted, Refused}
 use Rattle.checks.specs.declared.Refusal.{Refusal}
 use Rattle.words.specs.declared.gate.Due.{Due}
 use Rattle.words.specs.declared.gate.Due.TheVariants.{Outputs}
@@ -25,6 +23,9 @@ use Rattle.writer.specs.declared.pen.Pen.{Pen}
 use Rattle.writer.specs.Desk.{Desk, desk, pen_of, stop, put_word, pen_after, moduli_after, desk_after, item_on, lay_item, refuse}
 use Rattle.writer.specs.Walked.{Steady, Ready, RoomFor}
 use Rattle.writer.proofs.HoldingFacts.{makes_room, makes_plain, goes_room, gives_room, not-outputs}
+use Rattle.std.specs.Prelude.{Ok, Err}
+use Rattle.checks.specs.declared.Refused.{Refused}
+use Rattle.checks.specs.Answer.{Answer, accepts}
 
 -- a desk is its parts
 pub desk_same : {p q : Pen} {m n f g : List ℕ} → p ≡ q → m ≡ n → f ≡ g → desk p m f ≡ desk q n g
@@ -74,28 +75,28 @@ module _ (lay : Bool) (place w : ℕ) (pen : Pen) (moduli file : List ℕ) where
 -- where nothing was refused, and where something was
 module _ (lay : Bool) (place : ℕ) (item : Item) (d : Desk) {k : Desk} where
   pub lay_on :
-      d.pen.answer ≡ Accepted
+      d.pen.answer ≡ accepts
       → k ≡ desk_after lay place (cut_word item) d (judged (take d.pen.made d.moduli) d.pen.given d.pen.at d.pen.due item)
       → k ≡ lay_item lay place item d
   unfolding item_on
   lay_on e f = f ∙ sym (ap (item_on lay place item d) e)
 
-pub lay_off : (lay : Bool) (place : ℕ) (item : Item) (d : Desk) {reason : Refusal} {at : ℕ} → d.pen.answer ≡ Refused reason at → d ≡ lay_item lay place item d
+pub lay_off : (lay : Bool) (place : ℕ) (item : Item) (d : Desk) {why : Refused} → d.pen.answer ≡ Err why → d ≡ lay_item lay place item d
 unfolding item_on
 lay_off lay place item d e = sym (ap (item_on lay place item d) e)
 
 -- a record that says nothing
 pub refuse_on :
     (place : ℕ) (pen pen' : Pen) (moduli file : List ℕ)
-    → pen.answer ≡ Accepted
+    → pen.answer ≡ accepts
     → pen' ≡ stop pen Refusal.UnknownWord place
     → desk pen' moduli file ≡ refuse place (desk pen moduli file) pen.answer
 unfolding refuse
 refuse_on place pen pen' moduli file e p = ap (λ (x : Pen). desk x moduli file) p ∙ sym (ap (refuse place (desk pen moduli file)) e)
 
 pub refuse_off :
-    (place : ℕ) (pen : Pen) (moduli file : List ℕ) {reason : Refusal} {at : ℕ}
-    → pen.answer ≡ Refused reason at
+    (place : ℕ) (pen : Pen) (moduli file : List ℕ) {why : Refused}
+    → pen.answer ≡ Err why
     → desk pen moduli file ≡ refuse place (desk pen moduli file) pen.answer
 unfolding refuse
 refuse_off place pen moduli file e = sym (ap (refuse place (desk pen moduli file)) e)
@@ -154,13 +155,13 @@ module _ (lay : Bool) (place : ℕ) (item : Item) (d : Desk) where
   steady_on :
       (answer : Answer) → Steady d.pen d.moduli → Steady (item_on lay place item d answer).pen (item_on lay place item d answer).moduli
   unfolding item_on
-  steady_on Accepted s = steady-after place item s (judged (take d.pen.made d.moduli) d.pen.given d.pen.at d.pen.due item) refl
-  steady_on (Refused reason at) s = s
+  steady_on (Ok done) s = steady-after place item s (judged (take d.pen.made d.moduli) d.pen.given d.pen.at d.pen.due item) refl
+  steady_on (Err why) s = s
 
   at_on : (answer : Answer) → (item_on lay place item d answer).pen.at ≤ d.pen.at + 1
   unfolding item_on
-  at_on Accepted = at_after place d.pen (judged (take d.pen.made d.moduli) d.pen.given d.pen.at d.pen.due item)
-  at_on (Refused reason at) = omega arith
+  at_on (Ok done) = at_after place d.pen (judged (take d.pen.made d.moduli) d.pen.given d.pen.at d.pen.due item)
+  at_on (Err why) = omega arith
 
   module _ {pen : Pen} {moduli file : List ℕ} (e : desk pen moduli file ≡ lay_item lay place item d) where
     pub steady-laid : Steady d.pen d.moduli → Steady pen moduli

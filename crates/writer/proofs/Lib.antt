@@ -13,6 +13,4 @@ pub mod HoldingTables
 pub mod Walks
 pub mod Closings
 -- loading a file
-pub mod Filled
 pub mod Listings
-pub mod Recorded

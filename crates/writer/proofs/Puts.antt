@@ -1,26 +1,22 @@
 -- Laws of laying down: the four bytes of a word, one word, and the words of a table, one after another.
 -- Assumes nothing.
-use mathlib.Core.Path.{◌≡◌, refl, sym, ap, ap₂, ◌∙◌}
+use mathlib.Core.Path.{◌≡◌, sym, ap, ap₂, ◌∙◌}
 use mathlib.Core.Bool.{Bool, cond}
 use mathlib.Core.List.{List, [], ◌∷◌}
-use Prim.Native.Nat.{ℕ, suc, ◌+◌, ◌*◌, ◌≤◌, ◌<◌}
+use Prim.Native.Nat.{ℕ, suc, ◌+◌, ◌*◌, ◌/◌, ◌%◌, ◌^◌, ◌≤◌, ◌<◌}
 use native.Mathlib.Nat.{add-zero}
 use native.Mathlib.Omega.{arith}
-use lib.ListN.{length, get_or, drop, set, drop_of_length-le}
+use lib.ListN.{length, get_or, drop, drop_of_length-le}
 use lib.Seq.{drop-cons}
 use borrow.Author.Tests.{le-leb, lt-leb}
+use Rattle.std.specs.Int.{w32, to_le_bytes}
 use Rattle.lists.specs.Blocks.{written}
 use Rattle.words.specs.Encode.{bytes_of}
 use Rattle.writer.specs.Desk.{put_word, put_words, entry_words}
 
--- four stores
-pub four_set : (out : List ℕ) (a b c d : ℕ) → length out ≡ 4 → set (set (set (set out 0 a) 1 b) 2 c) 3 d ≡ a ∷ b ∷ c ∷ d ∷ []
-four_set [] a b c d e = absurd (omega (arith, e))
-four_set (x ∷ []) a b c d e = absurd (omega (arith, e))
-four_set (x ∷ y ∷ []) a b c d e = absurd (omega (arith, e))
-four_set (x ∷ y ∷ z ∷ []) a b c d e = absurd (omega (arith, e))
-four_set (x ∷ y ∷ z ∷ u ∷ []) a b c d e = refl
-four_set (x ∷ y ∷ z ∷ u ∷ v ∷ vs) a b c d e = absurd (omega (arith, e))
+-- the bytes of a word, as the library has them
+pub bytes_are : (w : ℕ) → w < 2 ^ 32 → to_le_bytes w32 w ≡ bytes_of w
+bytes_are w h = ap₂ (λ (a b : ℕ). w % 256 ∷ a ∷ b ∷ w / 256 ^ 3 % 256 ∷ []) (omega arith) (omega arith) ∙ ap (λ (a : ℕ). w % 256 ∷ w / 256 % 256 ∷ w / 65536 % 256 ∷ a ∷ []) (omega arith)
 
 -- one word, where it has room, and where it has none
 module _ (file : List ℕ) (at w : ℕ) where

@@ -2,7 +2,7 @@
 -- Assumes nothing.
 use mathlib.Core.Path.{◌≡◌, refl, sym, ap, subst, ◌∙◌}
 use mathlib.Core.Bool.{Bool, true, false, ◌&&◌, cond, and-true}
-use mathlib.Core.List.{List}
+use mathlib.Core.List.{List, [], ◌∷◌}
 use Prim.Native.Nat.{ℕ, zero, suc, ◌<◌}
 use borrow.Author.Tests.{lt-ltb}
 use lib.Dec.{eqb, ltb}
@@ -11,10 +11,10 @@ use Rattle.words.specs.declared.item.Item.{Item}
 use Rattle.writer.specs.declared.entry.Record.{Record}
 use Rattle.writer.specs.declared.speech.Rest.{Rest}
 use Rattle.writer.specs.declared.speech.Rest.TheVariants.{Alone, Table}
-use Rattle.writer.specs.declared.speech.Speaks.{Speaks}
-use Rattle.writer.specs.declared.speech.Speaks.TheVariants.{Nothing, Says}
+use Rattle.writer.specs.declared.speech.Said.{Said}
+use Rattle.std.specs.Prelude.{Option, None}
 use Rattle.writer.specs.Says.{Speech, nothing, items, spoken, speech_of_kind, speech_of}
-use Rattle.writer.specs.Desk.{Desk, Means, refuse, lay_item, lay_table, rest_on, spoken_on}
+use Rattle.writer.specs.Desk.{Desk, Means, saying, unset, refuse, lay_item, lay_table, rest_on, spoken_on}
 
 -- the kind is known
 pub of_kind :
@@ -26,23 +26,30 @@ of_kind moduli tables r kind e f = ap (λ (k : ℕ). get_or (speech_of_kind modu
 
 -- .. and so is whether the other fields are not set
 module _ (moduli tables : List ℕ) where
-  told : (test : Bool) {first : Item} {rest : Rest} {says : List Item} {left : List ℕ} → Means moduli tables (Says first rest) (items says left)
-      → Means moduli tables (cond test (Says first rest) Nothing) (spoken test says left)
+  told : (test : Bool) {first : Item} {rest : Rest} {says : List Item} {left : List ℕ} → Means moduli tables (saying first rest) (items says left)
+      → Means moduli tables (cond test (saying first rest) None) (spoken test says left)
   unfolding spoken
   told true m = m
   told false m = Means.silent
 
   pub said :
-      (r : Record) (kind : ℕ) {unset test : Bool} {speaks : Speaks} {first : Item} {rest : Rest} {says : List Item} {left : List ℕ}
+      (r : Record) (kind : ℕ) {unset test : Bool} {speaks : Option Said} {first : Item} {rest : Rest} {says : List Item} {left : List ℕ}
       → r.kind ≡ kind
       → get_or (speech_of_kind moduli tables r) kind nothing ≡ spoken test says left
       → unset ≡ test
-      → speaks ≡ cond unset (Says first rest) Nothing
-      → Means moduli tables (Says first rest) (items says left)
+      → speaks ≡ cond unset (saying first rest) None
+      → Means moduli tables (saying first rest) (items says left)
       → Means moduli tables speaks (speech_of moduli tables r)
   said r kind {unset} {test} {speaks} {first} {rest} {says} {left} k e u f m =
-      subst (λ (x : Speaks). Means moduli tables x (speech_of moduli tables r)) (sym (f ∙ ap (λ (b : Bool). cond b (Says first rest) Nothing) u))
-      (subst (λ (x : Speech). Means moduli tables (cond test (Says first rest) Nothing) x) (sym (of_kind moduli tables r kind k e)) (told test m))
+      subst (λ (x : Option Said). Means moduli tables x (speech_of moduli tables r)) (sym (f ∙ ap (λ (b : Bool). cond b (saying first rest) None) u))
+      (subst (λ (x : Speech). Means moduli tables (cond test (saying first rest) None) x) (sym (of_kind moduli tables r kind k e)) (told test m))
+
+-- the fields that a kind does not use, tested one after another
+pub unset_four : (p q r s : ℕ) → unset (p ∷ q ∷ r ∷ s ∷ []) ≡ (eqb p 0 && (eqb q 0 && (eqb r 0 && eqb s 0)))
+unset_four p q r s = ap (λ (b : Bool). eqb p 0 && (eqb q 0 && (eqb r 0 && b))) (and-true (eqb s 0))
+
+pub unset_five : (p q r s t : ℕ) → unset (p ∷ q ∷ r ∷ s ∷ t ∷ []) ≡ (eqb p 0 && (eqb q 0 && (eqb r 0 && (eqb s 0 && eqb t 0))))
+unset_five p q r s t = ap (λ (b : Bool). eqb p 0 && (eqb q 0 && (eqb r 0 && (eqb s 0 && b)))) (and-true (eqb t 0))
 
 -- an output's parties are a byte, so that the code need not ask whether they are
 pub output_unset : (r : Record) → r.named < 256 → {unset : Bool}
@@ -92,18 +99,18 @@ no_kind r n2 n3 n4 n5 n6 n8 n10 moduli tables = none-at moduli tables r r.kind n
 
 -- what is said is done
 module _ (lay : Bool) (tables : List ℕ) (place : ℕ) (d : Desk) {k : Desk} where
-  pub nothing-done : {speaks : Speaks} → speaks ≡ Nothing → k ≡ refuse place d d.pen.answer → k ≡ spoken_on lay tables place speaks d
+  pub nothing-done : {speaks : Option Said} → speaks ≡ None → k ≡ refuse place d d.pen.answer → k ≡ spoken_on lay tables place speaks d
   unfolding spoken_on
-  nothing-done e f = f ∙ sym (ap (λ (x : Speaks). spoken_on lay tables place x d) e)
+  nothing-done e f = f ∙ sym (ap (λ (x : Option Said). spoken_on lay tables place x d) e)
 
   pub says-done :
-      {speaks : Speaks} {first : Item} {rest : Rest} {begun : Desk}
-      → speaks ≡ Says first rest
+      {speaks : Option Said} {first : Item} {rest : Rest} {begun : Desk}
+      → speaks ≡ saying first rest
       → begun ≡ lay_item lay place first d
       → k ≡ rest_on lay tables place rest begun
       → k ≡ spoken_on lay tables place speaks d
   unfolding spoken_on
-  says-done {rest = rest} e b f = f ∙ ap (rest_on lay tables place rest) b ∙ sym (ap (λ (x : Speaks). spoken_on lay tables place x d) e)
+  says-done {rest = rest} e b f = f ∙ ap (rest_on lay tables place rest) b ∙ sym (ap (λ (x : Option Said). spoken_on lay tables place x d) e)
 
   pub alone_done : {rest : Rest} → rest ≡ Alone → k ≡ d → k ≡ rest_on lay tables place rest d
   unfolding rest_on

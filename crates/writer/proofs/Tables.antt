@@ -9,14 +9,15 @@ use lib.Dec.{leb, ltb}
 use lib.ListN.{length, get_or, take, drop, length-drop, drop_of_length-le}
 use lib.Seq.{drop-cons, take_all, take-nil}
 use borrow.Author.Tests.{le-leb, lt-leb}
-use Rattle.checks.specs.declared.Answer.TheVariants.{Accepted, Refused}
-use Rattle.checks.specs.declared.Refusal.{Refusal}
 use Rattle.checks.specs.declared.Refusal.TheVariants.{OutOfRange, WrongLength}
 use Rattle.words.specs.declared.gate.Due.{Due}
 use Rattle.words.specs.declared.gate.Due.TheVariants.{Inputs, Gates, Outputs, Entries, Branches}
 use Rattle.writer.specs.declared.pen.Pen.{Pen}
 use Rattle.writer.specs.Desk.{Desk, desk, pen_of, stop, put_words, entry_words, all_below, images_from, table_on, table_due, table_after, lay_table}
 use Rattle.writer.proofs.Desks.{desk_same}
+use Rattle.std.specs.Prelude.{Err}
+use Rattle.checks.specs.declared.Refused.{Refused}
+use Rattle.checks.specs.Answer.{accepts}
 
 -- one image is judged, and the others are those left
 and_assoc : (a b c : Bool) → ((a && b) && c) ≡ (a && (b && c))
@@ -114,27 +115,19 @@ module _ (lay : Bool) (place : ℕ) (tables : List ℕ) (pen : Pen) (moduli file
 
 -- where nothing was refused and a table is due, and where not
 module _ (lay : Bool) (place : ℕ) (tables : List ℕ) (d : Desk) where
-  pub table_on_lem : {k : Desk} {due : Due} → d.pen.answer ≡ Accepted → d.pen.due ≡ due → k ≡ table_due lay place tables d due → k ≡ lay_table lay place tables d
+  pub table_on_lem : {k : Desk} {due : Due} → d.pen.answer ≡ accepts → d.pen.due ≡ due → k ≡ table_due lay place tables d due → k ≡ lay_table lay place tables d
   unfolding table_after
   table_on_lem e f g = g ∙ sym (ap (table_after lay place tables d) e ∙ ap (table_due lay place tables d) f)
 
-  pub table_off : {reason : Refusal} {at : ℕ} → d.pen.answer ≡ Refused reason at → d ≡ lay_table lay place tables d
+  pub table_off : {why : Refused} → d.pen.answer ≡ Err why → d ≡ lay_table lay place tables d
   unfolding table_after
   table_off e = sym (ap (table_after lay place tables d) e)
 
   -- none is due
-  pub inputs-due : d ≡ table_due lay place tables d Inputs
+  pub none-due : (due : Due) → ((left modulus : ℕ) → due ≡ Entries left modulus → ⊥) → d ≡ table_due lay place tables d due
   unfolding table_due
-  inputs-due = refl
-
-  pub gates-due : d ≡ table_due lay place tables d Gates
-  unfolding table_due
-  gates-due = refl
-
-  pub outputs-due : d ≡ table_due lay place tables d Outputs
-  unfolding table_due
-  outputs-due = refl
-
-  pub branches-due : (bit : ℕ) → d ≡ table_due lay place tables d (Branches bit)
-  unfolding table_due
-  branches-due bit = refl
+  none-due Inputs not = refl
+  none-due Gates not = refl
+  none-due Outputs not = refl
+  none-due (Entries left modulus) not = absurd (not left modulus refl)
+  none-due (Branches bit) not = refl

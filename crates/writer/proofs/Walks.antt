@@ -12,8 +12,6 @@ use lib.Dec.{leb, lit<}
 use lib.ListN.{length, get_or, take, drop, length-take, length-drop, length-append}
 use lib.Seq.{drop-cons, drop-drop}
 use borrow.Author.Tests.{leb-true, leb-false}
-use Rattle.checks.specs.declared.Answer.{Answer}
-use Rattle.checks.specs.declared.Answer.TheVariants.{Accepted, Refused}
 use Rattle.checks.specs.declared.Refusal.{Refusal}
 use Rattle.words.specs.declared.gate.Due.{Due}
 use Rattle.words.specs.declared.gate.Due.TheVariants.{Inputs, Gates, Entries}
@@ -30,16 +28,19 @@ use Rattle.writer.specs.declared.entry.Record.{Record}
 use Rattle.writer.specs.declared.pen.Pen.{Pen}
 use Rattle.writer.specs.declared.speech.Rest.{Rest}
 use Rattle.writer.specs.declared.speech.Rest.TheVariants.{Alone, Table}
-use Rattle.writer.specs.declared.speech.Speaks.{Speaks}
-use Rattle.writer.specs.declared.speech.Speaks.TheVariants.{Nothing, Says}
+use Rattle.writer.specs.declared.speech.Said.{Said}
+use Rattle.std.specs.Prelude.{Option, Some, None}
 use Rattle.writer.specs.Says.{Speech, nothing, items}
 use Rattle.writer.specs.Written.{Draft, Drafted, stopped, drafted, blank, leaving, after_item, laid, unless_stopped, laid_all, whole, said_to, recorded, onward, write_from, write_records}
-use Rattle.writer.specs.Desk.{Desk, desk, stop, desk_after, item_on, lay_item, all_below, table_on, table_due, table_after, lay_table, Means, rest_on, spoken_on, refuse}
+use Rattle.writer.specs.Desk.{Desk, desk, stop, desk_after, item_on, lay_item, all_below, table_on, table_due, table_after, lay_table, Means, saying, rest_on, spoken_on, refuse}
 use Rattle.writer.specs.Walked.{no_record, Steady, Ready, Begun, Stepped, Holds, Between, Walked}
 use Rattle.writer.proofs.HoldingFiles.{Kept, kept_more}
 use Rattle.writer.proofs.HoldingFacts.{parties_in, no_choice, not-inputs}
 use Rattle.writer.proofs.Holding.{Comes, held, put_down, made-is, held_item}
 use Rattle.writer.proofs.HoldingTables.{Tabled, full_table, put_down as table-down, held-table}
+use Rattle.std.specs.Prelude.{Ok, Err}
+use Rattle.checks.specs.declared.Refused.{Refused}
+use Rattle.checks.specs.Answer.{Answer, refuses}
 
 -- what a record leaves: a draft on the desk, one record further; or the pen put down at its place
 pub data Leaves (lay : Bool) (tables before : List ℕ) (place : ℕ) (k : Desk) : Drafted → Type 0 where
@@ -53,7 +54,7 @@ pub data Leaves (lay : Bool) (tables before : List ℕ) (place : ℕ) (k : Desk)
       → Leaves lay tables before place k (drafted d)
   off :
       {reason : Refusal}
-      → k.pen.answer ≡ Refused reason place
+      → k.pen.answer ≡ refuses reason place
       → Ready k.pen k.moduli
       → (lay ≡ false → k.file ≡ before)
       → Leaves lay tables before place k (stopped reason)
@@ -97,7 +98,7 @@ module _ (d : Draft) (x : Item) where
   unfolding after_item
   not_made reason = none
 
-counts : {ms ts : List ℕ} {x : Item} {speech : Speech} → Means ms ts (Says x Alone) speech → {d : Draft} {given at : ℕ} {due : Due} {s : Step} → Judged d.moduli given at due x s → Counts d (after_item d x s)
+counts : {ms ts : List ℕ} {x : Item} {speech : Speech} → Means ms ts (saying x Alone) speech → {d : Draft} {given at : ℕ} {due : Due} {s : Step} → Judged d.moduli given at due x s → Counts d (after_item d x s)
 counts Means.input {d} (Judged.refused {reason = reason}) = not_made d _ reason
 counts Means.input {d} (Judged.input room modulus owner) = one_made d _ _ Inputs Between.inputs
 counts Means.add {d} (Judged.refused {reason = reason}) = not_made d _ reason
@@ -110,7 +111,7 @@ counts (Means.output byte) {d} (Judged.refused {reason = reason}) = not_made d _
 counts (Means.output byte) {d} (Judged.output due a room) = one_given d _ _
 
 -- .. and the parties that it names are a byte
-byte-named : {ms ts : List ℕ} {x : Item} {speech : Speech} → Means ms ts (Says x Alone) speech → parties_in x < 256
+byte-named : {ms ts : List ℕ} {x : Item} {speech : Speech} → Means ms ts (saying x Alone) speech → parties_in x < 256
 byte-named Means.input = lit< tt
 byte-named Means.add = lit< tt
 byte-named Means.scale = lit< tt
@@ -144,18 +145,18 @@ taken_after lay place w k Ends = refl
 
 taken_on : (lay : Bool) (place : ℕ) (x : Item) (k : Desk) (answer : Answer) → (item_on lay place x k answer).pen.taken ≡ k.pen.taken
 unfolding item_on
-taken_on lay place x k Accepted =
+taken_on lay place x k (Ok done) =
     taken_after lay place (cut_word x) k (judged (take k.pen.made k.moduli) k.pen.given k.pen.at k.pen.due x)
-taken_on lay place x k (Refused reason at) = refl
+taken_on lay place x k (Err why) = refl
 
 pub taken_kept : (lay : Bool) (place : ℕ) (x : Item) (k : Desk) → (lay_item lay place x k).pen.taken ≡ k.pen.taken
 taken_kept lay place x k = taken_on lay place x k k.pen.answer
 
-idle_item : (lay : Bool) (place : ℕ) (x : Item) (k : Desk) {reason : Refusal} {at : ℕ} → k.pen.answer ≡ Refused reason at → lay_item lay place x k ≡ k
+idle_item : (lay : Bool) (place : ℕ) (x : Item) (k : Desk) {why : Refused} → k.pen.answer ≡ Err why → lay_item lay place x k ≡ k
 unfolding item_on
 idle_item lay place x k e = ap (item_on lay place x k) e
 
-idle_table : (lay : Bool) (place : ℕ) (tables : List ℕ) (k : Desk) {reason : Refusal} {at : ℕ} → k.pen.answer ≡ Refused reason at → lay_table lay place tables k ≡ k
+idle_table : (lay : Bool) (place : ℕ) (tables : List ℕ) (k : Desk) {why : Refused} → k.pen.answer ≡ Err why → lay_table lay place tables k ≡ k
 unfolding table_after
 idle_table lay place tables k e = ap (table_after lay place tables k) e
 
@@ -198,7 +199,7 @@ module _ {lay : Bool} {before : List ℕ} (tables : List ℕ) {k : Desk} {d : Dr
   leaves_one (put_down e) none same = down e
 
   -- a record with one item
-  leaves_item : (x : Item) {speech : Speech} → Means d.moduli d.tables (Says x Alone) speech → Leaves lay tables before place (lay_item lay place x k) (said_to d (items (x ∷ []) d.tables))
+  leaves_item : (x : Item) {speech : Speech} → Means d.moduli d.tables (saying x Alone) speech → Leaves lay tables before place (lay_item lay place x k) (said_to d (items (x ∷ []) d.tables))
   unfolding said_to laid_all
   leaves_item x means =
       let n : Counts d (laid d x) = counts means (judging d.moduli d.given (length d.words) d.due x) in
@@ -366,7 +367,7 @@ module _ {lay : Bool} {before : List ℕ} (tables : List ℕ) {k : Desk} {d : Dr
         leaves_select _ (judging d.moduli d.given (length d.words) d.due (Select bit)) (held_item h place (Select bit) (lit< tt)) (taken_kept lay place (Select bit) k)
 
   -- a record
-  leaves : {speaks : Speaks} {speech : Speech} → Means d.moduli d.tables speaks speech → Leaves lay tables before place (spoken_on lay tables place speaks k) (said_to d speech)
+  leaves : {speaks : Option Said} {speech : Speech} → Means d.moduli d.tables speaks speech → Leaves lay tables before place (spoken_on lay tables place speaks k) (said_to d speech)
   unfolding spoken_on rest_on
   leaves Means.silent = leaves_nothing
   leaves Means.input = leaves_item _ Means.input
@@ -384,16 +385,16 @@ unfolding write_from
 rest_more records tables i d l e = sym (ap (λ (rs : List Record). write_from i rs d) (drop-cons records i no_record l)) ∙ e
 
 -- the step after a refusal does nothing
-idle_rest : (lay : Bool) (tables : List ℕ) (rest : Rest) (place : ℕ) (k : Desk) {reason : Refusal} {at : ℕ} → k.pen.answer ≡ Refused reason at → rest_on lay tables place rest k ≡ k
+idle_rest : (lay : Bool) (tables : List ℕ) (rest : Rest) (place : ℕ) (k : Desk) {why : Refused} → k.pen.answer ≡ Err why → rest_on lay tables place rest k ≡ k
 unfolding rest_on
 idle_rest lay tables Alone place k e = refl
 idle_rest lay tables Table place k e = idle_table lay place tables k e
 idle_rest lay tables (Rest.Branches a b) place k e = idle_item lay place (Item.Branches a b) k e
 
-idle : (lay : Bool) (tables : List ℕ) (speaks : Speaks) (place : ℕ) (k : Desk) {reason : Refusal} {at : ℕ} → k.pen.answer ≡ Refused reason at → spoken_on lay tables place speaks k ≡ k
+idle : (lay : Bool) (tables : List ℕ) (speaks : Option Said) (place : ℕ) (k : Desk) {why : Refused} → k.pen.answer ≡ Err why → spoken_on lay tables place speaks k ≡ k
 unfolding spoken_on refuse
-idle lay tables Nothing place k e = ap (refuse place k) e
-idle lay tables (Says first rest) place k e = ap (rest_on lay tables place rest) (idle_item lay place first k e) ∙ idle_rest lay tables rest place k e
+idle lay tables None place k e = ap (refuse place k) e
+idle lay tables (Some said) place k e = ap (rest_on lay tables place said.rest) (idle_item lay place said.first k e) ∙ idle_rest lay tables said.rest place k e
 
 -- Before the first record, what a record may rely on, and one record more.
 module _ {lay : Bool} {tables before : List ℕ} {records : List Record} where

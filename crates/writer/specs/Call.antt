@@ -1,8 +1,6 @@
 -- Document 02, order 1: the two calls of an editor: what they promise of all that is lent to them.
 -- Assumes nothing.
 use Rattle.std.specs.Prelude.{◌≡◌, List, [], ◌∷◌, ◌++◌, ℕ, ◌*◌, leb, length, drop}
-use Rattle.checks.specs.declared.Answer.{Answer}
-use Rattle.checks.specs.declared.Answer.TheVariants.{Accepted, Refused}
 use Rattle.checks.specs.declared.Refusal.TheVariants.{TooShort}
 use Rattle.checks.specs.Checked.{Reports, and_then, unless, afterwards}
 use Rattle.words.specs.Encode.{file_of}
@@ -11,6 +9,7 @@ use Rattle.session.specs.Session.{file_checked, lengths_checked}
 use Rattle.writer.specs.declared.entry.Record.{Record}
 use Rattle.writer.specs.Written.{Written, refused, wrote, write_records}
 use Rattle.writer.specs.Listed.{records_of, tables_of}
+use Rattle.checks.specs.Answer.{Answer, accepts, refuses}
 
 -- words at the front of a buffer; all bytes past them are as they were
 abbrev pub file_with : List ℕ → List ℕ → List ℕ
@@ -18,8 +17,8 @@ file_with words file₀ = file_of words ++ drop (4 * length words) file₀
 
 -- the answer of writing, and the words, none where the list is refused
 unfoldable pub answer_of : Written → Answer
-answer_of (refused reason place) = Refused reason place
-answer_of (wrote words) = Accepted
+answer_of (refused reason place) = refuses reason place
+answer_of (wrote words) = accepts
 
 unfoldable pub words_of : Written → List ℕ
 words_of (refused reason place) = []

@@ -1,16 +1,13 @@
--- The end of the file, and what the call that writes then answers, in the code's terms.
+-- What writing promises below the C face: the answer, the number of words, and every byte of the file.
 -- Assumes nothing.
-use Rattle.std.specs.Prelude.{◌≡◌, cond, List, ℕ}
-use Rattle.checks.specs.Answer.{number_in, place_in}
-use Rattle.words.specs.declared.item.Item.TheVariants.{End}
-use Rattle.words.specs.Encode.{word_of}
-use Rattle.writer.specs.declared.pen.Pen.{Pen}
-use Rattle.writer.specs.declared.settling.Settled.{Settled}
-use Rattle.writer.specs.Desk.{put_word}
+use Rattle.std.specs.Prelude.{◌≡◌, List, ℕ, length, Result, IfOk}
+use Rattle.checks.specs.declared.Refused.{Refused}
+use Rattle.checks.specs.Answer.{answer_of}
+use Rattle.checks.specs.Checked.{afterwards}
+use Rattle.writer.specs.declared.entry.Record.{Record}
+use Rattle.writer.specs.Call.{file_with, words_written, write_checked}
 
--- the end word is laid behind the others, and the number of words is given, where the call is accepted
-pub record Finished (settled : Settled) (laid : Pen) (file₀ : List ℕ) (words₀ number place : ℕ) (file : List ℕ) (words : ℕ) : Type 0 where
-  pub number_is : number ≡ number_in settled.answer
-  pub place_is : place ≡ place_in settled.answer
-  pub file_is : file ≡ cond settled.lay (put_word file₀ laid.at (word_of End)) file₀
-  pub words_is : words ≡ cond settled.lay settled.words words₀
+pub record Writes (records : List Record) (tables file₀ : List ℕ) (words : Result ℕ Refused) (file : List ℕ) : Type 0 where
+  pub answer : answer_of words ≡ write_checked records tables (length file₀)
+  pub words_are : IfOk words (λ n. n ≡ length (words_written records tables))
+  pub file_is : file ≡ afterwards (write_checked records tables (length file₀)) (file_with (words_written records tables) file₀) file₀

@@ -1,9 +1,7 @@
 -- What the functions of the writer promise each other, in the code's terms: what each does to the pen, the moduli and the file.
 -- Assumes nothing.
-use Rattle.std.specs.Prelude.{Bool, true, false, cond, ◌&&◌, List, [], ◌∷◌, map, ℕ, suc, ◌+◌, ◌*◌, ◌<◌, leb, ltb, length, get_or, take, drop, set}
+use Rattle.std.specs.Prelude.{Bool, true, false, cond, ◌&&◌, List, [], ◌∷◌, map, ℕ, suc, ◌+◌, ◌*◌, ◌<◌, eqb, leb, ltb, length, get_or, take, drop, set}
 use Rattle.lists.specs.Blocks.{written}
-use Rattle.checks.specs.declared.Answer.{Answer}
-use Rattle.checks.specs.declared.Answer.TheVariants.{Accepted, Refused}
 use Rattle.checks.specs.declared.Refusal.{Refusal}
 use Rattle.checks.specs.declared.Refusal.TheVariants.{UnknownWord, OutOfRange, WrongLength}
 use Rattle.words.specs.declared.gate.Due.{Due}
@@ -18,17 +16,19 @@ use Rattle.words.specs.Cut.{cut_word}
 use Rattle.writer.specs.declared.pen.Pen.{Pen}
 use Rattle.writer.specs.declared.speech.Rest.{Rest}
 use Rattle.writer.specs.declared.speech.Rest.TheVariants.{Alone, Table}
-use Rattle.writer.specs.declared.speech.Speaks.{Speaks}
-use Rattle.writer.specs.declared.speech.Speaks.TheVariants.{Nothing, Says}
+use Rattle.writer.specs.declared.speech.Said.{Said}
 use Rattle.writer.specs.Says.{Speech, nothing, items}
+use Rattle.std.specs.Prelude.{Ok, Err, Option, Some, None}
+use Rattle.std.specs.List.{list_all}
+use Rattle.checks.specs.Answer.{Answer, accepts, refuses}
 
 -- the pen where nothing is refused, and the pen put down
 abbrev pub pen_of : Due → ℕ → ℕ → ℕ → ℕ → Pen
-pen_of due made given taken at = record { answer = Accepted; due = due; made = made; given = given; taken = taken; at = at }
+pen_of due made given taken at = record { answer = accepts; due = due; made = made; given = given; taken = taken; at = at }
 
 abbrev pub stop : Pen → Refusal → ℕ → Pen
 stop pen reason place =
-    record { answer = Refused reason place; due = pen.due; made = pen.made; given = pen.given; taken = pen.taken; at = pen.at }
+    record { answer = refuses reason place; due = pen.due; made = pen.made; given = pen.given; taken = pen.taken; at = pen.at }
 
 -- a word put down at an index of the file, where there is room for it; and several
 unfoldable pub put_word : List ℕ → ℕ → ℕ → List ℕ
@@ -75,9 +75,9 @@ desk_after lay place w d step =
 
 -- an item, where nothing was refused before
 unfoldable pub item_on : Bool → ℕ → Item → Desk → Answer → Desk
-item_on lay place item d Accepted =
+item_on lay place item d (Ok done) =
     desk_after lay place (cut_word item) d (judged (take d.pen.made d.moduli) d.pen.given d.pen.at d.pen.due item)
-item_on lay place item d (Refused reason at) = d
+item_on lay place item d (Err why) = d
 
 abbrev pub lay_item : Bool → ℕ → Item → Desk → Desk
 lay_item lay place item d = item_on lay place item d d.pen.answer
@@ -115,33 +115,41 @@ table_due lay place tables d (Due.Branches bit) = d
 
 -- the table of a projection, where nothing was refused before
 unfoldable pub table_after : Bool → ℕ → List ℕ → Desk → Answer → Desk
-table_after lay place tables d Accepted = table_due lay place tables d d.pen.due
-table_after lay place tables d (Refused reason at) = d
+table_after lay place tables d (Ok done) = table_due lay place tables d d.pen.due
+table_after lay place tables d (Err why) = d
 
 abbrev pub lay_table : Bool → ℕ → List ℕ → Desk → Desk
 lay_table lay place tables d = table_after lay place tables d d.pen.answer
 
 -- a record that says nothing
 unfoldable pub refuse : ℕ → Desk → Answer → Desk
-refuse place d Accepted = desk (stop d.pen UnknownWord place) d.moduli d.file
-refuse place d (Refused reason at) = d
+refuse place d (Ok done) = desk (stop d.pen UnknownWord place) d.moduli d.file
+refuse place d (Err why) = d
+
+-- fields that are not set
+abbrev pub unset : List ℕ → Bool
+unset fields = list_all (λ field. eqb field 0) fields
+
+-- what is said by a first item and the rest
+abbrev pub saying : Item → Rest → Option Said
+saying first rest = Some (record { first = first; rest = rest })
 
 -- what a record says, as the code has it: its first item, and the rest. The items that a record has alone are those of inputs, free gates and products,
 -- and outputs, which name their parties by a byte.
-pub data Means (moduli tables : List ℕ) : Speaks → Speech → Type 0 where
-  silent : Means moduli tables Nothing nothing
-  input : {owner modulus : ℕ} → Means moduli tables (Says (Item.Input owner modulus) Alone) (items (Item.Input owner modulus ∷ []) tables)
-  add : {a b : ℕ} → Means moduli tables (Says (Item.Add a b) Alone) (items (Item.Add a b ∷ []) tables)
-  scale : {constant a : ℕ} → Means moduli tables (Says (Item.Scale constant a) Alone) (items (Item.Scale constant a ∷ []) tables)
-  multiply : {a b : ℕ} → Means moduli tables (Says (Item.Multiply a b) Alone) (items (Item.Multiply a b ∷ []) tables)
+pub data Means (moduli tables : List ℕ) : Option Said → Speech → Type 0 where
+  silent : Means moduli tables None nothing
+  input : {owner modulus : ℕ} → Means moduli tables (saying (Item.Input owner modulus) Alone) (items (Item.Input owner modulus ∷ []) tables)
+  add : {a b : ℕ} → Means moduli tables (saying (Item.Add a b) Alone) (items (Item.Add a b ∷ []) tables)
+  scale : {constant a : ℕ} → Means moduli tables (saying (Item.Scale constant a) Alone) (items (Item.Scale constant a ∷ []) tables)
+  multiply : {a b : ℕ} → Means moduli tables (saying (Item.Multiply a b) Alone) (items (Item.Multiply a b ∷ []) tables)
   output :
-      {named a : ℕ} → named < 256 → Means moduli tables (Says (Item.Output named a) Alone) (items (Item.Output named a ∷ []) tables)
+      {named a : ℕ} → named < 256 → Means moduli tables (saying (Item.Output named a) Alone) (items (Item.Output named a ∷ []) tables)
   table :
       {modulus a : ℕ}
-      → Means moduli tables (Says (Project modulus a) Table)
+      → Means moduli tables (saying (Project modulus a) Table)
       (items (Project modulus a ∷ map Entry (take (get_or moduli a 0) tables)) (drop (get_or moduli a 0) tables))
   choice :
-      {bit a b : ℕ} → Means moduli tables (Says (Select bit) (Rest.Branches a b)) (items (Select bit ∷ Item.Branches a b ∷ []) tables)
+      {bit a b : ℕ} → Means moduli tables (saying (Select bit) (Rest.Branches a b)) (items (Select bit ∷ Item.Branches a b ∷ []) tables)
 
 -- .. and what it does
 unfoldable pub rest_on : Bool → List ℕ → ℕ → Rest → Desk → Desk
@@ -149,6 +157,6 @@ rest_on lay tables place Alone d = d
 rest_on lay tables place Table d = lay_table lay place tables d
 rest_on lay tables place (Rest.Branches a b) d = lay_item lay place (Item.Branches a b) d
 
-unfoldable pub spoken_on : Bool → List ℕ → ℕ → Speaks → Desk → Desk
-spoken_on lay tables place Nothing d = refuse place d d.pen.answer
-spoken_on lay tables place (Says first rest) d = rest_on lay tables place rest (lay_item lay place first d)
+unfoldable pub spoken_on : Bool → List ℕ → ℕ → Option Said → Desk → Desk
+spoken_on lay tables place None d = refuse place d d.pen.answer
+spoken_on lay tables place (Some said) d = rest_on lay tables place said.rest (lay_item lay place said.first d)

@@ -8,5 +8,4 @@ pub mod Desk
 pub mod Walked
 pub mod Settling
 pub mod Closing
-pub mod Fill
 pub mod Listing

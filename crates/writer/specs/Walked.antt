@@ -1,7 +1,6 @@
 -- What the code holds of a draft, and how far it has come along the records, in the code's terms.
 -- Assumes nothing.
 use Rattle.std.specs.Prelude.{◌≡◌, Bool, true, false, cond, List, ◌++◌, ℕ, ◌+◌, ◌*◌, ◌≤◌, ◌<◌, length, get_or, take, drop}
-use Rattle.checks.specs.declared.Answer.TheVariants.{Accepted, Refused}
 use Rattle.checks.specs.declared.Refusal.{Refusal}
 use Rattle.words.specs.declared.gate.Due.{Due}
 use Rattle.words.specs.declared.gate.Due.TheVariants.{Inputs, Gates, Outputs, Entries, Branches}
@@ -12,10 +11,12 @@ use Rattle.words.specs.declared.item.Item.TheVariants.{Head}
 use Rattle.words.specs.Encode.{word_of, file_of}
 use Rattle.writer.specs.declared.entry.Record.{Record}
 use Rattle.writer.specs.declared.pen.Pen.{Pen}
-use Rattle.writer.specs.declared.speech.Speaks.{Speaks}
+use Rattle.writer.specs.declared.speech.Said.{Said}
+use Rattle.std.specs.Prelude.{Option}
 use Rattle.writer.specs.Says.{speech_of}
 use Rattle.writer.specs.Written.{Draft, refused, write_from, write_records}
 use Rattle.writer.specs.Desk.{Desk, desk, pen_of, put_word, Means, spoken_on}
+use Rattle.checks.specs.Answer.{accepts, refuses}
 
 -- what is read past the last record
 abbrev pub no_record : Record
@@ -44,7 +45,7 @@ pub record Begun (lay : Bool) (before : List ℕ) (pen : Pen) (after : List ℕ)
 
 -- one record: what it says is done, at the index that is the number of wires and outputs before it
 pub record Stepped (lay : Bool) (tables : List ℕ) (entry : Record) (pen : Pen) (moduli file : List ℕ) (pen' : Pen) (moduli' file' : List ℕ) : Type 0 where
-  pub speaks : Speaks
+  pub speaks : Option Said
   pub means : (ms ts : List ℕ) → Means ms ts speaks (speech_of ms ts entry)
   pub done : desk pen' moduli' file' ≡ spoken_on lay tables (pen.made + pen.given) speaks (desk pen moduli file)
 
@@ -56,7 +57,7 @@ pub record Sound (d : Draft) : Type 0 where
 
 -- the desk holds a draft: its moduli, numbers and words; the file is as it was, or, in the pass that lays, holds the words at its front, if they have room
 pub record Holds (lay : Bool) (before : List ℕ) (k : Desk) (d : Draft) : Type 0 where
-  pub answer : k.pen.answer ≡ Accepted
+  pub answer : k.pen.answer ≡ accepts
   pub steady : Steady k.pen k.moduli
   pub sound : Sound d
   pub moduli : take k.pen.made k.moduli ≡ d.moduli
@@ -86,7 +87,7 @@ pub data Walked (lay : Bool) (tables before : List ℕ) (records : List Record) 
       → Walked lay tables before records i pen moduli file
   stops :
       {pen : Pen} {moduli file : List ℕ} {reason : Refusal} {place : ℕ}
-      → pen.answer ≡ Refused reason place
+      → pen.answer ≡ refuses reason place
       → refused reason place ≡ write_records records tables
       → Ready pen moduli
       → (lay ≡ false → file ≡ before)

@@ -8,33 +8,16 @@ ghost use Rattle.writer.specs.Listed.{tables_of};
 ghost use Rattle.writer.specs.Listing.{entries_by, entries_in, table_in, Inside, Fills};
 
 use circuit::Circuit;
-use counts::moduli;
-use lists::{byte_index, number_index, wire_index};
+use counts::{moduli, modulus_of};
 use words::Gate;
-
-// The modulus of a wire, from those of all wires; 0 past the last.
-fn modulus_of(moduli: &[u8], a: u16) -> usize
-    ensures { Counts 255 (get_or moduli.now a 0) result }
-{
-    let at = wire_index(a);
-    if at < moduli.len() {
-        byte_index(moduli[at])
-    } else {
-        0
-    }
-}
 
 // How many entries a gate's table has: a projection's one for each value of the projected wire, the others' none.
 fn entry_count(gate: Gate, moduli: &[u8]) -> usize
     ensures { Counts 255 (entries_by gate (λ a. get_or moduli.now a 0)) result }
 {
     match gate {
-        Gate::Input(_) => 0,
-        Gate::Add(_) => 0,
-        Gate::Scale(_) => 0,
-        Gate::Multiply(_) => 0,
-        Gate::Project(g) => modulus_of(moduli, g.a),
-        Gate::Select(_) => 0,
+        Gate::Project(g) => usize::from(modulus_of(moduli, g.a)),
+        _ => 0,
     }
 }
 
@@ -44,14 +27,9 @@ pub fn entries_in(circuit: Circuit) -> usize
     ensures { Counts 261120 (entries_in (wires_in circuit)) result }
 {
     let table = moduli(circuit);
-    let made = circuit.made;
     let mut total = 0;
-    let mut w = 0;
-    while w < made {
-        let wire = circuit.wires[w];
-        let gate = wire.gate;
-        total += entry_count(gate, &table);
-        w += 1;
+    for wire in &circuit.wires[..circuit.made] {
+        total += entry_count(wire.gate, &table);
     }
     total
 }
@@ -61,12 +39,8 @@ fn copy_images(file: &[u8], first: usize, table: &mut [u8])
     requires { 4 * (first + length table.old) ≤ length file.now }
     ensures { table.new ≡ tab (length table.old) (λ v. image (word_at file.now (first + v))) }
 {
-    let n = table.len();
-    let mut v = 0;
-    while v < n {
-        let at = 4 * (first + v);
-        table[v] = file[at];
-        v += 1;
+    for (v, image) in table.iter_mut().enumerate() {
+        *image = file[4 * (first + v)];
     }
 }
 
@@ -75,13 +49,8 @@ fn put_table(gate: Gate, file: &[u8], table: &mut [u8])
     requires { Inside file.now gate (length table.old) }
     ensures { table.new ≡ table_in file.now gate table.old }
 {
-    match gate {
-        Gate::Input(_) => {}
-        Gate::Add(_) => {}
-        Gate::Scale(_) => {}
-        Gate::Multiply(_) => {}
-        Gate::Project(g) => copy_images(file, number_index(g.table), table),
-        Gate::Select(_) => {}
+    if let Gate::Project(g) = gate {
+        copy_images(file, g.table as usize, table);
     }
 }
 
@@ -91,15 +60,10 @@ pub fn put_tables(circuit: Circuit, file: &[u8], tables: &mut [u8])
     ensures { tables.new ≡ tables_of file.now (wires_in circuit) }
 {
     let table = moduli(circuit);
-    let made = circuit.made;
     let mut at = 0;
-    let mut w = 0;
-    while w < made {
-        let wire = circuit.wires[w];
-        let gate = wire.gate;
-        let to = at + entry_count(gate, &table);
-        put_table(gate, file, &mut tables[at..to]);
+    for wire in &circuit.wires[..circuit.made] {
+        let to = at + entry_count(wire.gate, &table);
+        put_table(wire.gate, file, &mut tables[at..to]);
         at = to;
-        w += 1;
     }
 }

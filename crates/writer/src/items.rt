@@ -60,7 +60,7 @@ fn item_on(item: Item, place: usize, moduli: &mut [u8], file: &mut [u8], pen: Pe
     let due = pen.due;
     let at = pen.at as u32;
     let w = encode(item);
-    let step = judge(moduli, pen.made, pen.given, at, due, item);
+    let step = judge(&moduli[..pen.made], pen.given, at, due, item);
     went(step, w, place, moduli, file, pen, lay)
 }
 
@@ -78,8 +78,8 @@ pub fn lay_item(
 {
     let answer = pen.answer;
     match answer {
-        Answer::Accepted => item_on(item, place, moduli, file, pen, lay),
-        Answer::Refused(_, _) => pen,
+        Ok(()) => item_on(item, place, moduli, file, pen, lay),
+        Err(_) => pen,
     }
 }
 
@@ -99,7 +99,7 @@ fn branches_on(
 {
     let due = pen.due;
     let w = encode(Item::Branches(a, b));
-    let step = branches_item(moduli, pen.made, due, a, b);
+    let step = branches_item(&moduli[..pen.made], due, a, b);
     went(step, w, place, moduli, file, pen, lay)
 }
 
@@ -119,7 +119,7 @@ pub fn lay_branches(
 {
     let answer = pen.answer;
     match answer {
-        Answer::Accepted => branches_on(a, b, place, moduli, file, pen, lay),
-        Answer::Refused(_, _) => pen,
+        Ok(()) => branches_on(a, b, place, moduli, file, pen, lay),
+        Err(_) => pen,
     }
 }

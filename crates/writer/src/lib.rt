@@ -1,12 +1,11 @@
 // The circuit file written from an editor's records, and taken back to them. A record says items, as a word does, and they are judged by the reader's
 // own rules (`words`). The records are walked twice: judged, with nothing touched, and then laid down. specs/Written.antt says what writing comes to.
-// Rests on `words`, `circuit` and `session`; functions over slices of records are thin: they lend and call.
+// Rests on `words`, `circuit` and `session`.
 
 #![tactic(auto)]
 
 mod entry;
 mod fields;
-mod fill;
 mod images;
 mod items;
 mod laying;
@@ -17,12 +16,9 @@ mod speech;
 mod steps;
 mod table;
 mod walk;
+mod writing;
 
 pub use entry::Record;
-pub use fields::no_fields;
-pub use fill::put_records;
 pub use laying::{put_entries, put_word};
-pub use listing::{Listed, list};
-pub use pen::{Pen, no_moduli};
-pub use settling::{Settled, lay_end, settle};
-pub use walk::over;
+pub use listing::list;
+pub use writing::write;

@@ -2,64 +2,39 @@
 ghost use Rattle.std.specs.Prelude.{◌≡◌, ◌<◌, ltb};
 ghost use Rattle.words.specs.Encode.{word_of};
 ghost use Rattle.writer.specs.Desk.{put_word};
-ghost use Rattle.writer.specs.Settling.{Fair, unsettled, some_given_by, Settles};
+ghost use Rattle.writer.specs.Settling.{Fair, some_given_by, Settles};
 
 use super::laying::lay_word;
 use super::pen::Pen;
-use checks::{Answer, Refusal};
+use checks::{Refusal, Refused};
 use words::{Item, encode};
 
-// The answer, how many words the file has (0 where it is refused), and whether they are laid down.
-#[derive(Clone, Copy)]
-pub struct Settled {
-    pub answer: Answer,
-    pub words: u32,
-    pub lay: bool,
-}
-
-fn unsettled(answer: Answer) -> Settled
-    ensures { result ≡ unsettled answer }
-{
-    Settled {
-        answer,
-        words: 0,
-        lay: false,
-    }
-}
-
-// After the last record: 9, entries left over, and 22 last.
-fn settled_at(judged: Pen, tables: usize, file: usize) -> Settled
+// After the last record: 9, entries left over, and 22 last; else how many words the file has.
+fn settled_at(judged: Pen, tables: usize, file: usize) -> Result<u32, Refused>
     requires { Fair judged }
     ensures { result ≡ some_given_by judged tables file (ltb 0 judged.given) }
 {
     let place = judged.made + judged.given;
     if judged.given == 0 {
-        return unsettled(Answer::Refused(Refusal::NoOutput, place));
+        return Err(Refusal::NoOutput.at(place));
     }
     if judged.taken < tables {
-        return unsettled(Answer::Refused(Refusal::WrongLength, place));
+        return Err(Refusal::WrongLength.at(place));
     }
     let words = judged.at + 1;
     if file < 4 * words {
-        return unsettled(Answer::Refused(Refusal::TooShort, 0));
+        return Err(Refusal::TooShort.at(0));
     }
-    Settled {
-        answer: Answer::Accepted,
-        words: words as u32,
-        lay: true,
-    }
+    Ok(words as u32)
 }
 
 // What the records that were judged come to, with tables and a file of these lengths.
-pub fn settle(judged: Pen, tables: usize, file: usize) -> Settled
+pub fn settle(judged: Pen, tables: usize, file: usize) -> Result<u32, Refused>
     requires { Fair judged }
     ensures { Settles judged tables file result }
 {
-    let answer = judged.answer;
-    match answer {
-        Answer::Accepted => settled_at(judged, tables, file),
-        Answer::Refused(reason, place) => unsettled(Answer::Refused(reason, place)),
-    }
+    judged.answer?;
+    settled_at(judged, tables, file)
 }
 
 // The end word, behind the words of all records.

@@ -7,7 +7,7 @@ use super::entry::Record;
 use super::items::{lay_branches, lay_item};
 use super::laying::lay_word;
 use super::pen::{Pen, pen_of, stop};
-use super::speech::{Rest, Speaks, speak};
+use super::speech::{Rest, Said, speak};
 use super::table::lay_table;
 use checks::{Answer, Refusal};
 use words::{Due, Item, encode};
@@ -26,8 +26,8 @@ fn refuse(pen: Pen, place: usize) -> Pen
 {
     let answer = pen.answer;
     match answer {
-        Answer::Accepted => stop(pen, Refusal::UnknownWord, place),
-        Answer::Refused(_, _) => pen,
+        Ok(()) => stop(pen, Refusal::UnknownWord, place),
+        Err(_) => pen,
     }
 }
 
@@ -53,7 +53,7 @@ fn rest_on(
 
 // What a record says is laid down, its first item and the rest.
 fn spoken_on(
-    speaks: Speaks,
+    said: Option<Said>,
     place: usize,
     tables: &[u8],
     moduli: &mut [u8],
@@ -62,11 +62,11 @@ fn spoken_on(
     lay: bool,
 ) -> Pen
     requires { Ready pen moduli.old }
-    ensures { desk result moduli.new file.new ≡ spoken_on lay tables.now place speaks (desk pen moduli.old file.old) }
+    ensures { desk result moduli.new file.new ≡ spoken_on lay tables.now place said (desk pen moduli.old file.old) }
 {
-    match speaks {
-        Speaks::Nothing => refuse(pen, place),
-        Speaks::Says(first, rest) => {
+    match said {
+        None => refuse(pen, place),
+        Some(Said { first, rest }) => {
             let begun = lay_item(first, place, moduli, file, pen, lay);
             rest_on(rest, place, tables, moduli, file, begun, lay)
         }

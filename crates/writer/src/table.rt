@@ -12,12 +12,9 @@ use words::Due;
 fn all_below(images: &[u8], modulus: u8) -> bool
     ensures { result ≡ all_below modulus images.now }
 {
-    let n = images.len();
     let mut good = true;
-    let mut i = 0;
-    while i < n {
-        good = good & (images[i] < modulus);
-        i += 1;
+    for image in images {
+        good &= *image < modulus;
     }
     good
 }
@@ -38,7 +35,7 @@ fn table_due(
     let taken = pen.taken;
     let at = pen.at;
     let n = tables.len();
-    let wanted = left as usize;
+    let wanted = usize::from(left);
     // never more entries are taken than there are
     if n < taken {
         return stop(pen, Refusal::WrongLength, place);
@@ -64,15 +61,11 @@ pub fn lay_table(tables: &[u8], place: usize, file: &mut [u8], pen: Pen, lay: bo
     ensures { (moduli : List ℕ) → desk result moduli file.new ≡ lay_table lay place tables.now (desk pen moduli file.old) }
 {
     let answer = pen.answer;
-    if let Answer::Refused(_, _) = answer {
+    if let Err(_) = answer {
         return pen;
     }
-    let due = pen.due;
-    match due {
-        Due::Inputs => pen,
-        Due::Gates => pen,
-        Due::Outputs => pen,
+    match pen.due {
         Due::Entries(left, modulus) => table_due(tables, place, file, pen, lay, left, modulus),
-        Due::Branches(_) => pen,
+        _ => pen,
     }
 }

@@ -1,4 +1,4 @@
-// All records, one after another: this does no more than lend and call.
+// All records, one after another.
 ghost use Rattle.std.specs.Prelude.{◌≡◌, length};
 ghost use Rattle.writer.specs.Walked.{Walked};
 
@@ -12,10 +12,8 @@ pub fn over(records: &[Record], tables: &[u8], moduli: &mut [u8], file: &mut [u8
     ensures { Walked lay tables.now file.old records.now (length records.now) result moduli.new file.new }
 {
     let mut pen = begin(file, lay);
-    let mut i = 0;
-    while i < records.len() {
-        pen = step(records[i], tables, moduli, file, pen, lay);
-        i += 1;
+    for entry in records {
+        pen = step(*entry, tables, moduli, file, pen, lay);
     }
     pen
 }

@@ -1,16 +1,17 @@
 -- The loops that make the zero keys and the masks of all wires: what a turn may read, and what it makes.
 -- Assumes nothing.
 use mathlib.Core.List.{List, ◌++◌}
-use mathlib.Core.Path.{◌≡◌, refl, sym, ap, ap₂, subst, ◌∙◌}
-use Prim.Native.Nat.{ℕ, ◌+◌, ◌-◌, ◌*◌, ◌%◌, ◌≤◌, ◌<◌}
-use native.Mathlib.Nat.{add-zero, le_trans, mod-lt}
+use mathlib.Core.Logic.{◌⊎◌, inl, inr}
+use mathlib.Core.Path.{◌≡◌, refl, sym, ap, ap₂, ◌∙◌}
+use Prim.Native.Nat.{ℕ, ◌+◌, ◌-◌, ◌*◌, ◌≤◌, ◌<◌}
+use native.Mathlib.Nat.{add-zero, le_trans}
 use native.Mathlib.Omega.{arith}
 use lib.ListN.{length, get_or, take, drop, set, replicate, length-replicate, replicate-append-replicate, get_or-append}
 use lib.Seq.{get_or-take, length-take-le, drop_at}
 use Rattle.lists.proofs.Filled.{Filled, filled_start, filled_step, filled_done}
 use Rattle.lists.proofs.Steps.{Level, level_start, level_read, level_whole, level_place, steps_put, steps_fits}
 use Rattle.lists.proofs.Sums.{times-fits}
-use Rattle.lists.specs.Blocks.{blocks, part, nth_piece, written}
+use Rattle.lists.specs.Blocks.{blocks, part, nth_piece}
 use Rattle.residue.specs.Residue.{add}
 use Rattle.residue.specs.Vector.{add_v, mul_v}
 use Rattle.words.specs.declared.gate.Choice.{Choice as Chosen}
@@ -24,7 +25,8 @@ use Rattle.circuit.specs.Held.{wires_in}
 use Rattle.counts.proofs.Wires.{wire-at}
 use Rattle.counts.specs.Counts.{record_keys_by, record_keys_of}
 use Rattle.counts.specs.declared.recipe.Recipe.{Recipe}
-use Rattle.counts.specs.declared.recipe.Recipe.TheVariants.{Sum, Multiple, Choice}
+use Rattle.counts.specs.declared.recipe.Recipe.TheVariants.{Entered, Sum, Multiple, Table, Product, Choice}
+use Rattle.counts.specs.declared.recipe.Lookup.{Lookup}
 use Rattle.counts.specs.Recipe.{recipe}
 use Rattle.counts.proofs.Recipes.{RecipeFits, recipe-fits}
 use Rattle.counts.proofs.Recipes.RecipeFits.{entered, sum, multiple, table, product, choice}
@@ -35,24 +37,9 @@ use Rattle.scheme.specs.Draw.{Draw, drawn}
 use Rattle.scheme.specs.Zero.{zero_key_by, mask_by, masks_to, zero_key, mask}
 use Rattle.zero.specs.Ready.{Contributed, drawn_in, ZeroKeys, Masks}
 use Rattle.zero.specs.Turn.{keys_at, mask_at, key_here, mask_here, Stands, KeysReady, KeysAsked, MaskReady, MaskAsked, Put}
-use Rattle.contribution.proofs.Cursor.{within, records-here, key_here_lem, share_here}
+use Rattle.contribution.proofs.Sizes.{times-most}
+use Rattle.contribution.proofs.Cursor.{within, cursor_next, cursor_fits, shares_fit, key_here_lem, share_here}
 use Rattle.zero.proofs.Made.{above_0, zero_key_size, mask_below, mask-of, masks-made}
-
--- where the recipe is known, so is what it reads
-pub keys_known : {n K size at p : ℕ} {how how' : Recipe} {contributions keys : List ℕ} → how ≡ how'
-    → KeysAsked n K size at p how contributions keys → KeysAsked n K size at p how' contributions keys
-keys_known {n} {K} {size} {at} {p} {how} {how'} {contributions} {keys} e asked = subst (λ (x : Recipe). KeysAsked n K size at p x contributions keys) e asked
-
-pub mask_known : {n size at p : ℕ} {how how' : Recipe} {contributions masks : List ℕ} → how ≡ how'
-    → MaskAsked n size at p how contributions masks → MaskAsked n size at p how' contributions masks
-mask_known {n} {size} {at} {p} {how} {how'} {contributions} {masks} e asked = subst (λ (x : Recipe). MaskAsked n size at p x contributions masks) e asked
-
--- the length of a vector, under another name
-pub stands_as : {m m' a : ℕ} {keys : List ℕ} → m' ≡ m → Stands m keys a → Stands m' keys a
-stands_as {m} {m'} {a} {keys} e s = subst (λ (l : ℕ). Stands l keys a) (sym e) s
-
-pub residue_below : {share : ℕ} (x : ℕ) {p : ℕ} → share ≡ x % p → 0 < p → share < p
-residue_below {share} x {p} e h = rw e (mod-lt x h)
 
 zeros_left : (made total : ℕ) → made ≤ total → drop {A = ℕ} made (replicate total 0) ≡ replicate (total - made) 0
 zeros_left made total h =
@@ -69,6 +56,22 @@ key-made drawn p zero e h = h ∙ ap (zero_key_by drawn p zero) e
 
 pub mask-made : (drawn p : ℕ) (low : ℕ → ℕ) {how how' : Recipe} {y : ℕ} → how ≡ how' → y ≡ mask_by drawn p low how → y ≡ mask_by drawn p low how'
 mask-made drawn p low e h = h ∙ ap (mask_by drawn p low) e
+
+-- a wire whose record's first key and share are what was drawn for it
+abbrev pub FirstDrawn : Recipe → Type 0
+FirstDrawn how = (how ≡ Entered) ⊎ ((x : Lookup) × (how ≡ Table x)) ⊎ ((x : Pair) × (how ≡ Product x))
+
+pub key-drawn : (drawn : List ℕ) (p : ℕ) (zero : ℕ → List ℕ) {how how' : Recipe} {ys : List ℕ} → FirstDrawn how → how ≡ how' → ys ≡ drawn → ys ≡ zero_key_by drawn p zero how'
+unfolding zero_key_by
+key-drawn drawn p zero (inl e) f h = key-made drawn p zero (sym e ∙ f) h
+key-drawn drawn p zero (inr (inl (x, e))) f h = key-made drawn p zero (sym e ∙ f) h
+key-drawn drawn p zero (inr (inr (x, e))) f h = key-made drawn p zero (sym e ∙ f) h
+
+pub mask-drawn : (drawn p : ℕ) (low : ℕ → ℕ) {how how' : Recipe} {y : ℕ} → FirstDrawn how → how ≡ how' → y ≡ drawn → y ≡ mask_by drawn p low how'
+unfolding mask_by
+mask-drawn drawn p low (inl e) f h = mask-made drawn p low (sym e ∙ f) h
+mask-drawn drawn p low (inr (inl (x, e))) f h = mask-made drawn p low (sym e ∙ f) h
+mask-drawn drawn p low (inr (inr (x, e))) f h = mask-made drawn p low (sym e ∙ f) h
 
 -- .. where lower wires are read: their keys are cut by a length that has another name
 module _ (drawn : List ℕ) (p : ℕ) (keys : List ℕ) {m m' : ℕ} (long : m ≡ m') {how : Recipe} {ys : List ℕ} where
@@ -88,16 +91,33 @@ pub choice_mask_made : (drawn p : ℕ) (low : ℕ → ℕ) {how : Recipe} {g : C
 unfolding mask_by
 choice_mask_made drawn p low {how} {g} {y} {share} e h k = mask-made drawn p low e (h ∙ ap (λ (s : ℕ). add p s (low g.a)) k)
 
--- what was made, and then put in its place
-pub put_made : {n K to : ℕ} {ys key keys keys' : List ℕ} → length ys ≡ n * K → ys ≡ key → keys' ≡ written keys to ys → Put n K to key keys keys'
-put_made {n} {K} {to} {ys} {key} {keys} {keys'} l e w = record { long = ap length (sym e) ∙ l; eq = w ∙ ap (written keys to) e }
-
 module _ {file : List ℕ} {circuit : Circuit} {n K size : ℕ} {contributions : List ℕ} (r : Contributed file circuit n K size contributions) where
   abbrev wires : List Wire
   wires = wires_in circuit
 
   abbrev draw : Draw
   draw = drawn_in circuit n K contributions
+
+  -- one contribution is no longer than all of them
+  size-most : size ≤ length contributions
+  size-most = omega (arith, r.all, times-most 1 size n size r.sizes.some (omega arith))
+
+  -- what the code knows of a wire that it has is known of the one that is looked up
+  as_looked : {w : ℕ} → w < circuit.made → {x : ℕ} (f : Wire → ℕ) → x ≡ f (wire_at wires w) → x ≡ f (wire_at circuit.wires w)
+  as_looked {w} h f e = e ∙ ap f (wire-at circuit.wires circuit.made w h)
+
+  same_recipe : {w : ℕ} → w < circuit.made → {how : Recipe} → recipe (wire_at wires w) ≡ how → recipe (wire_at circuit.wires w) ≡ how
+  same_recipe {w} h is = ap recipe (sym (wire-at circuit.wires circuit.made w h)) ∙ is
+
+  module _ {w at : ℕ} (h : w < circuit.made) (here : at ≡ record_at K wires w) {step : ℕ} where
+    pub next-record : step ≡ (K + 1) * record_keys_by (recipe (wire_at wires w)) → at + step ≡ record_at K wires (w + 1)
+    next-record e = cursor_next r.held K h here (as_looked h (λ (wire : Wire). (K + 1) * record_keys_by (recipe wire)) e)
+
+    pub record-fits : step ≡ (K + 1) * record_keys_by (recipe (wire_at wires w)) → at + step ≤ length contributions
+    record-fits e = omega (arith, cursor_fits r.held K h here r.each (as_looked h (λ (wire : Wire). (K + 1) * record_keys_by (recipe wire)) e), size-most)
+
+    pub shares-fit : step ≡ K * record_keys_by (recipe (wire_at wires w)) → at + step ≤ length contributions
+    shares-fit e = omega (arith, shares_fit r.held K h here r.each (as_looked h (λ (wire : Wire). K * record_keys_by (recipe wire)) e), size-most)
 
   -- what stands at the cursor is what was drawn
   drawn_key : (w : ℕ) {at : ℕ} → at ≡ record_at K wires w → keys_at n K size contributions at ≡ draw.key w 0
@@ -124,10 +144,10 @@ module _ {file : List ℕ} {circuit : Circuit} {n K size : ℕ} {contributions :
     stands : {a : ℕ} → a < w → Stands (n * K) keys a
     stands {a} l = record { inside = le_trans (times-fits a w (n * K) l) (omega (arith, level_place done, steps_fits done h)) }
 
-    first_key : {how : Recipe} → recipe (wire_at circuit.wires w) ≡ how → 0 < record_keys_by how → at + K ≤ size
-    first_key is l = omega (arith, key_here_lem r.held K h here r.each 0 (rw is l))
+    first_key : {how : Recipe} → recipe (wire_at wires w) ≡ how → 0 < record_keys_by how → at + K ≤ size
+    first_key is l = omega (arith, key_here_lem r.held K h here r.each 0 (rw (same_recipe h is) l))
 
-    keys-by : {how : Recipe} → RecipeFits file wires w how → recipe (wire_at circuit.wires w) ≡ how → KeysReady (n * K) K size at keys how
+    keys-by : {how : Recipe} → RecipeFits file wires w how → recipe (wire_at wires w) ≡ how → KeysReady (n * K) K size at keys how
     keys-by (entered fits) is = first_key is (omega arith)
     keys-by (sum fits) is = (stands fits.a.lower, stands fits.b.lower)
     keys-by (multiple fits) is = stands fits.a.lower
@@ -135,22 +155,15 @@ module _ {file : List ℕ} {circuit : Circuit} {n K size : ℕ} {contributions :
     keys-by (product fits) is = first_key is (omega arith)
     keys-by (choice fits) is = (first_key is (omega arith), stands fits.a.lower)
 
-    pub keys_asked : KeysAsked n K size at (modulus_at circuit.wires w) (recipe (wire_at circuit.wires w)) contributions keys
-    keys_asked =
-        let same : wire_at wires w ≡ wire_at circuit.wires w = wire-at circuit.wires circuit.made w h in
-        record {
-          all = r.all;
-          positive = subst (λ (wire : Wire). 0 < wire.modulus) same (above_0 r w h);
-          ready = keys-by (subst (λ (wire : Wire). RecipeFits file wires w (recipe wire)) same (recipe-fits r.accepted w (within r.held h))) refl;
-        }
+    pub keys_asked : KeysAsked n K size at (modulus_at wires w) (recipe (wire_at wires w)) contributions keys
+    keys_asked = record { all = r.all; positive = above_0 r w h; ready = keys-by (recipe-fits r.accepted w (within r.held h)) refl }
 
     pub keys_step : {m : ℕ} {keys' : List ℕ} → m ≡ n * K
-        → Put n K to (key_here n K size at contributions keys (wire_at circuit.wires w)) keys keys'
+        → Put n K to (key_here n K size at contributions keys (wire_at wires w)) keys keys'
         → Level keys₀ 0 (w + 1) circuit.made (n * K) (zero_key wires draw) (to + m) keys'
     keys_step {m} {keys'} e put =
         steps_put done h (omega arith) put.long put.eq
-        (ap (key_here n K size at contributions keys) (sym (wire-at circuit.wires circuit.made w h))
-        ∙ ap (λ (k : List ℕ). zero_key_by k (modulus_at wires w) (λ a. nth_piece keys (n * K) a) (recipe (wire_at wires w))) (drawn_key w here)
+        (ap (λ (k : List ℕ). zero_key_by k (modulus_at wires w) (λ a. nth_piece keys (n * K) a) (recipe (wire_at wires w))) (drawn_key w here)
         ∙ zero_key_same (draw.key w 0) (modulus_at wires w) _ (zero_key wires draw) (recipe-fits r.accepted w (within r.held h)) lower_key
         ∙ sym (zero_key-step r.accepted w (within r.held h) draw))
 
@@ -165,7 +178,7 @@ module _ {file : List ℕ} {circuit : Circuit} {n K size : ℕ} {contributions :
   pub masks_start : {masks : List ℕ} → masks ≡ replicate 1024 0 → Filled masks 0 circuit.made target masks
   masks_start e = filled_start (masks-made r) (omega (arith, r.held.room.made, masks-long e))
 
-  module _ {masks₀ masks : List ℕ} {w at shares : ℕ} (h : w < circuit.made) (here : at ≡ record_at K wires w) (behind : shares ≡ K * record_keys_by (recipe (wire_at circuit.wires w)))
+  module _ {masks₀ masks : List ℕ} {w at shares : ℕ} (h : w < circuit.made) (here : at ≡ record_at K wires w) (behind : shares ≡ K * record_keys_by (recipe (wire_at wires w)))
       (done : Filled masks₀ w circuit.made target masks) where
     lower_mask : (a : ℕ) → a < w → get_or masks a 0 ≡ mask wires draw a
     lower_mask a l =
@@ -182,10 +195,10 @@ module _ {file : List ℕ} {circuit : Circuit} {n K size : ℕ} {contributions :
           below = rw (lower_mask a fits.lower, ← fits.same) (mask_below r a (omega (arith, fits.lower)));
         }
 
-    first_share : {how : Recipe} → recipe (wire_at circuit.wires w) ≡ how → 0 < record_keys_by how → at + shares < size
-    first_share is l = omega (arith, share_here r.held K h here r.each 0 (rw is l) behind)
+    first_share : {how : Recipe} → recipe (wire_at wires w) ≡ how → 0 < record_keys_by how → at + shares < size
+    first_share is l = omega (arith, share_here r.held K h here r.each 0 (rw (same_recipe h is) l) (as_looked h (λ (wire : Wire). K * record_keys_by (recipe wire)) behind))
 
-    mask-by : {how : Recipe} → RecipeFits file wires w how → recipe (wire_at circuit.wires w) ≡ how → MaskReady (modulus_at wires w) size (at + shares) masks how
+    mask-by : {how : Recipe} → RecipeFits file wires w how → recipe (wire_at wires w) ≡ how → MaskReady (modulus_at wires w) size (at + shares) masks how
     mask-by (entered fits) is = first_share is (omega arith)
     mask-by (sum fits) is = record { a = mask_alike fits.a; b = mask_alike fits.b }
     mask-by (multiple fits) is = mask_alike fits.a
@@ -193,28 +206,24 @@ module _ {file : List ℕ} {circuit : Circuit} {n K size : ℕ} {contributions :
     mask-by (product fits) is = first_share is (omega arith)
     mask-by (choice fits) is = (first_share is (omega arith), mask_alike fits.a)
 
-    pub mask_asked : MaskAsked n size (at + shares) (modulus_at circuit.wires w) (recipe (wire_at circuit.wires w)) contributions masks
+    pub mask_asked : MaskAsked n size (at + shares) (modulus_at wires w) (recipe (wire_at wires w)) contributions masks
     mask_asked =
-        let same : wire_at wires w ≡ wire_at circuit.wires w = wire-at circuit.wires circuit.made w h in
-        let asked : MaskAsked n size (at + shares) (modulus_at wires w) (recipe (wire_at circuit.wires w)) contributions masks =
         record {
           all = r.all;
           parties = r.sizes.parties;
           positive = above_0 r w h;
-          ready = mask-by (subst (λ (wire : Wire). RecipeFits file wires w (recipe wire)) same (recipe-fits r.accepted w (within r.held h))) refl;
-        } in
-        subst (λ (wire : Wire). MaskAsked n size (at + shares) wire.modulus (recipe (wire_at circuit.wires w)) contributions masks) same asked
+          ready = mask-by (recipe-fits r.accepted w (within r.held h)) refl;
+        }
 
     pub masks-step : {v : ℕ}
-        → v ≡ mask_here n size (at + shares) contributions masks (wire_at circuit.wires w)
+        → v ≡ mask_here n size (at + shares) contributions masks (wire_at wires w)
         → Filled masks₀ (w + 1) circuit.made target (set masks w v)
     masks-step {v} e =
-        let place : at + shares ≡ record_at K wires w + K * record_keys_of wires w = ap₂ ◌+◌ here (behind ∙ ap (λ (m : ℕ). K * m) (records-here r.held h)) in
+        let place : at + shares ≡ record_at K wires w + K * record_keys_of wires w = ap₂ ◌+◌ here behind in
         filled_step done h
         (mask-of r w
         ∙ mask_step r.accepted w (within r.held h) draw
         ∙ sym (e
-        ∙ ap (mask_here n size (at + shares) contributions masks) (sym (wire-at circuit.wires circuit.made w h))
         ∙ ap (λ (m : ℕ). mask_by m (modulus_at wires w) (λ a. get_or masks a 0) (recipe (wire_at wires w))) (drawn_mask w place)
         ∙ mask_same (draw.mask w 0) (modulus_at wires w) _ (mask wires draw) (recipe-fits r.accepted w (within r.held h)) lower_mask))
 

@@ -9,5 +9,5 @@ mod shares;
 mod zero;
 
 pub use masks::wire_masks;
-pub use shares::{gather, share_sum};
+pub use shares::Drawn;
 pub use zero::zero_keys;

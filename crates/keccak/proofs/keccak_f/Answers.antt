@@ -1,5 +1,5 @@
 -- `keccak::keccak_f` meets its contract. The loop's invariant: after i turns the state has gone through the rounds 0 to i − 1.
--- The measure is what is left of the 24 rounds. Assumes nothing.
+-- Assumes nothing.
 use mathlib.Core.Path.{◌≡◌, refl, ap, ap₂, ◌∙◌}
 use mathlib.Core.List.{List}
 use Prim.Native.Nat.{ℕ, ◌+◌, ◌<◌}
@@ -15,17 +15,13 @@ next : (i : ℕ) (a₀ a b : List ℕ) → i < 24 → a ≡ rounds i a₀ → b 
 unfolding rounds
 next i a₀ a b h e f = rw add-one (f ∙ ap₂ round (constant-at i h) e)
 
-pub loop-i-init : goal.loop-i-init
+pub loop-rc-init : goal.loop-rc-init
 unfolding rounds
-loop-i-init c = (omega arith, refl)
+loop-rc-init c = refl
 
-pub loop-i-preserved : goal.loop-i-preserved
-loop-i-preserved c = (
-  omega arith,
-  next c.loop-i.i c.args.state c.loop-i.a c.round-b.result
-      (omega arith) c.loop-i.invariant.1 c.round-b.ensures,
-)
+pub loop-rc-preserved : goal.loop-rc-preserved
+loop-rc-preserved c = next c.loop-rc.rc-index c.args.state c.loop-rc.a c.round-b.result c.loop-rc-test.true c.loop-rc.invariant c.round-b.ensures
 
 pub returns : goal.returns
 unfolding keccak_f
-returns c = c.loop-i.invariant.1 ∙ ap (λ (i : ℕ). rounds i c.args.state) (omega arith)
+returns c = c.loop-rc.invariant ∙ ap (λ (i : ℕ). rounds i c.args.state) (omega arith)

@@ -8,4 +8,4 @@ use Rattle.shake.proofs.finished.Goals as goal
 
 pub returns : goal.returns
 unfolding closed
-returns c = c.keccak_f.ensures ∙ ap keccak_f (padded_lanes c.args.sponge.lanes c.args.sponge.at _ refl)
+returns c = c.keccak_f.ensures ∙ ap keccak_f (padded_lanes c.sponge.inside.lanes c.sponge.inside.at _ refl) ∙ ap closed c.sponge.view_is

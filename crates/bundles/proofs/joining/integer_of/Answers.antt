@@ -1,35 +1,31 @@
--- `bundles::joining::integer_of` meets its contract: prime by prime, from 0 up.
--- Assumes nothing.
-use mathlib.Core.Path.{◌≡◌, ◌∙◌}
-use Prim.Native.Nat.{◌+◌, ◌-◌, ◌≤◌}
+-- `bundles::joining::integer_of`. Assumes nothing.
+use mathlib.Core.Path.{◌∙◌}
+use Prim.Native.Nat.{◌+◌}
 use native.Mathlib.Omega.{arith}
 use lib.ListN.{length}
-use Rattle.bundles.specs.Primes.{product}
-use Rattle.bundles.specs.Climb.{Climbed}
 use Rattle.bundles.proofs.JoinedLaws.{product_none, product-step, product-most, below_at, climbed_none, climbed_more, climbed_done}
 use Rattle.bundles.proofs.joining.integer_of.Goals as goal
 
 pub loop-i-init : goal.loop-i-init
-loop-i-init c = (omega arith, product_none, climbed_none c.args.residues.now)
+loop-i-init c = (product_none, climbed_none c.args.residues.now)
 
-pub climb-y-requires : goal.climb-y-requires
-climb-y-requires c = (
+pub climb-x-requires : goal.climb-x-requires
+climb-x-requires c = (
   omega arith,
-  c.loop-i.invariant.1,
-  omega (arith, c.loop-i.invariant.1, c.loop-i.invariant.2.below),
-  below_at c.args.residues.now (length c.args.residues.now) c.requires.1 c.loop-i.i (omega (arith, c.loop-i-test.true)),
+  c.loop-i.invariant.0,
+  omega (arith, c.loop-i.invariant.0, c.loop-i.invariant.1.below),
+  below_at c.args.residues.now (length c.args.residues.now) c.requires.1 c.loop-i.i (omega arith),
 )
 
 pub overflow_mul-m : goal.overflow_mul-m
 overflow_mul-m c = let i = c.loop-i.i in
-    omega (arith, product-step i c.loop-i.invariant.1 (c.byte_wide-m.ensures.0 ∙ c.prime.ensures), product-most (i + 1) (omega arith))
+    omega (arith, product-step i c.loop-i.invariant.0 (c.from-m.ensures ∙ c.prime.ensures), product-most (i + 1) (omega arith))
 
 pub loop-i-preserved : goal.loop-i-preserved
 loop-i-preserved c = (
-  omega arith,
-  product-step c.loop-i.i c.loop-i.invariant.1 (c.byte_wide-m.ensures.0 ∙ c.prime.ensures),
-  climbed_more c.args.residues.now c.loop-i.invariant.2 c.climb-y.ensures,
+  product-step c.loop-i.i c.loop-i.invariant.0 (c.from-m.ensures ∙ c.prime.ensures),
+  climbed_more c.args.residues.now c.loop-i.invariant.1 c.climb-x.ensures,
 )
 
 pub returns : goal.returns
-returns c = climbed_done c.args.residues.now (omega arith) (omega arith) (omega arith) c.loop-i.invariant.2
+returns c = climbed_done c.args.residues.now (omega arith) (omega arith) (omega arith) c.loop-i.invariant.1

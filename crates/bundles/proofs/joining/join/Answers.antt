@@ -1,16 +1,15 @@
--- `bundles::joining::join` meets its contract: accepted, the integer; refused, 0.
--- Assumes nothing.
+-- `bundles::joining::join`: accepted, the integer; refused, none. Assumes nothing.
 use mathlib.Core.Path.{sym, ◌∙◌}
-use borrow.Author.Rules.{rules}
+use Rattle.checks.proofs.Answers.{passed_on}
 use Rattle.bundles.proofs.Verdicts.{join_passed, join_asks, joins_accepted, joins_refused}
 use Rattle.bundles.proofs.joining.join.Goals as goal
 
 pub integer_of-requires : goal.integer_of-requires
 integer_of-requires c = let a = c.args in
-    join_asks (join_passed a.r a.residues.now (sym c.join_checked-answer.ensures ∙ c.in-Accepted.is))
+    join_asks (join_passed a.r a.residues.now (sym c.join_checked.ensures ∙ c.in_ok-join_checked.was))
 
-pub returns-in-Accepted : goal.returns-in-Accepted
-returns-in-Accepted c = joins_accepted c.join_checked-answer.ensures c.in-Accepted.is c.integer_of.ensures
+pub returns-in_err-join_checked : goal.returns-in_err-join_checked
+returns-in_err-join_checked c = joins_refused c.join_checked.ensures c.in_err-join_checked.was (passed_on c.from_residual.ensures.1)
 
-pub returns-in-Refused : goal.returns-in-Refused
-returns-in-Refused c = joins_refused c.join_checked-answer.ensures c.in-Refused.is
+pub returns : goal.returns
+returns c = joins_accepted c.join_checked.ensures c.in_ok-join_checked.was c.integer_of.ensures

@@ -1,26 +1,33 @@
--- `bundles::joining::join_checked` meets its contract: one law for each way.
--- Assumes nothing.
+-- `bundles::joining::join_checked`: check by check. Assumes nothing.
+use mathlib.Core.Path.{ap, ◌∙◌}
+use Prim.Native.Nat.{ℕ}
 use native.Mathlib.Omega.{arith}
-use borrow.Author.Tests.{not-true, not-false}
-use Rattle.bundles.proofs.Verdicts.{range_true, join_range, join-size, join_large, join-small}
+use Rattle.checks.specs.declared.Refusal.TheVariants.{IntegerTooLarge}
+use Rattle.bundles.specs.Integers.{all_below}
+use Rattle.checks.proofs.Answers.{passed_on, stage_passed, stage_refused}
+use Rattle.bundles.specs.Call.{join_checked}
+use Rattle.bundles.proofs.Verdicts.{range_ten, size_same, test_is}
 use Rattle.bundles.proofs.joining.join_checked.Goals as goal
 
-pub returns-then-not-in_range : goal.returns-then-not-in_range
-returns-then-not-in_range c = let a = c.args in join_range a.r c.in_range.ensures a.residues.now (not-true c.in_range.result c.if-not-in_range.true-raw)
+pub returns-in_err-range_checked : goal.returns-in_err-range_checked
+unfolding join_checked
+returns-in_err-range_checked c = passed_on c.from_residual.ensures.1 ∙ stage_refused c.range_checked.ensures _ c.in_err-range_checked.was
 
-pub returns-then-residues-wanted : goal.returns-then-residues-wanted
-returns-then-residues-wanted c = let a = c.args in
-    join-size a.r c.in_range.ensures a.residues.now (not-false c.in_range.result c.if-not-in_range.false-raw) c.number_index-wanted.ensures c.if-residues-wanted.true
+pub returns-in_err-size_checked : goal.returns-in_err-size_checked
+unfolding join_checked
+returns-in_err-size_checked c =
+    stage_passed c.range_checked.ensures c.in_ok-range_checked.was
+    (passed_on c.from_residual-in_err-size_checked.ensures.1 ∙ stage_refused c.size_checked.ensures _ c.in_err-size_checked.was)
 
 pub all_below-requires : goal.all_below-requires
-all_below-requires c = omega (arith, range_true c.args.r c.in_range.ensures (not-false c.in_range.result c.if-not-in_range.false-raw), c.number_index-wanted.ensures, c.if-residues-wanted.false)
-
-pub returns-then-not-all_below : goal.returns-then-not-all_below
-returns-then-not-all_below c = let a = c.args in
-    join_large a.r c.in_range.ensures a.residues.now (not-false c.in_range.result c.if-not-in_range.false-raw) c.number_index-wanted.ensures c.if-residues-wanted.false c.all_below.ensures
-    (not-true c.all_below.result c.if-not-all_below.true-raw)
+all_below-requires c =
+    omega
+    (arith, range_ten c.range_checked.ensures c.in_ok-range_checked.was, size_same c.size_checked.ensures c.in_ok-size_checked.was)
 
 pub returns : goal.returns
+unfolding join_checked
 returns c = let a = c.args in
-    join-small a.r c.in_range.ensures a.residues.now (not-false c.in_range.result c.if-not-in_range.false-raw) c.number_index-wanted.ensures c.if-residues-wanted.false c.all_below.ensures
-    (not-false c.all_below.result c.if-not-all_below.false-raw)
+    let same = size_same c.size_checked.ensures c.in_ok-size_checked.was in
+    stage_passed c.range_checked.ensures c.in_ok-range_checked.was
+    (stage_passed c.size_checked.ensures c.in_ok-size_checked.was
+    (test_is IntegerTooLarge c.unless.ensures (c.all_below.ensures ∙ ap (λ (n : ℕ). all_below n a.residues.now) same)))

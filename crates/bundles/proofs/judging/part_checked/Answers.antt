@@ -1,26 +1,28 @@
--- `bundles::judging::part_checked` meets its contract: one law for each way.
--- Assumes nothing.
-use borrow.Author.Rules.{rules}
-use native.Mathlib.Omega.{arith}
-use borrow.Author.Tests.{not-true, not-false}
-use Rattle.bundles.proofs.Verdicts.{range_true, part_range, part-constant, part-rest}
+-- `bundles::judging::part_checked`: check by check. Assumes nothing.
+use mathlib.Core.Path.{◌∙◌}
+use Rattle.checks.proofs.Answers.{passed_on, stage_passed, stage_refused}
+use Rattle.bundles.specs.Call.{part_checked}
+use Rattle.bundles.proofs.Verdicts.{range_ten}
 use Rattle.bundles.proofs.judging.part_checked.Goals as goal
 
-pub returns-then-not-in_range : goal.returns-then-not-in_range
-returns-then-not-in_range c = let a = c.args in part_range a.r c.in_range.ensures a.operation a.first a.a a.size (not-true c.in_range.result c.if-not-in_range.true-raw)
+pub returns-in_err-range_checked : goal.returns-in_err-range_checked
+unfolding part_checked
+returns-in_err-range_checked c = passed_on c.from_residual.ensures.1 ∙ stage_refused c.range_checked.ensures _ c.in_err-range_checked.was
 
-pub constant_checked-constant-requires : goal.constant_checked-constant-requires
-constant_checked-constant-requires c = omega (arith, c.number_index-count.ensures, range_true c.args.r c.in_range.ensures (not-false c.in_range.result c.if-not-in_range.false-raw))
+pub constant_checked-requires : goal.constant_checked-requires
+constant_checked-requires c = range_ten c.range_checked.ensures c.in_ok-range_checked.was
 
 pub place_checked-requires : goal.place_checked-requires
-place_checked-requires c = range_true c.args.r c.in_range.ensures (not-false c.in_range.result c.if-not-in_range.false-raw)
+place_checked-requires c = range_ten c.range_checked.ensures c.in_ok-range_checked.was
 
-pub returns-in-Accepted : goal.returns-in-Accepted
-returns-in-Accepted c = let a = c.args in
-    part-rest a.r c.in_range.ensures a.operation a.first a.a a.size (not-false c.in_range.result c.if-not-in_range.false-raw) c.number_index-count.ensures c.constant_checked-constant.ensures
-    c.in-Accepted.is c.place_checked.ensures
+pub returns-in_err-constant_checked : goal.returns-in_err-constant_checked
+unfolding part_checked
+returns-in_err-constant_checked c =
+    stage_passed c.range_checked.ensures c.in_ok-range_checked.was
+    (passed_on c.from_residual-in_err-constant_checked.ensures.1 ∙ stage_refused c.constant_checked.ensures _ c.in_err-constant_checked.was)
 
-pub returns-in-Refused : goal.returns-in-Refused
-returns-in-Refused c = let a = c.args in
-    part-constant a.r c.in_range.ensures a.operation a.first a.a a.size (not-false c.in_range.result c.if-not-in_range.false-raw) c.number_index-count.ensures c.constant_checked-constant.ensures
-    c.in-Refused.is
+pub returns : goal.returns
+unfolding part_checked
+returns c =
+    stage_passed c.range_checked.ensures c.in_ok-range_checked.was
+    (stage_passed c.constant_checked.ensures c.in_ok-constant_checked.was c.place_checked.ensures)

@@ -1,30 +1,24 @@
--- `bundles::judging::place_checked` meets its contract: one law for each way.
--- Assumes nothing.
-use native.Mathlib.Omega.{arith}
-use borrow.Author.Tests.{not-true, not-false}
-use Rattle.bundles.proofs.Verdicts.{place-below, place_many, place_short, place_passed}
+-- `bundles::judging::place_checked`: test by test. Assumes nothing.
+use mathlib.Core.Path.{ap, ◌∙◌}
+use Prim.Native.Nat.{ℕ, ◌*◌}
+use lib.Dec.{leb}
+use Rattle.checks.specs.declared.Refusal.TheVariants.{NotMade, TooMany, TooShort}
+use Rattle.checks.proofs.Answers.{passed_on, stage_passed, stage_refused}
+use Rattle.bundles.proofs.Verdicts.{test_is}
 use Rattle.bundles.proofs.judging.place_checked.Goals as goal
 
-pub returns-then-not-are_below : goal.returns-then-not-are_below
-returns-then-not-are_below c = let a = c.args in place-below a.operation a.r a.first a.a a.size c.are_below.ensures (not-true c.are_below.result c.if-not-are_below.true-raw)
+pub returns-in_err-unless : goal.returns-in_err-unless
+returns-in_err-unless c =
+    passed_on c.from_residual.ensures.1 ∙ stage_refused (test_is NotMade c.unless.ensures c.are_below.ensures) _ c.in_err-unless.was
 
-pub returns-then-not-is_below : goal.returns-then-not-is_below
-returns-then-not-is_below c = let a = c.args in
-    place_many a.operation a.r a.first a.a a.size c.are_below.ensures (not-false c.are_below.result c.if-not-are_below.false-raw) c.is_below.ensures
-    (not-true c.is_below.result c.if-not-is_below.true-raw)
-
-pub word_count-bytes-requires : goal.word_count-bytes-requires
-word_count-bytes-requires c = omega (arith, c.number_index-count.ensures, c.requires)
-
-pub overflow_mul-bytes : goal.overflow_mul-bytes
-overflow_mul-bytes c = omega (arith, c.word_count-bytes.ensures.1)
-
-pub returns-then-size-bytes : goal.returns-then-size-bytes
-returns-then-size-bytes c = let a = c.args in
-    place_short a.operation a.r a.first a.a a.size c.are_below.ensures (not-false c.are_below.result c.if-not-are_below.false-raw) c.is_below.ensures
-    (not-false c.is_below.result c.if-not-is_below.false-raw) c.number_index-count.ensures c.word_count-bytes.ensures.0 (omega (arith, c.if-size-bytes.true))
+pub returns-in_err-unless-2 : goal.returns-in_err-unless-2
+returns-in_err-unless-2 c =
+    stage_passed (test_is NotMade c.unless.ensures c.are_below.ensures) c.in_ok-unless.was
+    (passed_on c.from_residual-in_err-unless-2.ensures.1
+    ∙ stage_refused (test_is TooMany c.unless-2.ensures c.is_below.ensures) _ c.in_err-unless-2.was)
 
 pub returns : goal.returns
 returns c = let a = c.args in
-    place_passed a.operation a.r a.first a.a a.size c.are_below.ensures (not-false c.are_below.result c.if-not-are_below.false-raw) c.is_below.ensures
-    (not-false c.is_below.result c.if-not-is_below.false-raw) c.number_index-count.ensures c.word_count-bytes.ensures.0 (omega (arith, c.if-size-bytes.false))
+    stage_passed (test_is NotMade c.unless.ensures c.are_below.ensures) c.in_ok-unless.was
+    (stage_passed (test_is TooMany c.unless-2.ensures c.is_below.ensures) c.in_ok-unless-2.was
+    (test_is TooShort c.unless-3.ensures (ap (λ (n : ℕ). leb (4 * n) a.size) (c.word_count.ensures.0.count a.a))))

@@ -1,27 +1,20 @@
--- `bundles::part::write_part` meets its contract: accepted, the words at the front of the buffer; refused, the buffer as it was.
--- Assumes nothing.
+-- `bundles::part::write_part`: accepted, the words at the front of the buffer; refused, the buffer as it was. Assumes nothing.
 use lib.ListN.{length}
-use borrow.Author.Rules.{rules}
-use native.Mathlib.Omega.{arith}
-use Rattle.bundles.proofs.Verdicts.{part_passed, part_lays, makes_laid, makes_refused}
+use Rattle.checks.proofs.Answers.{passed_on}
+use Rattle.bundles.proofs.Verdicts.{part_passed, part_placed, makes_laid, makes_refused}
 use Rattle.bundles.proofs.part.write_part.Goals as goal
 
-pub lay_part-requires : goal.lay_part-requires
-lay_part-requires c = let a = c.args in
-    part_lays c.number_index-count.ensures
-    (part_passed a.operation a.r a.first a.a (length a.file.now) c.part_checked-answer.ensures c.in-Accepted.is)
+pub invariant_of-part : goal.invariant_of-part
+invariant_of-part c = let a = c.args in
+    let p = part_passed a.operation a.r a.first a.a (length a.file.now) c.part_checked.ensures c.in_ok-part_checked.was in
+    record { few = p.range.ten; placed = part_placed p }
 
-pub word_count-requires : goal.word_count-requires
-word_count-requires c = let a = c.args in
-    let passed =
-    part_passed a.operation a.r a.first a.a (length a.file.now) c.part_checked-answer.ensures c.in-Accepted.is in
-    omega (arith, c.number_index-count.ensures, passed.range.ten)
+pub lay-requires : goal.lay-requires
+lay-requires c = let a = c.args in
+    (part_passed a.operation a.r a.first a.a (length a.file.now) c.part_checked.ensures c.in_ok-part_checked.was).room
 
-pub index_number-words-requires : goal.index_number-words-requires
-index_number-words-requires c = omega (arith, c.word_count.ensures.1)
+pub returns-in_err-part_checked : goal.returns-in_err-part_checked
+returns-in_err-part_checked c = makes_refused c.part_checked.ensures c.in_err-part_checked.was (passed_on c.from_residual.ensures.1)
 
-pub returns-in-Accepted : goal.returns-in-Accepted
-returns-in-Accepted c = makes_laid c.part_checked-answer.ensures c.in-Accepted.is c.number_index-count.ensures c.word_count.ensures.0 c.index_number-words.ensures c.lay_part.ensures
-
-pub returns-in-Refused : goal.returns-in-Refused
-returns-in-Refused c = makes_refused c.part_checked-answer.ensures c.in-Refused.is
+pub returns : goal.returns
+returns c = makes_laid c.part_checked.ensures c.in_ok-part_checked.was c.word_count.ensures.0 c.lay.ensures

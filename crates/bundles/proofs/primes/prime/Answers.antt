@@ -1,6 +1,4 @@
--- `bundles::primes::prime` meets its contract: the table has it at its place.
--- Assumes nothing.
-use borrow.Author.Rules.{rules}
+-- `bundles::primes::prime`: the table has it at its place. Assumes nothing.
 use native.Mathlib.Omega.{arith}
 use Rattle.bundles.proofs.JoinedLaws.{prime-at}
 use Rattle.bundles.proofs.primes.prime.Goals as goal

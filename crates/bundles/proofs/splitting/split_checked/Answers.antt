@@ -1,20 +1,25 @@
--- `bundles::splitting::split_checked` meets its contract: one law for each way.
--- Assumes nothing.
-use native.Mathlib.Omega.{arith}
-use borrow.Author.Tests.{not-true, not-false}
-use Rattle.bundles.proofs.Verdicts.{range_true, split_range, split-size, split_rest}
+-- `bundles::splitting::split_checked`: check by check. Assumes nothing.
+use mathlib.Core.Path.{◌∙◌}
+use Rattle.checks.proofs.Answers.{passed_on, stage_passed, stage_refused}
+use Rattle.bundles.specs.Call.{split_checked}
+use Rattle.bundles.proofs.Verdicts.{range_ten}
 use Rattle.bundles.proofs.splitting.split_checked.Goals as goal
 
-pub returns-then-not-in_range : goal.returns-then-not-in_range
-returns-then-not-in_range c = let a = c.args in split_range a.r c.in_range.ensures a.integer a.size (not-true c.in_range.result c.if-not-in_range.true-raw)
-
-pub returns-then-size-wanted : goal.returns-then-size-wanted
-returns-then-size-wanted c = let a = c.args in
-    split-size a.r c.in_range.ensures a.integer a.size (not-false c.in_range.result c.if-not-in_range.false-raw) c.number_index-wanted.ensures c.if-size-wanted.true
+pub returns-in_err-range_checked : goal.returns-in_err-range_checked
+unfolding split_checked
+returns-in_err-range_checked c = passed_on c.from_residual.ensures.1 ∙ stage_refused c.range_checked.ensures _ c.in_err-range_checked.was
 
 pub integer_checked-requires : goal.integer_checked-requires
-integer_checked-requires c = omega (arith, range_true c.args.r c.in_range.ensures (not-false c.in_range.result c.if-not-in_range.false-raw), c.number_index-wanted.ensures)
+integer_checked-requires c = range_ten c.range_checked.ensures c.in_ok-range_checked.was
+
+pub returns-in_err-size_checked : goal.returns-in_err-size_checked
+unfolding split_checked
+returns-in_err-size_checked c =
+    stage_passed c.range_checked.ensures c.in_ok-range_checked.was
+    (passed_on c.from_residual-in_err-size_checked.ensures.1 ∙ stage_refused c.size_checked.ensures _ c.in_err-size_checked.was)
 
 pub returns : goal.returns
-returns c = let a = c.args in
-    split_rest a.r c.in_range.ensures a.integer a.size (not-false c.in_range.result c.if-not-in_range.false-raw) c.number_index-wanted.ensures c.if-size-wanted.false c.integer_checked.ensures
+unfolding split_checked
+returns c =
+    stage_passed c.range_checked.ensures c.in_ok-range_checked.was
+    (stage_passed c.size_checked.ensures c.in_ok-size_checked.was c.integer_checked.ensures)

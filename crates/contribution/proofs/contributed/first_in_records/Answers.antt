@@ -1,49 +1,29 @@
--- `contribution::first_in_records` meets its contract: a loop over runs, one for each wire. Assumes nothing.
-use native.Mathlib.Omega.{arith}
-use mathlib.Core.Path.{refl, sym, ◌∙◌}
-use Prim.Native.Nat.{◌+◌}
-use lib.ListN.{length}
+-- `contribution::first_in_records` meets its contract: a run for each wire. Assumes nothing.
+use mathlib.Core.Path.{◌≡◌, sym, ◌∙◌, subst}
+use Prim.Native.Nat.{ℕ, ◌+◌, ◌*◌}
+use lib.ListN.{length, get_or}
+use Rattle.std.proofs.Common.{rules}
+use Rattle.lists.specs.Blocks.{runs, sum_to}
 use Rattle.lists.proofs.Sums.{sum_to_times}
 use Rattle.circuit.specs.Wires.{modulus_at}
 use Rattle.circuit.specs.Held.{wires_in}
 use Rattle.counts.specs.Counts.{record_keys_of}
-use Rattle.contribution.proofs.Sizes.{times-most}
-use Rattle.contribution.proofs.Wired.{made_are, modulus_is, records-are}
-use Rattle.contribution.proofs.Runs.{searched_start, searched-fits, searched-done, run_on, run_found}
+use Rattle.contribution.specs.Large.{first_large}
+use Rattle.contribution.proofs.Wired.{made_are, record_run}
 use Rattle.contribution.proofs.contributed.first_in_records.Goals as goal
 
-pub loop-w-init : goal.loop-w-init
-loop-w-init c = searched_start (sum_to_times (length (wires_in c.args.circuit)) (c.args.k + 1) (record_keys_of (wires_in c.args.circuit)) ∙ sym c.requires.bytes_len)
-
-pub offset_bounds-circuit-w : goal.offset_bounds-circuit-w
-offset_bounds-circuit-w c = omega (arith, c.requires.room.0.made)
-
-pub bounds-circuit-w : goal.bounds-circuit-w
-bounds-circuit-w c = omega (arith, c.requires.room.0.made)
-
-pub overflow_mul-size : goal.overflow_mul-size
-overflow_mul-size c = omega (arith, times-most (c.args.k + 1) c.number_index.result 129 3 (omega (arith, c.requires.room.1)) (omega (arith, c.number_index.ensures, c.record_count.ensures.most)))
-
-pub overflow_add-to : goal.overflow_add-to
-overflow_add-to c = omega (arith, searched-fits c.loop-w.invariant (omega (arith, c.loop-w-test.true, made_are c.args.circuit c.requires.room.0)), records-are c.args.circuit c.requires.room.0 c.loop-w-test.true c.record_count.ensures c.number_index.ensures c.args.k)
-
-pub slice_bounds-first_at_least-count : goal.slice_bounds-first_at_least-count
-slice_bounds-first_at_least-count c = omega (arith, searched-fits c.loop-w.invariant (omega (arith, c.loop-w-test.true, made_are c.args.circuit c.requires.room.0)), records-are c.args.circuit c.requires.room.0 c.loop-w-test.true c.record_count.ensures c.number_index.ensures c.args.k)
-
-pub slice_bounds-first_at_least-start : goal.slice_bounds-first_at_least-start
-slice_bounds-first_at_least-start c = omega (arith, searched-fits c.loop-w.invariant (omega (arith, c.loop-w-test.true, made_are c.args.circuit c.requires.room.0)), records-are c.args.circuit c.requires.room.0 c.loop-w-test.true c.record_count.ensures c.number_index.ensures c.args.k)
-
-pub slice_bounds-first_at_least-end : goal.slice_bounds-first_at_least-end
-slice_bounds-first_at_least-end c = omega (arith, searched-fits c.loop-w.invariant (omega (arith, c.loop-w-test.true, made_are c.args.circuit c.requires.room.0)), records-are c.args.circuit c.requires.room.0 c.loop-w-test.true c.record_count.ensures c.number_index.ensures c.args.k)
-
-pub overflow_add-result : goal.overflow_add-result
-overflow_add-result c = omega (arith, searched-fits c.loop-w.invariant (omega (arith, c.loop-w-test.true, made_are c.args.circuit c.requires.room.0)), records-are c.args.circuit c.requires.room.0 c.loop-w-test.true c.record_count.ensures c.number_index.ensures c.args.k)
-
-pub returns-then-found-size : goal.returns-then-found-size
-returns-then-found-size c = run_found (modulus_at (wires_in c.args.circuit)) c.loop-w.invariant (omega (arith, c.loop-w-test.true, made_are c.args.circuit c.requires.room.0)) (modulus_is c.args.circuit c.requires.room.0 c.loop-w-test.true) (records-are c.args.circuit c.requires.room.0 c.loop-w-test.true c.record_count.ensures c.number_index.ensures c.args.k) refl c.first_at_least-found.ensures c.if-found-size.true
-
-pub loop-w-preserved : goal.loop-w-preserved
-loop-w-preserved c = run_on (modulus_at (wires_in c.args.circuit)) c.loop-w.invariant (omega (arith, c.loop-w-test.true, made_are c.args.circuit c.requires.room.0)) (modulus_is c.args.circuit c.requires.room.0 c.loop-w-test.true) (records-are c.args.circuit c.requires.room.0 c.loop-w-test.true c.record_count.ensures c.number_index.ensures c.args.k) refl c.first_at_least-found.ensures c.if-found-size.false
+pub first_in_runs-requires-clause-runs_are : goal.first_in_runs-requires-clause-runs_are
+first_in_runs-requires-clause-runs_are c = (
+  λ w. (c.args.k + 1) * record_keys_of (wires_in c.args.circuit) w,
+  modulus_at (wires_in c.args.circuit),
+  record {
+    each = λ w run h p. record_run c.args.circuit c.requires.room.0 h run (search rules) c.args.k (search rules);
+    long = subst (λ (n : ℕ). sum_to n (λ w. (c.args.k + 1) * record_keys_of (wires_in c.args.circuit) w) ≡ length c.args.bytes.now) (made_are c.args.circuit c.requires.room.0) (sum_to_times (length (wires_in c.args.circuit)) (c.args.k + 1) (record_keys_of (wires_in c.args.circuit)) ∙ sym c.requires.bytes_len);
+  },
+)
 
 pub returns : goal.returns
-returns c = searched-done c.loop-w.invariant (omega (arith, c.loop-w-test.false, made_are c.args.circuit c.requires.room.0))
+returns c = subst (λ (n : ℕ). c.first_in_runs.result ≡ first_large c.args.bytes.now (λ i. get_or (runs n (λ w. (c.args.k + 1) * record_keys_of (wires_in c.args.circuit) w) (modulus_at (wires_in c.args.circuit))) i 0)) (sym (made_are c.args.circuit c.requires.room.0)) (c.first_in_runs.ensures (λ w. (c.args.k + 1) * record_keys_of (wires_in c.args.circuit) w) (modulus_at (wires_in c.args.circuit)) record {
+  each = λ w run h p. record_run c.args.circuit c.requires.room.0 h run (search rules) c.args.k (search rules);
+  long = subst (λ (n : ℕ). sum_to n (λ w. (c.args.k + 1) * record_keys_of (wires_in c.args.circuit) w) ≡ length c.args.bytes.now) (made_are c.args.circuit c.requires.room.0) (sum_to_times (length (wires_in c.args.circuit)) (c.args.k + 1) (record_keys_of (wires_in c.args.circuit)) ∙ sym c.requires.bytes_len);
+})

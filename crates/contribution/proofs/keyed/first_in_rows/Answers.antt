@@ -1,50 +1,28 @@
--- `contribution::first_in_rows` meets its contract: a loop over runs, one for each wire. Assumes nothing.
-use native.Mathlib.Omega.{arith}
-use mathlib.Core.Path.{refl, sym, ◌∙◌}
-use lib.ListN.{length}
+-- `contribution::first_in_rows` meets its contract: a run for each wire. Assumes nothing.
+use mathlib.Core.Path.{◌≡◌, sym, ◌∙◌, subst}
+use Prim.Native.Nat.{ℕ, ◌*◌}
+use lib.ListN.{length, get_or}
+use Rattle.std.proofs.Common.{rules}
+use Rattle.lists.specs.Blocks.{runs, sum_to}
 use Rattle.circuit.specs.Wires.{modulus_at}
 use Rattle.circuit.specs.Held.{wires_in}
 use Rattle.counts.specs.Counts.{rows_of}
-use Rattle.contribution.proofs.Sizes.{times-most}
-use Rattle.contribution.proofs.Wired.{sum_to_times_right, made_are, modulus_is, rows_are}
-use Rattle.contribution.proofs.Runs.{searched_start, searched-fits, searched-done, run_on, run_found}
+use Rattle.contribution.specs.Large.{first_large}
+use Rattle.contribution.proofs.Wired.{sum_to_times_right, made_are, rows_run}
 use Rattle.contribution.proofs.keyed.first_in_rows.Goals as goal
 
-pub moduli-table-requires : goal.moduli-table-requires
-moduli-table-requires c = c.requires.held.0.room
-
-pub loop-w-init : goal.loop-w-init
-loop-w-init c = searched_start (sum_to_times_right (length (wires_in c.args.circuit)) c.args.width (rows_of (wires_in c.args.circuit)) ∙ sym c.requires.rows_len)
-
-pub offset_bounds-circuit-w : goal.offset_bounds-circuit-w
-offset_bounds-circuit-w c = omega (arith, c.requires.held.0.room.made)
-
-pub bounds-circuit-w : goal.bounds-circuit-w
-bounds-circuit-w c = omega (arith, c.requires.held.0.room.made)
-
-pub overflow_mul-size : goal.overflow_mul-size
-overflow_mul-size c = omega (arith, times-most c.number_index.result c.args.width 512 1024 (omega (arith, c.number_index.ensures, c.row_count.ensures.most)) c.requires.held.1)
-
-pub overflow_add-to : goal.overflow_add-to
-overflow_add-to c = omega (arith, searched-fits c.loop-w.invariant (omega (arith, c.loop-w-test.true, made_are c.args.circuit c.requires.held.0.room)), rows_are c.args.circuit c.requires.held.0.room c.loop-w-test.true c.moduli-table.ensures c.row_count.ensures c.number_index.ensures c.args.width)
-
-pub slice_bounds-first_at_least-count : goal.slice_bounds-first_at_least-count
-slice_bounds-first_at_least-count c = omega (arith, searched-fits c.loop-w.invariant (omega (arith, c.loop-w-test.true, made_are c.args.circuit c.requires.held.0.room)), rows_are c.args.circuit c.requires.held.0.room c.loop-w-test.true c.moduli-table.ensures c.row_count.ensures c.number_index.ensures c.args.width)
-
-pub slice_bounds-first_at_least-start : goal.slice_bounds-first_at_least-start
-slice_bounds-first_at_least-start c = omega (arith, searched-fits c.loop-w.invariant (omega (arith, c.loop-w-test.true, made_are c.args.circuit c.requires.held.0.room)), rows_are c.args.circuit c.requires.held.0.room c.loop-w-test.true c.moduli-table.ensures c.row_count.ensures c.number_index.ensures c.args.width)
-
-pub slice_bounds-first_at_least-end : goal.slice_bounds-first_at_least-end
-slice_bounds-first_at_least-end c = omega (arith, searched-fits c.loop-w.invariant (omega (arith, c.loop-w-test.true, made_are c.args.circuit c.requires.held.0.room)), rows_are c.args.circuit c.requires.held.0.room c.loop-w-test.true c.moduli-table.ensures c.row_count.ensures c.number_index.ensures c.args.width)
-
-pub overflow_add-result : goal.overflow_add-result
-overflow_add-result c = omega (arith, searched-fits c.loop-w.invariant (omega (arith, c.loop-w-test.true, made_are c.args.circuit c.requires.held.0.room)), rows_are c.args.circuit c.requires.held.0.room c.loop-w-test.true c.moduli-table.ensures c.row_count.ensures c.number_index.ensures c.args.width)
-
-pub returns-then-found-size : goal.returns-then-found-size
-returns-then-found-size c = run_found (modulus_at (wires_in c.args.circuit)) c.loop-w.invariant (omega (arith, c.loop-w-test.true, made_are c.args.circuit c.requires.held.0.room)) (modulus_is c.args.circuit c.requires.held.0.room c.loop-w-test.true) (rows_are c.args.circuit c.requires.held.0.room c.loop-w-test.true c.moduli-table.ensures c.row_count.ensures c.number_index.ensures c.args.width) refl c.first_at_least-found.ensures c.if-found-size.true
-
-pub loop-w-preserved : goal.loop-w-preserved
-loop-w-preserved c = run_on (modulus_at (wires_in c.args.circuit)) c.loop-w.invariant (omega (arith, c.loop-w-test.true, made_are c.args.circuit c.requires.held.0.room)) (modulus_is c.args.circuit c.requires.held.0.room c.loop-w-test.true) (rows_are c.args.circuit c.requires.held.0.room c.loop-w-test.true c.moduli-table.ensures c.row_count.ensures c.number_index.ensures c.args.width) refl c.first_at_least-found.ensures c.if-found-size.false
+pub first_in_runs-requires-clause-runs_are : goal.first_in_runs-requires-clause-runs_are
+first_in_runs-requires-clause-runs_are c = (
+  λ w. rows_of (wires_in c.args.circuit) w * c.args.width,
+  modulus_at (wires_in c.args.circuit),
+  record {
+    each = λ w run h p. rows_run c.args.circuit c.requires.held.0.room h run (search rules) c.moduli-table.ensures c.args.width (search rules);
+    long = subst (λ (n : ℕ). sum_to n (λ w. rows_of (wires_in c.args.circuit) w * c.args.width) ≡ length c.args.rows.now) (made_are c.args.circuit c.requires.held.0.room) (sum_to_times_right (length (wires_in c.args.circuit)) c.args.width (rows_of (wires_in c.args.circuit)) ∙ sym c.requires.rows_len);
+  },
+)
 
 pub returns : goal.returns
-returns c = searched-done c.loop-w.invariant (omega (arith, c.loop-w-test.false, made_are c.args.circuit c.requires.held.0.room))
+returns c = subst (λ (n : ℕ). c.first_in_runs.result ≡ first_large c.args.rows.now (λ i. get_or (runs n (λ w. rows_of (wires_in c.args.circuit) w * c.args.width) (modulus_at (wires_in c.args.circuit))) i 0)) (sym (made_are c.args.circuit c.requires.held.0.room)) (c.first_in_runs.ensures (λ w. rows_of (wires_in c.args.circuit) w * c.args.width) (modulus_at (wires_in c.args.circuit)) record {
+  each = λ w run h p. rows_run c.args.circuit c.requires.held.0.room h run (search rules) c.moduli-table.ensures c.args.width (search rules);
+  long = subst (λ (n : ℕ). sum_to n (λ w. rows_of (wires_in c.args.circuit) w * c.args.width) ≡ length c.args.rows.now) (made_are c.args.circuit c.requires.held.0.room) (sum_to_times_right (length (wires_in c.args.circuit)) c.args.width (rows_of (wires_in c.args.circuit)) ∙ sym c.requires.rows_len);
+})

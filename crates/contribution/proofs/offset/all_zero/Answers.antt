@@ -1,15 +1,11 @@
--- `contribution::all_zero` meets its contract: a loop up to the first byte that is not zero. Assumes nothing.
-use Rattle.contribution.proofs.Offsets.{zero_start, zero-step, zero-all, zero-not}
+-- `contribution::all_zero` meets its contract: the library's test of each. Assumes nothing.
+use mathlib.Core.Path.{◌∙◌}
+use lib.Dec.{eqb}
+use Rattle.std.proofs.Common.{rules, tests}
+use Rattle.std.proofs.lemmas.Iterator.{YieldsList-from_slice}
+use Rattle.std.proofs.lemmas.Iterator.Search.{all_from_yields_List}
+use Rattle.contribution.proofs.Offsets.{zeros_all}
 use Rattle.contribution.proofs.offset.all_zero.Goals as goal
 
-pub loop-i-init : goal.loop-i-init
-loop-i-init c = zero_start
-
-pub returns-then-bytes-i-ne0 : goal.returns-then-bytes-i-ne0
-returns-then-bytes-i-ne0 c = zero-not c.args.bytes.now c.loop-i.i c.loop-i-test.true c.if-bytes-i-ne0.true
-
-pub loop-i-preserved : goal.loop-i-preserved
-loop-i-preserved c = zero-step c.loop-i.invariant c.loop-i-test.true c.if-bytes-i-ne0.false
-
 pub returns : goal.returns
-returns c = zero-all c.loop-i.invariant c.loop-i-test.false
+returns c = all_from_yields_List (λ x. eqb x 0) _ _ c.all.result c.all.ensures.ran (YieldsList-from_slice c.args.bytes.now (cc)) (λ x b q k. search (rules, tests)) ∙ zeros_all c.args.bytes.now

@@ -1,16 +1,15 @@
 -- `counts::inputs_of` meets its contract: a loop that adds up the marks of the inputs that the party owns. Assumes nothing.
-use mathlib.Core.Path.{refl, sym, ap}
-use Rattle.counts.specs.Counts.{mark, owned_by}
-use Rattle.words.specs.declared.gate.Wire.{Wire}
-use Rattle.counts.proofs.Wires.{wire-at}
-use Rattle.counts.proofs.Counting.{summed_start, summed-step, summed-done}
+use mathlib.Core.Path.{refl}
+use native.Mathlib.Omega.{arith}
+use Rattle.counts.proofs.Counting.{summed_start, summed-step, summed_all}
+use Rattle.counts.proofs.Wires.{few-wires}
 use Rattle.counts.proofs.count.inputs_of.Goals as goal
 
-pub loop-w-init : goal.loop-w-init
-loop-w-init c = summed_start
+pub loop-wire-init : goal.loop-wire-init
+loop-wire-init c = summed_start
 
-pub loop-w-preserved : goal.loop-w-preserved
-loop-w-preserved c = summed-step c.loop-w.invariant c.loop-w-test.true c.owned-total.ensures (ap (λ (wire : Wire). mark (owned_by c.args.party wire.gate)) (sym (wire-at c.args.circuit.wires c.args.circuit.made c.loop-w.w c.loop-w-test.true)))
+pub loop-wire-preserved : goal.loop-wire-preserved
+loop-wire-preserved c = summed-step c.loop-wire.invariant c.loop-wire-test.true c.owned-total.ensures refl
 
 pub returns : goal.returns
-returns c = summed-done 1024 c.requires c.loop-w.invariant c.loop-w-test.false refl
+returns c = summed_all 1024 c.loop-wire.invariant c.loop-wire-test.false (omega (arith, few-wires c.requires))

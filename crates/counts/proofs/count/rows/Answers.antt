@@ -1,17 +1,16 @@
 -- `counts::rows` meets its contract: a loop that adds up the rows of the wires. Assumes nothing.
-use mathlib.Core.Path.{refl}
 use Prim.Native.Nat.{◌-◌}
-use Rattle.counts.proofs.Counting.{summed_start, summed-step, summed-done, rows_at}
+use native.Mathlib.Omega.{arith}
+use Rattle.circuit.specs.Held.{wires_in}
+use Rattle.counts.proofs.Counting.{summed_start, summed-step, summed_all, rows_are}
+use Rattle.counts.proofs.Wires.{few-wires}
 use Rattle.counts.proofs.count.rows.Goals as goal
 
-pub moduli-table-requires : goal.moduli-table-requires
-moduli-table-requires c = c.requires
+pub loop-wire-init : goal.loop-wire-init
+loop-wire-init c = summed_start
 
-pub loop-w-init : goal.loop-w-init
-loop-w-init c = summed_start
-
-pub loop-w-preserved : goal.loop-w-preserved
-loop-w-preserved c = summed-step c.loop-w.invariant c.loop-w-test.true c.row_count-total.ensures (rows_at c.args.circuit.wires c.args.circuit.made c.loop-w.w (1024 - c.args.circuit.made) c.moduli-table.result c.loop-w-test.true c.moduli-table.ensures)
+pub loop-wire-preserved : goal.loop-wire-preserved
+loop-wire-preserved c = summed-step c.loop-wire.invariant c.loop-wire-test.true c.row_count-total.ensures (rows_are (wires_in c.args.circuit) c.loop-wire.wire-index (1024 - c.args.circuit.made) c.moduli-table.ensures)
 
 pub returns : goal.returns
-returns c = summed-done 524288 c.requires c.loop-w.invariant c.loop-w-test.false refl
+returns c = summed_all 524288 c.loop-wire.invariant c.loop-wire-test.false (omega (arith, few-wires c.requires))

@@ -4,8 +4,5 @@ use Rattle.counts.specs.Moduli.{used}
 use Rattle.counts.proofs.Marked.{marks_summed}
 use Rattle.counts.proofs.modulus.moduli_used.Goals as goal
 
-pub marks-marks-requires : goal.marks-marks-requires
-marks-marks-requires c = c.requires
-
 pub returns : goal.returns
-returns c = marks_summed 256 (used (wires_in c.args.circuit)) c.marks-marks.ensures c.marks_set.ensures
+returns c = marks_summed 256 (used (wires_in c.args.circuit)) c.marks.ensures c.marks_set.ensures

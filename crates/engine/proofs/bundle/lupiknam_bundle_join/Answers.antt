@@ -1,9 +1,6 @@
 -- `lupiknam_bundle_join` meets its contract: accepted, the integer; refused, the number as it was. Assumes nothing.
-use Rattle.engine.proofs.Faces.{join-accepted, join-refused}
+use Rattle.engine.proofs.Faces.{reported, after_call}
 use Rattle.engine.proofs.bundle.lupiknam_bundle_join.Goals as goal
 
-pub returns-in-Accepted : goal.returns-in-Accepted
-returns-in-Accepted c = join-accepted c.join-found.ensures c.args.integer.now c.in-Accepted.is c.told.ensures
-
-pub returns-in-Refused : goal.returns-in-Refused
-returns-in-Refused c = join-refused c.join-found.ensures c.args.integer.now c.in-Refused.is c.told-in-Refused.ensures
+pub returns : goal.returns
+returns c = let k = c.join.ensures in record { answer = reported c.tell.ensures k.answer; integer_is = after_call c.tell.ensures _ k.answer k.integer }

@@ -1,6 +1,6 @@
 -- `lupiknam_bundle_multiply` meets its contract: what the part promises, told to C. Assumes nothing.
-use Rattle.engine.proofs.Faces.{part_called}
+use Rattle.engine.proofs.Faces.{reported, after_call}
 use Rattle.engine.proofs.bundle.lupiknam_bundle_multiply.Goals as goal
 
 pub returns : goal.returns
-returns c = part_called c.write_part-made.ensures c.tell_part.ensures
+returns c = let k = c.write_part-made.ensures in record { answer = reported c.tell.ensures k.answer; file_is = k.file_is; words_is = after_call c.tell.ensures _ k.answer k.words }

@@ -2,8 +2,8 @@
 use Rattle.engine.proofs.Faces.{read_accepted, read_refused}
 use Rattle.engine.proofs.read.lupiknam_read.Goals as goal
 
-pub returns-in-Accepted : goal.returns-in-Accepted
-returns-in-Accepted c = let a = c.args in read_accepted c.summary_of-found.ensures a.wires.now a.inputs.now a.outputs.now a.rows.now a.moduli.now a.record_keys.now c.in-Accepted.is c.told.ensures
+pub returns-in-Ok : goal.returns-in-Ok
+returns-in-Ok c = read_accepted _ _ _ _ _ _ _ c.in-Ok.ensures.ok c.into.ensures
 
-pub returns-in-Refused : goal.returns-in-Refused
-returns-in-Refused c = let a = c.args in read_refused c.summary_of-found.ensures a.wires.now a.inputs.now a.outputs.now a.rows.now a.moduli.now a.record_keys.now c.in-Refused.is c.told-in-Refused.ensures
+pub returns-in-Err : goal.returns-in-Err
+returns-in-Err c = read_refused _ _ _ _ _ _ _ c.in-Err.ensures.err c.into-in-Err.ensures

@@ -4,19 +4,16 @@ use Rattle.opening.proofs.Correctors.{small, first-inside, second-inside, within
 use Rattle.opening.proofs.gates.corrector_row.Goals as goal
 
 pub overflow_mul-width : goal.overflow_mul-width
-overflow_mul-width c = omega (arith, small {j = c.byte_index.result} (omega (arith, c.byte_index.ensures.0)) c.requires.1.1)
+overflow_mul-width c = omega (arith, small {j = c.from.result} (omega (arith, c.from.ensures)) c.requires.1.1)
 
 pub piece-first-requires : goal.piece-first-requires
-piece-first-requires c = first-inside _ _ c.requires.0 c.byte_index.ensures.0
+piece-first-requires c = first-inside _ _ c.requires.0 c.from.ensures
 
 pub piece-second-requires : goal.piece-second-requires
-piece-second-requires c = second-inside _ _ c.requires.0 c.byte_index.ensures.0
-
-pub overflow_mul-byte_index : goal.overflow_mul-byte_index
-overflow_mul-byte_index c = omega (arith, small {j = c.byte_index-2.result} (omega (arith, c.byte_index-2.ensures.0)) c.requires.1.1)
+piece-second-requires c = second-inside _ _ c.requires.0 c.from.ensures
 
 pub chosen_corrector-requires : goal.chosen_corrector-requires
-chosen_corrector-requires c = (within _ _ _ c.requires.1.0 c.byte_index-2.ensures.0 c.byte_index.ensures.0 c.piece-first.ensures.1, within _ _ _ c.requires.1.0 c.byte_index-2.ensures.0 c.byte_index.ensures.0 c.piece-second.ensures.1)
+chosen_corrector-requires c = (within _ _ _ c.requires.1.0 c.from-2.ensures c.from.ensures c.piece-first.ensures.1, within _ _ _ c.requires.1.0 c.from-2.ensures c.from.ensures c.piece-second.ensures.1)
 
 pub returns : goal.returns
-returns c = (corrector-at _ _ _ _ _ c.requires.1.0 c.byte_index-2.ensures.0 c.byte_index.ensures.0 c.piece-first.ensures.0 c.piece-second.ensures.0 c.chosen_corrector.ensures.0, c.chosen_corrector.ensures.1)
+returns c = (corrector-at _ _ _ _ _ c.requires.1.0 c.from-2.ensures c.from.ensures c.piece-first.ensures.0 c.piece-second.ensures.0 c.chosen_corrector.ensures.0, c.chosen_corrector.ensures.1)

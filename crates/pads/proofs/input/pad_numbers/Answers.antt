@@ -4,14 +4,11 @@ use mathlib.Core.Path.{ap, ◌∙◌}
 use Prim.Native.Nat.{◌<◌}
 use native.Mathlib.Omega.{arith}
 use Rattle.shake.specs.Numbers.{numbers}
-use Rattle.shake.proofs.Whole.{field-place, is-shake256}
+use Rattle.shake.proofs.Whole.{is-shake256}
 use Rattle.pads.proofs.Taken.{input-bytes}
 use Rattle.pads.specs.Pad.{pad_input}
 use Rattle.pads.specs.Binding.{under_of, bound_by}
 use Rattle.pads.proofs.input.pad_numbers.Goals as goal
-
-pub finished-requires : goal.finished-requires
-finished-requires c = field-place c.pad_sponge.result _ c.pad_sponge.ensures
 
 pub returns : goal.returns
 returns c = let a = c.args in

@@ -1,21 +1,20 @@
 -- `pads::remainder::remainder` meets its contract: the quotient is exact.
 -- Assumes nothing.
+use Prim.Native.Nat.{◌<◌}
 use native.Mathlib.Nat.{mod-lt}
 use native.Mathlib.Omega.{arith}
-use Rattle.pads.proofs.Folded.{product-fits, quotient_low, rest_is}
+use Rattle.pads.proofs.Folded.{quotient_low, rest_is}
 use Rattle.pads.proofs.remainder.remainder.Goals as goal
 
-pub overflow_mul-quotient : goal.overflow_mul-quotient
-overflow_mul-quotient c = record { fits = product-fits _ _ _ c.requires.factors_of.modulus c.ranges.q.fits c.requires.factors_of.reciprocal c.requires.z_bound }
-
-pub overflow_mul-result : goal.overflow_mul-result
-overflow_mul-result c = record { fits = omega (arith, quotient_low _ _ _ c.requires.factors_of.modulus c.ranges.q.fits c.requires.factors_of.reciprocal c.requires.z_bound, c.requires.z_bound) }
-
 pub overflow_sub-result : goal.overflow_sub-result
-overflow_sub-result c = quotient_low _ _ _ c.requires.factors_of.modulus c.ranges.q.fits c.requires.factors_of.reciprocal c.requires.z_bound
+overflow_sub-result c = let byte : c.args.f.modulus < 256 = omega (arith, c.well_formed) in
+    rw c.from.ensures (quotient_low _ _ _ c.args.f.above_one byte c.args.f.reciprocal_is c.requires)
 
 pub overflow_cast-result : goal.overflow_cast-result
-overflow_cast-result c = record { fits = omega (arith, rest_is _ _ _ c.requires.factors_of.modulus c.ranges.q.fits c.requires.factors_of.reciprocal c.requires.z_bound, mod-lt c.args.z {m = c.args.q} (omega (arith, c.requires.factors_of.modulus)), c.ranges.q.fits) }
+overflow_cast-result c = let byte : c.args.f.modulus < 256 = omega (arith, c.well_formed) in
+    let above : 0 < c.args.f.modulus = omega (arith, c.args.f.above_one) in
+    rw c.from.ensures (record { fits = omega (arith, rest_is _ _ _ c.args.f.above_one byte c.args.f.reciprocal_is c.requires, mod-lt c.args.z above) })
 
 pub returns : goal.returns
-returns c = rest_is _ _ _ c.requires.factors_of.modulus c.ranges.q.fits c.requires.factors_of.reciprocal c.requires.z_bound
+returns c = let byte : c.args.f.modulus < 256 = omega (arith, c.well_formed) in
+    rw c.from.ensures (rest_is _ _ _ c.args.f.above_one byte c.args.f.reciprocal_is c.requires)

@@ -1,14 +1,8 @@
 -- `pads::row::move_pad_row` meets its contract: receiver by receiver.
 -- Assumes nothing.
-use mathlib.Core.Path.{◌≡◌}
-use Prim.Native.Nat.{◌-◌}
-use lib.ListN.{length}
 use Rattle.pads.specs.Binding.{under_of}
 use Rattle.pads.proofs.Moving.{Done}
 use Rattle.pads.proofs.row.move_pad_row.Given as goal
 
 abbrev pub invariant-loop-i : goal.invariant-loop-i
-invariant-loop-i l = (length l.numbers ≡ 128) × Done l.bound.round l.minus l.q (under_of l.bound) l.keys l.n l.k l.initial.out l.i l.at l.out
-
-abbrev pub decreases-loop-i : goal.decreases-loop-i
-decreases-loop-i l = l.n - l.i
+invariant-loop-i l = Done l.bound.round l.minus l.q (under_of l.bound) l.keys l.n l.k l.initial.out l.i l.at l.out

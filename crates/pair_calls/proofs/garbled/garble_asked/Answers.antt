@@ -1,15 +1,15 @@
 -- `pair_calls::garble_asked` meets its contract: out of range, or what the checks after it answer. Assumes nothing.
-use mathlib.Core.Path.{sym, ◌∙◌}
-use Rattle.circuit.specs.Held.{wires_in, outputs_in}
-use Rattle.pair_calls.specs.Lent.{garble_owned}
-use Rattle.pair_calls.proofs.Shared.{ranged, asked_next, asked_stop}
+use mathlib.Core.Path.{◌∙◌}
+use Rattle.checks.proofs.Answers.{stage_passed, stage_refused, passed_on}
+use mathlib.Core.Path.{sym}
+use Rattle.pair_calls.proofs.Shared.{ranged}
 use Rattle.pair_calls.proofs.garbled.garble_asked.Goals as goal
 
 pub garble_owned-requires : goal.garble_owned-requires
-garble_owned-requires c = ranged c.args.k c.requires (sym c.session_checked-session.ensures ∙ c.in-Accepted.is) c.number_index-long.ensures
+garble_owned-requires c = ranged c.args.k c.requires (sym c.session_checked.ensures ∙ c.in_ok-session_checked.was)
 
-pub returns-in-Accepted : goal.returns-in-Accepted
-returns-in-Accepted c = asked_next c.args.k c.session_checked-session.ensures c.number_index-long.ensures (λ k. garble_owned k (wires_in c.args.circuit) (outputs_in c.args.circuit) c.args.draw.now c.args.lent.rows c.args.lent.outputs c.args.account) c.in-Accepted.is c.garble_owned.ensures
+pub returns-in_err-session_checked : goal.returns-in_err-session_checked
+returns-in_err-session_checked c = passed_on c.from_residual.ensures.1 ∙ stage_refused c.session_checked.ensures _ c.in_err-session_checked.was
 
-pub returns-in-Refused : goal.returns-in-Refused
-returns-in-Refused c = asked_stop c.args.k c.session_checked-session.ensures c.number_index-long.ensures (λ k. garble_owned k (wires_in c.args.circuit) (outputs_in c.args.circuit) c.args.draw.now c.args.lent.rows c.args.lent.outputs c.args.account) c.in-Refused.is
+pub returns : goal.returns
+returns c = stage_passed c.session_checked.ensures c.in_ok-session_checked.was c.garble_owned.ensures

@@ -1,9 +1,13 @@
 -- `pair_calls::named_checked` meets its contract: the checks in their order. Assumes nothing.
-use Rattle.party_calls.proofs.Ending.{stage_followed}
+use mathlib.Core.Path.{◌∙◌}
+use Rattle.checks.proofs.Answers.{stage_passed, stage_refused, passed_on}
 use Rattle.pair_calls.proofs.garbled.named_checked.Goals as goal
 
-pub drawn_checked-drawn-requires : goal.drawn_checked-drawn-requires
-drawn_checked-drawn-requires c = c.requires
+pub drawn_checked-requires : goal.drawn_checked-requires
+drawn_checked-requires c = c.requires
+
+pub returns-in_err-account_checked : goal.returns-in_err-account_checked
+returns-in_err-account_checked c = passed_on c.from_residual.ensures.1 ∙ stage_refused c.account_checked.ensures _ c.in_err-account_checked.was
 
 pub returns : goal.returns
-returns c = stage_followed c.account_checked-named.ensures c.drawn_checked-drawn.ensures c.followed.ensures
+returns c = stage_passed c.account_checked.ensures c.in_ok-account_checked.was c.drawn_checked.ensures

@@ -1,22 +1,24 @@
 -- `pair_calls::key_lengths_checked` meets its contract: a wrong length, or what the checks of the bytes answer. Assumes nothing.
+use mathlib.Core.Path.{◌∙◌}
+use Rattle.checks.proofs.Answers.{stage_passed, stage_refused, passed_on}
 use native.Mathlib.Omega.{arith}
 use Rattle.session.proofs.Circuits.{inputs-made}
-use Rattle.session.proofs.LentLengths.{lengths_met}
 use Rattle.pair_calls.proofs.Shared.{small_product}
-use Rattle.pair_calls.proofs.Keying.{keys-lent, keys-next, keys_stop}
+use Rattle.pair_calls.proofs.Keying.{keys-lengths, keys-lent}
 use Rattle.pair_calls.proofs.keys.key_lengths_checked.Goals as goal
 
-pub draw_size-size-requires : goal.draw_size-size-requires
-draw_size-size-requires c = (c.requires.held, c.requires.short)
+pub draw_size-requires : goal.draw_size-requires
+draw_size-requires c = (c.requires.held, c.requires.short)
 
-pub overflow_mul-all : goal.overflow_mul-all
-overflow_mul-all c = omega (arith, small_product {a = c.args.circuit.inputs} {b = c.args.k} {m = 1024} {n = 128} (omega (arith, inputs-made c.requires.held, c.requires.held.room.made)) c.requires.short)
+pub overflow_mul-inputs : goal.overflow_mul-inputs
+overflow_mul-inputs c = omega (arith, small_product {a = c.args.circuit.inputs} {b = c.args.k} {m = 1024} {n = 128} (omega (arith, inputs-made c.requires.held, c.requires.held.room.made)) c.requires.short)
 
 pub contents_checked-requires : goal.contents_checked-requires
-contents_checked-requires c = keys-lent c.requires c.args.draw.now c.args.values.now c.args.bytes c.draw_size-size.ensures (lengths_met _ _ _ _ c.length_checked-drawn.ensures (lengths_met _ _ _ _ c.length_checked-entered.ensures c.length_checked-keys.ensures c.followed.ensures) c.followed-lengths.ensures) c.in-Accepted.is
+contents_checked-requires c = keys-lent c.requires _ _ c.args.bytes c.draw_size.ensures c.lengths_checked.ensures c.in_ok-lengths_checked.was
 
-pub returns-in-Accepted : goal.returns-in-Accepted
-returns-in-Accepted c = keys-next c.requires c.args.draw.now c.args.values.now c.args.bytes c.draw_size-size.ensures (lengths_met _ _ _ _ c.length_checked-drawn.ensures (lengths_met _ _ _ _ c.length_checked-entered.ensures c.length_checked-keys.ensures c.followed.ensures) c.followed-lengths.ensures) c.in-Accepted.is c.contents_checked.ensures
+pub returns-in_err-lengths_checked : goal.returns-in_err-lengths_checked
+returns-in_err-lengths_checked c =
+    passed_on c.from_residual.ensures.1 ∙ stage_refused (keys-lengths c.requires _ _ c.args.bytes c.draw_size.ensures c.lengths_checked.ensures) _ c.in_err-lengths_checked.was
 
-pub returns-in-Refused : goal.returns-in-Refused
-returns-in-Refused c = keys_stop c.requires c.args.draw.now c.args.values.now c.args.bytes c.draw_size-size.ensures (lengths_met _ _ _ _ c.length_checked-drawn.ensures (lengths_met _ _ _ _ c.length_checked-entered.ensures c.length_checked-keys.ensures c.followed.ensures) c.followed-lengths.ensures) c.in-Refused.is
+pub returns : goal.returns
+returns c = stage_passed (keys-lengths c.requires _ _ c.args.bytes c.draw_size.ensures c.lengths_checked.ensures) c.in_ok-lengths_checked.was c.contents_checked.ensures

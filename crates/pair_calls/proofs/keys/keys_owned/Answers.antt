@@ -1,12 +1,16 @@
 -- `pair_calls::keys_owned` meets its contract: the checks in their order. Assumes nothing.
-use Rattle.party_calls.proofs.Ending.{stage_followed}
+use mathlib.Core.Path.{◌∙◌}
+use Rattle.checks.proofs.Answers.{stage_passed, stage_refused, passed_on}
 use Rattle.pair_calls.proofs.keys.keys_owned.Goals as goal
 
-pub owners_checked-owners-requires : goal.owners_checked-owners-requires
-owners_checked-owners-requires c = c.requires.held.room
+pub owners_checked-requires : goal.owners_checked-requires
+owners_checked-requires c = c.requires.held.room
 
-pub key_lengths_checked-lent-requires : goal.key_lengths_checked-lent-requires
-key_lengths_checked-lent-requires c = c.requires
+pub key_lengths_checked-requires : goal.key_lengths_checked-requires
+key_lengths_checked-requires c = c.requires
+
+pub returns-in_err-owners_checked : goal.returns-in_err-owners_checked
+returns-in_err-owners_checked c = passed_on c.from_residual.ensures.1 ∙ stage_refused c.owners_checked.ensures _ c.in_err-owners_checked.was
 
 pub returns : goal.returns
-returns c = stage_followed c.owners_checked-owners.ensures c.key_lengths_checked-lent.ensures c.followed.ensures
+returns c = stage_passed c.owners_checked.ensures c.in_ok-owners_checked.was c.key_lengths_checked.ensures

@@ -1,5 +1,4 @@
 -- `pair_calls::put_keys` meets its contract: a loop that fills the buffer key by key. Assumes nothing.
-use Prim.Native.Nat.{◌-◌}
 use Rattle.lists.proofs.Steps.{Level}
 use Rattle.circuit.specs.Held.{wires_in}
 use Rattle.pair.specs.InputKeys.{pair_input_key}
@@ -7,6 +6,3 @@ use Rattle.pair_calls.proofs.keys.put_keys.Given as goal
 
 abbrev pub invariant-loop-w : goal.invariant-loop-w
 invariant-loop-w l = Level l.initial.keys 0 l.w l.circuit.inputs l.k (pair_input_key l.k (wires_in l.circuit) l.draw l.values) l.at l.keys
-
-abbrev pub decreases-loop-w : goal.decreases-loop-w
-decreases-loop-w l = l.circuit.inputs - l.w

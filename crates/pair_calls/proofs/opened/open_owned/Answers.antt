@@ -1,12 +1,16 @@
 -- `pair_calls::open_owned` meets its contract: the checks in their order. Assumes nothing.
-use Rattle.party_calls.proofs.Ending.{stage_followed}
+use mathlib.Core.Path.{◌∙◌}
+use Rattle.checks.proofs.Answers.{stage_passed, stage_refused, passed_on}
 use Rattle.pair_calls.proofs.opened.open_owned.Goals as goal
 
-pub owners_checked-owners-requires : goal.owners_checked-owners-requires
-owners_checked-owners-requires c = c.requires.held.room
+pub owners_checked-requires : goal.owners_checked-requires
+owners_checked-requires c = c.requires.held.room
 
-pub open_lent-buffers-requires : goal.open_lent-buffers-requires
-open_lent-buffers-requires c = c.requires
+pub open_lent-requires : goal.open_lent-requires
+open_lent-requires c = c.requires
+
+pub returns-in_err-owners_checked : goal.returns-in_err-owners_checked
+returns-in_err-owners_checked c = passed_on c.from_residual.ensures.1 ∙ stage_refused c.owners_checked.ensures _ c.in_err-owners_checked.was
 
 pub returns : goal.returns
-returns c = stage_followed c.owners_checked-owners.ensures c.open_lent-buffers.ensures c.followed.ensures
+returns c = stage_passed c.owners_checked.ensures c.in_ok-owners_checked.was c.open_lent.ensures

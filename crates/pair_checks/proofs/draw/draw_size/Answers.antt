@@ -9,15 +9,13 @@ pub moduli_used-requires : goal.moduli_used-requires
 moduli_used-requires c = c.requires.0.room
 
 pub overflow_add-result : goal.overflow_add-result
-overflow_add-result c = omega (arith, inputs-made c.requires.0, c.requires.0.room.made, c.moduli_used.ensures.most, c.number_index-moduli.ensures)
+overflow_add-result c = omega (arith, inputs-made c.requires.0, c.requires.0.room.made, c.moduli_used.ensures.most)
 
 pub overflow_mul-result : goal.overflow_mul-result
 overflow_mul-result c = omega (
   arith,
-  draw-most c.args.k (wires_in c.args.circuit) c.requires.1 c.moduli_used.ensures c.number_index-moduli.ensures
-      c.requires.0.inputs (omega (arith, inputs-made c.requires.0, c.requires.0.room.made)),
+  draw-most c.args.k (wires_in c.args.circuit) c.requires.1 c.moduli_used.ensures c.requires.0.inputs (omega (arith, inputs-made c.requires.0, c.requires.0.room.made)),
 )
 
 pub returns : goal.returns
-returns c = draw-counts c.args.k (wires_in c.args.circuit) c.requires.1 c.moduli_used.ensures c.number_index-moduli.ensures
-    c.requires.0.inputs (omega (arith, inputs-made c.requires.0, c.requires.0.room.made))
+returns c = draw-counts c.args.k (wires_in c.args.circuit) c.requires.1 c.moduli_used.ensures c.requires.0.inputs (omega (arith, inputs-made c.requires.0, c.requires.0.room.made))

@@ -1,11 +1,7 @@
--- `pair_garbling::gates::add_second` meets its contract: what `add_half` does, on work memory of its own.
+-- `pair_garbling::gates::add_second` meets its contract: the second zero key is added to the first.
 -- Assumes nothing.
-use mathlib.Core.Path.{sym}
-use Rattle.pair_garbling.proofs.Made.{room_cut, vectors_in}
+use Rattle.pair_garbling.proofs.Factored.{added}
 use Rattle.pair_garbling.proofs.gates.add_second.Goals as goal
 
-pub slice_bounds-add_half-end : goal.slice_bounds-add_half-end
-slice_bounds-add_half-end c = sym (room_cut c.key_room-work.result c.requires.fits.0.short c.key_room-work.ensures)
-
-pub add_half-requires : goal.add_half-requires
-add_half-requires c = record { fits = (c.requires.fits.0, (vectors_in c.requires.fits.1.0 (room_cut c.key_room-work.result c.requires.fits.0.short c.key_room-work.ensures), c.requires.fits.1.1)); under_value = (c.requires.under_value, c.requires.fits.1.0.work) }
+pub returns : goal.returns
+returns c = (added c.args.half.at.modulus c.args.key.now _ c.second_half.ensures.0 c.add_multiple.ensures, c.second_half.ensures.1)

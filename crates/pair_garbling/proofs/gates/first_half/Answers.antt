@@ -14,7 +14,7 @@ linear_factors-factors-requires c = mul_small _ _ (omega (arith, c.requires.fits
 
 pub returns : goal.returns
 returns c = let a = c.args in
-    half_is a.half c.linear_factors-factors.result a.zero.now a.offset.now a.offset.now
-    (λ e. sub a.half.modulus 0 (times a.half.modulus a.other (value_for (keys_under a.half a.zero.now a.offset.now) e))) c.requires.fits.0.under
-    (first-factor a.half c.linear_factors-factors.result a.zero.now a.offset.now c.requires.fits.0 a.other c.mul-start.result c.mul-step.result c.requires.under_value c.mul-start.ensures c.mul-step.ensures c.linear_factors-factors.ensures)
+    half_is a.half.at c.linear_factors-factors.result a.half.zero.now a.half.offset.now a.half.vector.now
+    (λ e. sub a.half.at.modulus 0 (times a.half.at.modulus a.other (value_for (keys_under a.half.at a.half.zero.now a.half.offset.now) e))) c.requires.fits.0.under
+    (first-factor a.half.at c.linear_factors-factors.result a.half.zero.now a.half.offset.now c.requires.fits.0 a.other c.mul-start.result c.mul-step.result c.requires.under_value c.mul-start.ensures c.mul-step.ensures c.linear_factors-factors.ensures)
     c.make_half.ensures

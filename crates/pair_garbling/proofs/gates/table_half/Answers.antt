@@ -14,7 +14,7 @@ table_factors-factors-requires c = (c.requires.images_fit, (mul_small _ _ (omega
 
 pub returns : goal.returns
 returns c = let a = c.args in
-    half_is a.half c.table_factors-factors.result a.zero.now a.offset.now a.vector.now
-    (λ e. image_of a.file.now (File a.table) a.half.modulus (value_for (keys_under a.half a.zero.now a.offset.now) e)) c.requires.fits.0.under
-    (table-factor a.half c.table_factors-factors.result a.zero.now a.offset.now c.requires.fits.0 a.file.now a.table c.mul-mask.result c.mul-mask.ensures c.requires.images_fit c.table_factors-factors.ensures)
+    half_is a.half.at c.table_factors-factors.result a.half.zero.now a.half.offset.now a.half.vector.now
+    (λ e. image_of a.file.now (File a.table) a.half.at.modulus (value_for (keys_under a.half.at a.half.zero.now a.half.offset.now) e)) c.requires.fits.0.under
+    (table-factor a.half.at c.table_factors-factors.result a.half.zero.now a.half.offset.now c.requires.fits.0 a.file.now a.table c.mul-mask.result c.mul-mask.ensures c.requires.images_fit c.table_factors-factors.ensures)
     c.make_half.ensures

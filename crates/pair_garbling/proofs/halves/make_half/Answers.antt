@@ -1,11 +1,11 @@
--- `pair_garbling::halves::make_half` meets its contract: what `put_half` does, on work memory of its own.
+-- `pair_garbling::halves::make_half` meets its contract: the key of external value 0, the zero key by it, then the rows.
 -- Assumes nothing.
-use mathlib.Core.Path.{sym}
-use Rattle.pair_garbling.proofs.Made.{room_cut, vectors_in}
+use Rattle.pair_garbling.proofs.Made.{start_is, half-key, half-rows}
 use Rattle.pair_garbling.proofs.halves.make_half.Goals as goal
 
-pub slice_bounds-put_half-end : goal.slice_bounds-put_half-end
-slice_bounds-put_half-end c = sym (room_cut c.key_room-work.result c.requires.fits.0.short c.key_room-work.ensures)
-
-pub put_half-requires : goal.put_half-requires
-put_half-requires c = record { fits = (c.requires.fits.0, (vectors_in c.requires.fits.1 (room_cut c.key_room-work.result c.requires.fits.0.short c.key_room-work.ensures), c.requires.fits.1.work)); out_len = c.requires.out_len }
+pub returns : goal.returns
+returns c = let f = c.requires.fits.0 in
+    let v = c.requires.fits.1 in
+    let s = start_is f c.args.factors v c.mul-minus.ensures c.key_of.ensures in
+    let k = half-key f c.args.factors v s c.put_key.ensures in
+    (k, half-rows f c.args.factors v s k c.put_rows.ensures)

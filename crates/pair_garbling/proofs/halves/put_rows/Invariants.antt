@@ -8,8 +8,5 @@ use Rattle.pair_garbling.specs.Halves.{row_under}
 use Rattle.pair_garbling.proofs.Made.{Stepping}
 use Rattle.pair_garbling.proofs.halves.put_rows.Given as goal
 
-abbrev pub invariant-loop-i : goal.invariant-loop-i
-invariant-loop-i l = Stepping l.half l.initial.work l.offset l.i l.work × Level l.initial.out 0 l.i (l.half.under - 1) l.half.k (λ j. row_under l.half (key_v l.half.under l.initial.work (suc j) l.offset) (key_v l.half.modulus l.key (get_or l.factors (suc j) 0) l.vector)) l.at l.out
-
-abbrev pub decreases-loop-i : goal.decreases-loop-i
-decreases-loop-i l = l.half.under - 1 - l.i
+abbrev pub invariant-loop-factor : goal.invariant-loop-factor
+invariant-loop-factor l = Stepping l.half.at l.initial.work l.half.offset.now l.factor-index l.work × Level l.initial.out 0 l.factor-index (l.half.at.under - 1) l.half.at.k (λ j. row_under l.half.at (key_v l.half.at.under l.initial.work (suc j) l.half.offset.now) (key_v l.half.at.modulus l.key (get_or l.fn.factors (suc j) 0) l.half.vector.now)) l.from l.out

@@ -1,6 +1,6 @@
 -- `pair_garbling::pass::put_wires` meets its contract: wire after wire, zero keys and rows in step.
 -- Assumes nothing.
-use mathlib.Core.Path.{ap, ◌∙◌}
+use mathlib.Core.Path.{refl, ap, ◌∙◌}
 use Prim.Native.Nat.{ℕ, ◌*◌}
 use native.Mathlib.Omega.{arith}
 use Rattle.lists.proofs.Steps.{steps_fits, steps_long, steps_call}
@@ -18,7 +18,7 @@ pub moduli_used-requires : goal.moduli_used-requires
 moduli_used-requires c = c.requires.drawn.0.held.room
 
 pub overflow_mul-first : goal.overflow_mul-first
-overflow_mul-first c = omega (arith, times-most c.args.session.k c.number_index.result 128 256 c.requires.drawn.0.short (omega (arith, c.number_index.ensures, c.moduli_used.ensures.most)))
+overflow_mul-first c = omega (arith, times-most c.args.session.k c.moduli_used.result 128 256 c.requires.drawn.0.short c.moduli_used.ensures.most)
 
 pub loop-w-init : goal.loop-w-init
 loop-w-init c = pass_start c.requires.drawn.0 c.args.session.round c.requires.drawn.1 c.requires.rows_len
@@ -29,46 +29,37 @@ offset_bounds-circuit-w c = omega (arith, c.requires.drawn.0.held.room.made, c.r
 pub bounds-circuit-w : goal.bounds-circuit-w
 bounds-circuit-w c = omega (arith, c.requires.drawn.0.held.room.made, c.requires.drawn.0.held.room.wires, c.loop-w-test.true)
 
-pub row_bytes-requires : goal.row_bytes-requires
-row_bytes-requires c = c.requires.drawn.0.short
+pub rows_size-requires : goal.rows_size-requires
+rows_size-requires c = c.requires.drawn.0.short
 
 pub overflow_add-to : goal.overflow_add-to
-overflow_add-to c = omega (arith, steps_fits c.loop-w.invariant.1 c.loop-w-test.true, turn-bytes c.requires.drawn.0 c.args.session.round c.ranks-ranks.ensures c.moduli-moduli.ensures c.loop-w-test.true c.row_bytes.ensures)
-
-pub index_number-requires : goal.index_number-requires
-index_number-requires c = omega (arith, c.loop-w-test.true, c.requires.drawn.0.held.room.made)
+overflow_add-to c = omega (arith, steps_fits c.loop-w.invariant.1 c.loop-w-test.true, turn-bytes c.requires.drawn.0 c.args.session.round c.ranks-ranks.ensures c.moduli-moduli.ensures c.loop-w-test.true c.rows_size.ensures)
 
 pub overflow_add-turn : goal.overflow_add-turn
-overflow_add-turn c = omega (arith, steps_fits c.loop-w.invariant.0 c.loop-w-test.true, c.loop-w.invariant.0.kept, c.requires.drawn.1, keys_fit c.requires.drawn.0 c.args.session.round, times-most c.args.session.k c.number_index.result 128 256 c.requires.drawn.0.short (omega (arith, c.number_index.ensures, c.moduli_used.ensures.most)))
+overflow_add-turn c = omega (arith, steps_fits c.loop-w.invariant.0 c.loop-w-test.true, c.loop-w.invariant.0.kept, c.requires.drawn.1, keys_fit c.requires.drawn.0 c.args.session.round, times-most c.args.session.k c.moduli_used.result 128 256 c.requires.drawn.0.short c.moduli_used.ensures.most)
 
 pub slice_bounds-put_wire-start : goal.slice_bounds-put_wire-start
-slice_bounds-put_wire-start c = omega (arith, steps_fits c.loop-w.invariant.1 c.loop-w-test.true, turn-bytes c.requires.drawn.0 c.args.session.round c.ranks-ranks.ensures c.moduli-moduli.ensures c.loop-w-test.true c.row_bytes.ensures)
+slice_bounds-put_wire-start c = omega (arith, steps_fits c.loop-w.invariant.1 c.loop-w-test.true, turn-bytes c.requires.drawn.0 c.args.session.round c.ranks-ranks.ensures c.moduli-moduli.ensures c.loop-w-test.true c.rows_size.ensures)
 
-pub slice_bounds-put_wire-end-in-loop-w-2 : goal.slice_bounds-put_wire-end-in-loop-w-2
-slice_bounds-put_wire-end-in-loop-w-2 c = omega (arith, steps_fits c.loop-w.invariant.1 c.loop-w-test.true, turn-bytes c.requires.drawn.0 c.args.session.round c.ranks-ranks.ensures c.moduli-moduli.ensures c.loop-w-test.true c.row_bytes.ensures)
+pub slice_bounds-put_wire-end : goal.slice_bounds-put_wire-end
+slice_bounds-put_wire-end c = omega (arith, steps_fits c.loop-w.invariant.1 c.loop-w-test.true, turn-bytes c.requires.drawn.0 c.args.session.round c.ranks-ranks.ensures c.moduli-moduli.ensures c.loop-w-test.true c.rows_size.ensures)
 
 pub put_wire-requires : goal.put_wire-requires
-put_wire-requires c = let t = turn-bytes c.requires.drawn.0 c.args.session.round c.ranks-ranks.ensures c.moduli-moduli.ensures c.loop-w-test.true c.row_bytes.ensures in record {
+put_wire-requires c = let t = turn-bytes c.requires.drawn.0 c.args.session.round c.ranks-ranks.ensures c.moduli-moduli.ensures c.loop-w-test.true c.rows_size.ensures in record {
   sourced = sourced c.requires.drawn.0 c.args.session.round c.ranks-ranks.ensures c.moduli-moduli.ensures c.loop-w-test.true c.loop-w.invariant.0
-      (ap (λ (n : ℕ). c.args.session.k * n) (c.number_index.ensures ∙ c.moduli_used.ensures.is)) c.index_number.ensures (steps_long c.loop-w.invariant.1 c.loop-w-test.true (omega (arith, t)));
+      (ap (λ (n : ℕ). c.args.session.k * n) c.moduli_used.ensures.is) refl (steps_long c.loop-w.invariant.1 c.loop-w-test.true (omega (arith, t)));
   k_in_bounds = steps_fits c.loop-w.invariant.0 c.loop-w-test.true;
 }
 
 pub overflow_add-place : goal.overflow_add-place
 overflow_add-place c = omega (arith, steps_fits c.loop-w.invariant.0 c.loop-w-test.true, c.loop-w.invariant.0.kept, c.requires.drawn.1, keys_fit c.requires.drawn.0 c.args.session.round)
 
-pub overflow_add-w : goal.overflow_add-w
-overflow_add-w c = omega (arith, c.loop-w-test.true, c.requires.drawn.0.held.room.made)
-
-pub loop-w-smaller : goal.loop-w-smaller
-loop-w-smaller c = omega (arith, c.loop-w-test.true)
-
 pub loop-w-preserved : goal.loop-w-preserved
-loop-w-preserved c = let t = turn-bytes c.requires.drawn.0 c.args.session.round c.ranks-ranks.ensures c.moduli-moduli.ensures c.loop-w-test.true c.row_bytes.ensures in
-    let ef = ap (λ (n : ℕ). c.args.session.k * n) (c.number_index.ensures ∙ c.moduli_used.ensures.is) in (
-      keys_step c.requires.drawn.0 c.args.session.round c.ranks-ranks.ensures c.moduli-moduli.ensures c.loop-w-test.true c.loop-w.invariant.0 ef c.index_number.ensures c.put_wire.ensures.0,
+loop-w-preserved c = let t = turn-bytes c.requires.drawn.0 c.args.session.round c.ranks-ranks.ensures c.moduli-moduli.ensures c.loop-w-test.true c.rows_size.ensures in
+    let ef = ap (λ (n : ℕ). c.args.session.k * n) c.moduli_used.ensures.is in (
+      keys_step c.requires.drawn.0 c.args.session.round c.ranks-ranks.ensures c.moduli-moduli.ensures c.loop-w-test.true c.loop-w.invariant.0 ef refl c.put_wire.ensures.0,
       steps_call c.loop-w.invariant.1 c.loop-w-test.true (omega (arith, t)) c.put_wire.auto.rows
-          (c.put_wire.ensures.1 ∙ rows-here c.requires.drawn.0 c.args.session.round c.ranks-ranks.ensures c.moduli-moduli.ensures c.loop-w-test.true c.loop-w.invariant.0 ef c.index_number.ensures),
+          (c.put_wire.ensures.1 ∙ rows-here c.requires.drawn.0 c.args.session.round c.ranks-ranks.ensures c.moduli-moduli.ensures c.loop-w-test.true c.loop-w.invariant.0 ef refl),
     )
 
 pub shape_of-keys : goal.shape_of-keys

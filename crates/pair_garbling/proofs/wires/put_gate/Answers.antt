@@ -19,11 +19,11 @@ pub put_product-requires : goal.put_product-requires
 put_product-requires c = let o = at-product c.requires.0 c.in-Multiply.is in
     record { ranged = o.0; key_len = (c.requires.1, o.1) }
 
-pub bounds-moduli-a : goal.bounds-moduli-a
-bounds-moduli-a c = at-modulus c.requires.0 c.in-Project.is c.wire_index-a.ensures
+pub bounds-source-from : goal.bounds-source-from
+bounds-source-from c = at-modulus c.requires.0 c.in-Project.is c.from.ensures
 
 pub put_table-requires : goal.put_table-requires
-put_table-requires c = let o = at_table c.requires.0 c.in-Project.is c.wire_index-a.ensures in
+put_table-requires c = let o = at_table c.requires.0 c.in-Project.is c.from.ensures in
     record { ranged = o.0; key_len = (c.requires.1, o.1) }
 
 pub returns-in-Input : goal.returns-in-Input
@@ -39,7 +39,7 @@ pub returns-in-Multiply : goal.returns-in-Multiply
 returns-in-Multiply c = product-made c.requires.0 c.in-Multiply.is c.put_product.ensures
 
 pub returns-in-Project : goal.returns-in-Project
-returns-in-Project c = table-made c.requires.0 c.in-Project.is c.wire_index-a.ensures c.put_table.ensures
+returns-in-Project c = table-made c.requires.0 c.in-Project.is c.from.ensures c.put_table.ensures
 
 pub returns-in-Select : goal.returns-in-Select
-returns-in-Select c = select-made c.requires.0 c.in-Select.is (c.fill.ensures ∙ ap (λ (n : ℕ). replicate n 0) c.requires.1)
+returns-in-Select c = select-made c.requires.0 c.in-Select.is (c.fill.ensures.after (λ y e. e) ∙ ap (λ (n : ℕ). replicate n 0) c.requires.1)

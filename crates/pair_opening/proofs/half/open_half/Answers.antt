@@ -10,4 +10,4 @@ pub sub_pad_row-requires : goal.sub_pad_row-requires
 sub_pad_row-requires c = record { asked = pads_asked c.requires.0 c.put_row.ensures; row = pads-row c.requires.0 (c.put_row.auto.out ∙ c.requires.1) }
 
 pub returns : goal.returns
-returns c = half_is _ _ _ _ _ _ c.args.rows.now c.args.key.now c.put_row.ensures c.sub_pad_row.ensures
+returns c = half_is _ _ _ _ _ _ c.args.rows.now c.args.key.now c.put_row.ensures (rw c.bound.ensures at c.sub_pad_row.ensures)

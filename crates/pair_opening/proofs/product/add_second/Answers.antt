@@ -1,10 +1,6 @@
--- `pair_opening::add_second` meets its contract: the local has room for a key. Assumes nothing.
-use mathlib.Core.Path.{sym}
-use Rattle.pair_opening.proofs.Products.{key_cut, half_ready}
+-- `pair_opening::add_second` meets its contract: once the half is that half. Assumes nothing.
+use Rattle.pair_opening.proofs.Products.{added_half}
 use Rattle.pair_opening.proofs.product.add_second.Goals as goal
 
-pub slice_bounds-add_half-end : goal.slice_bounds-add_half-end
-slice_bounds-add_half-end c = sym (key_cut c.scratch-work.result c.requires.0.short c.scratch-work.ensures)
-
-pub add_half-requires : goal.add_half-requires
-add_half-requires c = (half_ready _ c.requires.0 c.requires.1.0 c.requires.1.1.0, (key_cut c.scratch-work.result c.requires.0.short c.scratch-work.ensures, c.requires.1.1.1))
+pub returns : goal.returns
+returns c = added_half _ _ (rw c.half.ensures at c.open_half.ensures) c.add_multiple.ensures

@@ -4,10 +4,10 @@ use Rattle.pair_opening.proofs.Products.{half_ready}
 use Rattle.pair_opening.proofs.wire.by_table.Goals as goal
 
 pub nth_piece-a-requires : goal.nth_piece-a-requires
-nth_piece-a-requires c = key-inside c.requires.1.0.a.held c.wire_index.ensures
+nth_piece-a-requires c = key-inside c.requires.1.0.a.held c.from.ensures
 
 pub open_half-requires : goal.open_half-requires
-open_half-requires c = (half_ready _ c.requires.0 (key-ready c.requires.1.0.a c.wire_index.ensures c.nth_piece-a.ensures.0 c.nth_piece-a.ensures.1) c.requires.1.0.lines, c.requires.1.1)
+open_half-requires c = rw c.half.ensures (half_ready 0 c.requires.0 (key-ready c.requires.1.0.a c.from.ensures c.nth_piece-a.ensures.0 c.nth_piece-a.ensures.1) c.requires.1.0.lines, c.requires.1.1)
 
 pub returns : goal.returns
-returns c = table_of c.args.turn c.args.rows.now (key-at c.args.turn c.args.wkeys.now c.wire_index.ensures c.nth_piece-a.ensures.0) c.open_half.ensures
+returns c = table_of c.args.turn c.args.rows.now (key-at c.args.turn c.args.wkeys.now c.from.ensures c.nth_piece-a.ensures.0) (rw c.half.ensures at c.open_half.ensures)

@@ -33,4 +33,4 @@ pub returns-in-Project : goal.returns-in-Project
 returns-in-Project c = opens_project c.args.turn c.args.keys.now c.args.rows.now c.args.wkeys.now c.in-Project.is c.by_table.ensures
 
 pub returns-in-Select : goal.returns-in-Select
-returns-in-Select c = opens-select c.args.turn c.args.keys.now c.args.rows.now c.args.wkeys.now c.in-Select.is c.requires.1.1 c.fill.ensures
+returns-in-Select c = opens-select c.args.turn c.args.keys.now c.args.rows.now c.args.wkeys.now c.in-Select.is c.requires.1.1 (c.fill.ensures.after (λ y e. e))

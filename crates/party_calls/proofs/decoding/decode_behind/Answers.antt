@@ -1,15 +1,13 @@
 -- `party_calls::decode_behind` meets its contract: accepted, what was written; refused, nothing. Assumes nothing.
+use Rattle.checks.proofs.Answers.{passed_on}
 use Rattle.party_calls.proofs.Decodes.{decodes_of, behind_written, behind_refused}
 use Rattle.party_calls.proofs.decoding.decode_behind.Goals as goal
 
-pub lent_checked-lent-requires : goal.lent_checked-lent-requires
-lent_checked-lent-requires c = c.requires.held
+pub returns-in_err-lent_checked : goal.returns-in_err-lent_checked
+returns-in_err-lent_checked c = behind_refused _ _ _ _ _ c.lent_checked.ensures (passed_on c.from_residual.ensures.1) c.in_err-lent_checked.was
 
 pub put_decoded-requires : goal.put_decoded-requires
-put_decoded-requires c = decodes_of c.requires c.args.party c.args.externals.now c.args.masks.now c.args.results.now c.lent_checked-lent.ensures c.followed-answer.ensures c.in-Accepted.is
+put_decoded-requires c = decodes_of _ _ _ _ _ c.lent_checked.ensures c.in_ok-lent_checked.was c.requires
 
-pub returns-in-Accepted : goal.returns-in-Accepted
-returns-in-Accepted c = behind_written c.requires c.args.party c.args.externals.now c.args.masks.now c.args.results.now c.lent_checked-lent.ensures c.followed-answer.ensures c.in-Accepted.is c.put_decoded.ensures
-
-pub returns-in-Refused : goal.returns-in-Refused
-returns-in-Refused c = behind_refused c.requires c.args.party c.args.externals.now c.args.masks.now c.args.results.now c.lent_checked-lent.ensures c.followed-answer.ensures c.in-Refused.is
+pub returns : goal.returns
+returns c = behind_written _ _ _ _ _ c.lent_checked.ensures c.in_ok-lent_checked.was c.put_decoded.ensures

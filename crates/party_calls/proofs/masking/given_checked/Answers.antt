@@ -1,13 +1,14 @@
 -- `party_calls::given_checked` meets its contract: a wrong length, or what the check of the bytes answers. Assumes nothing.
-use Rattle.session.proofs.LentLengths.{lengths_met}
-use Rattle.party_calls.proofs.OwnExternals.{own-lent, own-next, own-refused}
+use mathlib.Core.Path.{◌∙◌}
+use Rattle.checks.proofs.Answers.{stage_passed, stage_refused, passed_on}
+use Rattle.party_calls.proofs.OwnExternals.{own-lengths, own-lent}
 use Rattle.party_calls.proofs.masking.given_checked.Goals as goal
 
+pub returns-in_err-lengths_checked : goal.returns-in_err-lengths_checked
+returns-in_err-lengths_checked c = passed_on c.from_residual.ensures.1 ∙ stage_refused (own-lengths c.requires c.args.party _ _ _ c.inputs_of-own.ensures c.lengths_checked.ensures) _ c.in_err-lengths_checked.was
+
 pub own_checked-requires : goal.own_checked-requires
-own_checked-requires c = own-lent c.requires c.args.party c.args.values.now c.args.masks.now c.args.bytes c.inputs_of.ensures c.counted-own.ensures (lengths_met _ _ _ _ c.length_checked-plain.ensures (lengths_met _ _ _ _ c.length_checked-hidden.ensures c.length_checked-results.ensures c.followed.ensures) c.followed-lengths.ensures) c.in-Accepted.is
+own_checked-requires c = own-lent c.requires c.args.party _ _ c.args.bytes c.inputs_of-own.ensures c.lengths_checked.ensures c.in_ok-lengths_checked.was
 
-pub returns-in-Accepted : goal.returns-in-Accepted
-returns-in-Accepted c = own-next c.requires c.args.party c.args.values.now c.args.masks.now c.args.bytes c.inputs_of.ensures c.counted-own.ensures (lengths_met _ _ _ _ c.length_checked-plain.ensures (lengths_met _ _ _ _ c.length_checked-hidden.ensures c.length_checked-results.ensures c.followed.ensures) c.followed-lengths.ensures) c.in-Accepted.is c.own_checked.ensures
-
-pub returns-in-Refused : goal.returns-in-Refused
-returns-in-Refused c = own-refused c.requires c.args.party c.args.values.now c.args.masks.now c.args.bytes c.inputs_of.ensures c.counted-own.ensures (lengths_met _ _ _ _ c.length_checked-plain.ensures (lengths_met _ _ _ _ c.length_checked-hidden.ensures c.length_checked-results.ensures c.followed.ensures) c.followed-lengths.ensures) c.in-Refused.is
+pub returns : goal.returns
+returns c = stage_passed (own-lengths c.requires c.args.party _ _ _ c.inputs_of-own.ensures c.lengths_checked.ensures) c.in_ok-lengths_checked.was c.own_checked.ensures

@@ -6,19 +6,12 @@ use lib.ListN.{length, length-replicate}
 use Rattle.party_calls.proofs.OwnExternals.{own-most, own_met}
 use Rattle.party_calls.proofs.masking.own_checked.Goals as goal
 
-pub own_moduli-own-requires : goal.own_moduli-own-requires
-own_moduli-own-requires c = c.requires.room
-
-pub own_moduli-same-requires : goal.own_moduli-same-requires
-own_moduli-same-requires c = c.requires.room
-
 pub either_checked-requires : goal.either_checked-requires
 either_checked-requires c = let l = c.requires in
     let m = own-most l.room c.args.party in
     let t = c.own_moduli-own.ensures.long in
-    let u = c.own_moduli-same.ensures.long in
-    let z = ap length c.blank-everyone.ensures ∙ length-replicate {A = ℕ} 1024 0 in
-    record { left = omega (arith, m, t, l.values_size); right = omega (arith, m, u, l.masks_size); readers = omega (arith, m, z, l.masks_size) }
+    let z = ap length c.zeros-everyone.ensures ∙ length-replicate {A = ℕ} 1024 0 in
+    record { left = omega (arith, m, t, l.values_size); right = omega (arith, m, t, l.masks_size); readers = omega (arith, m, z, l.masks_size) }
 
 pub returns : goal.returns
-returns c = own_met c.requires c.own_moduli-own.ensures c.own_moduli-same.ensures c.blank-everyone.ensures c.either_checked.ensures
+returns c = own_met c.requires c.own_moduli-own.ensures c.zeros-everyone.ensures c.either_checked.ensures

@@ -12,15 +12,15 @@ pub returns-then-n-ge16384 : goal.returns-then-n-ge16384
 unfolding comes_to
 returns-then-n-ge16384 c = record { is = so_far_long c.loop-at.invariant c.loop-at-test.true c.if-n-ge16384.true; most = omega arith }
 
-pub put_word-requires : goal.put_word-requires
-put_word-requires c = omega (arith, c.loop-at.invariant.lines, c.loop-at.invariant.room, c.loop-at.invariant.kept, c.if-n-ge16384.false)
+pub put_at-requires : goal.put_at-requires
+put_at-requires c = omega (arith, c.loop-at.invariant.lines, c.loop-at.invariant.room, c.loop-at.invariant.kept, c.if-n-ge16384.false)
 
-pub returns-in-Bad : goal.returns-in-Bad
+pub returns-in-None : goal.returns-in-None
 unfolding comes_to
-returns-in-Bad c = record { is = so_far_bad c.loop-at.invariant c.loop-at-test.true c.if-n-ge16384.false (sym c.line_at.ensures ∙ c.in-Bad.is); most = omega arith }
+returns-in-None c = record { is = so_far_bad c.loop-at.invariant c.loop-at-test.true c.if-n-ge16384.false (sym c.line_at.ensures ∙ c.in-None.is); most = omega arith }
 
 pub loop-at-preserved : goal.loop-at-preserved
-loop-at-preserved c = so_far_good c.loop-at.invariant c.loop-at-test.true c.if-n-ge16384.false c.in-Good.word (sym c.line_at.ensures ∙ c.in-Good.is) c.put_word.ensures
+loop-at-preserved c = so_far_good c.loop-at.invariant c.loop-at-test.true c.if-n-ge16384.false c.in-Some.word (sym c.line_at.ensures ∙ c.in-Some.is) c.put_at.ensures
 
 pub returns : goal.returns
 unfolding comes_to

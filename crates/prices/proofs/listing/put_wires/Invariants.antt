@@ -1,11 +1,6 @@
--- `prices::listing::put_wires` meets its contract. Assumes nothing.
-use Prim.Native.Nat.{◌-◌, ◌≤◌}
-use Rattle.circuit.specs.Held.{wires_in}
+-- `prices::listing::put_wires` meets its contract: a loop that puts a line for each wire. Assumes nothing.
 use Rattle.prices.proofs.Table.{LinesSoFar}
 use Rattle.prices.proofs.listing.put_wires.Given as goal
 
 abbrev pub invariant-loop-w : goal.invariant-loop-w
-invariant-loop-w l = LinesSoFar (wires_in l.circuit) l.initial.out l.at l.w l.end l.out × (l.w ≤ l.circuit.made)
-
-abbrev pub decreases-loop-w : goal.decreases-loop-w
-decreases-loop-w l = l.circuit.made - l.w
+invariant-loop-w l = LinesSoFar l.wire-items l.initial.out l.at l.w l.end l.out

@@ -23,14 +23,14 @@ overflow_add-to c = omega (arith, steps_fits c.loop-party.invariant.1 c.loop-par
 pub piece-key-requires : goal.piece-key-requires
 piece-key-requires c = let a = c.args in key_fits a.inputs a.k a.each a.n c.loop-w.w c.loop-party.party c.loop-party.from a.mine.now c.requires.0 c.requires.1.0 c.loop-party.invariant.0 c.loop-w-test.true c.loop-party-test.true
 
-pub slice_bounds-copy-end : goal.slice_bounds-copy-end
-slice_bounds-copy-end c = omega (arith, steps_fits c.loop-party.invariant.1 c.loop-party-test.true)
+pub slice_bounds-copy_from_slice-end : goal.slice_bounds-copy_from_slice-end
+slice_bounds-copy_from_slice-end c = omega (arith, steps_fits c.loop-party.invariant.1 c.loop-party-test.true)
 
-pub copy-requires : goal.copy-requires
-copy-requires c = steps_long c.loop-party.invariant.1 c.loop-party-test.true refl ∙ sym c.piece-key.ensures.1
+pub copy_from_slice-requires : goal.copy_from_slice-requires
+copy_from_slice-requires c = steps_long c.loop-party.invariant.1 c.loop-party-test.true refl ∙ sym c.piece-key.ensures.1
 
 pub loop-party-preserved : goal.loop-party-preserved
-loop-party-preserved c = let a = c.args in (omega (arith, c.loop-party.invariant.0, times-next c.loop-party.party a.each), steps_call c.loop-party.invariant.1 c.loop-party-test.true refl c.copy.auto.out (c.copy.ensures ∙ c.piece-key.ensures.0 ∙ key-there a.inputs a.k a.each a.n c.loop-w.w c.loop-party.party c.loop-party.from a.mine.now c.requires.0 c.requires.1.0 c.loop-party.invariant.0 c.loop-w-test.true c.loop-party-test.true))
+loop-party-preserved c = let a = c.args in (omega (arith, c.loop-party.invariant.0, times-next c.loop-party.party a.each), steps_call c.loop-party.invariant.1 c.loop-party-test.true refl c.copy_from_slice.auto.self (c.copy_from_slice.ensures.after ∙ c.piece-key.ensures.0 ∙ key-there a.inputs a.k a.each a.n c.loop-w.w c.loop-party.party c.loop-party.from a.mine.now c.requires.0 c.requires.1.0 c.loop-party.invariant.0 c.loop-w-test.true c.loop-party-test.true))
 
 pub overflow_add-first : goal.overflow_add-first
 overflow_add-first c = let a = c.args in omega (arith, c.loop-w.invariant.0, c.requires.0, times-fits c.loop-w.w a.inputs a.k c.loop-w-test.true)

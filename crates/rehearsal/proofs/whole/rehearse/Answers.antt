@@ -5,16 +5,16 @@ use Rattle.rehearsal.proofs.Rehearses.{rehearses}
 use Rattle.rehearsal.proofs.whole.rehearse.Goals as goal
 
 pub sizes_of-sizes-requires : goal.sizes_of-sizes-requires
-sizes_of-sizes-requires c = (c.requires.0.parties.1, c.requires.0.key_length.1)
+sizes_of-sizes-requires c = record { accepted = c.requires.0.accepted; ranged = (c.requires.0.parties.1, c.requires.0.key_length.1) }
 
 pub mask_all-requires : goal.mask_all-requires
-mask_all-requires c = c.requires.1.externals_long
+mask_all-requires c = record { accepted = c.requires.0.accepted; externals_len = c.requires.1.externals_long }
 
 pub keys_of_all-requires : goal.keys_of_all-requires
 keys_of_all-requires c = keys_fit c.sizes_of-sizes.ensures c.requires.1 c.requires.0.contributions_length
 
 pub put_keys_by_input-requires : goal.put_keys_by_input-requires
-put_keys_by_input-requires c = put_fit c.sizes_of-sizes.ensures c.requires.1 c.counted-key.ensures c.keys_of_all.auto.mine
+put_keys_by_input-requires c = put_fit c.sizes_of-sizes.ensures c.requires.1 c.keys_of_all.auto.mine
 
 pub open_all-requires : goal.open_all-requires
 open_all-requires c = open_fit c.sizes_of-sizes.ensures c.requires.1 c.requires.0.contributions_length c.requires.0.parties.1
@@ -54,4 +54,4 @@ pub shape_of-evaluated : goal.shape_of-evaluated
 shape_of-evaluated c = c.lupiknam_plain-plainly.auto.outputs
 
 pub returns : goal.returns
-returns c = let s = c.sizes_of-sizes.ensures in rehearses c.requires.0 c.requires.1 c.lupiknam_garble-garbled.ensures c.mask_all.ensures (keyed_as s c.keys_of_all.ensures) (put_as s c.keys_of_all.new.mine c.counted-key.ensures c.put_keys_by_input.ensures) (opened_as s c.open_all.ensures) (decoded_as s c.decode_all.ensures) c.lupiknam_plain-plainly.ensures
+returns c = let s = c.sizes_of-sizes.ensures in rehearses c.requires.0 c.requires.1 c.lupiknam_garble-garbled.ensures c.mask_all.ensures (keyed_as s c.keys_of_all.ensures) (put_as s c.keys_of_all.new.mine c.put_keys_by_input.ensures) (opened_as s c.open_all.ensures) (decoded_as s c.decode_all.ensures) c.lupiknam_plain-plainly.ensures

@@ -1,14 +1,12 @@
--- `residue::primes::primes_below` meets its contract: the number of primes below `x` stays between `low` and `high`. Assumes nothing.
-use Prim.Native.Nat.{◌+◌, ◌/◌}
-use native.Mathlib.Omega.{arith}
-use Rattle.residue.proofs.Moduli.{entry-below, entry-from, byte-place}
+-- `residue::primes::primes_below` meets its contract: the library finds where the table's entries cease to be below `x`. Assumes nothing.
+use Rattle.std.proofs.Common.{rules, ltb}
+use Rattle.std.proofs.lemmas.List.Sorted.{IsPartitionPoint-from_clause, IsPartitionedBy-ltb}
+use Rattle.residue.proofs.Moduli.{rising, place_found}
 use Rattle.residue.proofs.primes.primes_below.Goals as goal
 
-pub loop-low-init : goal.loop-low-init
-loop-low-init c = (omega arith, omega arith, byte-place c.ranges.x.fits)
-
-pub loop-low-preserved-then-table-middle : goal.loop-low-preserved-then-table-middle
-loop-low-preserved-then-table-middle c = (omega arith, omega (arith, entry-below (c.prime_table-table.ensures.entry ((c.loop-low.low + c.loop-low.high) / 2) (omega arith)) c.if-table-middle.true), omega arith)
-
-pub loop-low-preserved : goal.loop-low-preserved
-loop-low-preserved c = (omega arith, omega arith, entry-from (c.prime_table-table.ensures.entry ((c.loop-low.low + c.loop-low.high) / 2) (omega arith)) c.if-table-middle.false)
+pub returns : goal.returns
+returns c =
+    let t = c.prime_table.ensures in
+    place_found t c.ranges.x.fits c.partition_point.ensures.bound
+    (IsPartitionPoint-from_clause (λ p. ltb p c.args.x) _ _ c.partition_point.ensures.partitioned (IsPartitionedBy-ltb (λ p. p) _ c.args.x (rising t))
+    (λ a r q k. search rules))

@@ -1,13 +1,14 @@
 -- `row_calls::garble_asked` meets its contract: out of range, or what the checks after it answer. Assumes nothing.
-use Rattle.circuit.specs.Held.{wires_in, outputs_in, named_in}
-use Rattle.row_calls.proofs.Garbles.{session_in_range, garble-next, garble_stop}
+use mathlib.Core.Path.{◌∙◌}
+use Rattle.checks.proofs.Answers.{stage_passed, stage_refused, passed_on}
+use Rattle.row_calls.proofs.Garbles.{session_in_range}
 use Rattle.row_calls.proofs.garbled.garble_asked.Goals as goal
 
+pub returns-in_err-session_checked : goal.returns-in_err-session_checked
+returns-in_err-session_checked c = passed_on c.from_residual.ensures.1 ∙ stage_refused c.session_checked.ensures _ c.in_err-session_checked.was
+
 pub garble_owned-requires : goal.garble_owned-requires
-garble_owned-requires c = (c.requires, session_in_range c.args.n c.args.k c.session_checked-session.ensures c.in-Accepted.is)
+garble_owned-requires c = (c.requires, session_in_range c.args.n c.args.k c.session_checked.ensures c.in_ok-session_checked.was)
 
-pub returns-in-Accepted : goal.returns-in-Accepted
-returns-in-Accepted c = garble-next c.args.n c.args.k c.session_checked-session.ensures (wires_in c.args.circuit) (outputs_in c.args.circuit) c.args.contributions.now (named_in c.args.circuit) c.args.lent.rows c.args.lent.inputs c.args.lent.outputs c.args.account c.in-Accepted.is c.garble_owned.ensures
-
-pub returns-in-Refused : goal.returns-in-Refused
-returns-in-Refused c = garble_stop c.args.n c.args.k c.session_checked-session.ensures (wires_in c.args.circuit) (outputs_in c.args.circuit) c.args.contributions.now (named_in c.args.circuit) c.args.lent.rows c.args.lent.inputs c.args.lent.outputs c.args.account c.in-Refused.is
+pub returns : goal.returns
+returns c = stage_passed c.session_checked.ensures c.in_ok-session_checked.was c.garble_owned.ensures

@@ -1,7 +1,8 @@
 -- `rows::factors::image_of` meets its contract: the byte that is read is the image, or the product that is made.
 -- Assumes nothing.
 use mathlib.Core.Path.{sym, ap, ◌∙◌}
-use Prim.Native.Nat.{◌+◌, ◌*◌}
+use Prim.Native.Nat.{ℕ, ◌+◌, ◌*◌}
+use lib.ListN.{get_or}
 use native.Mathlib.Omega.{arith}
 use Rattle.plain.proofs.Arms.{image-byte}
 use Rattle.counts.specs.Recipe.{image_of}
@@ -20,7 +21,8 @@ mul-requires c = c.requires.1
 pub returns-in-File : goal.returns-in-File
 unfolding image_of
 returns-in-File c = let a = c.args in
-    image-byte a.file.now (c.in-File.table + a.v) (c.type_inv.file (4 * (c.in-File.table + a.v))).fits
+    ap (λ (x : ℕ). get_or a.file.now (4 * (c.in-File.table + x)) 0) c.from.ensures
+    ∙ image-byte a.file.now (c.in-File.table + a.v) (c.type_inv.file (4 * (c.in-File.table + a.v))).fits
     ∙ ap (λ (i : Images). image_of a.file.now i a.q a.v) (sym c.in-File.is)
 
 pub returns-in-Squares : goal.returns-in-Squares

@@ -1,17 +1,23 @@
--- `session::first_absent` meets its contract: a loop that looks for the first. Assumes nothing.
-use mathlib.Core.Path.{◌∙◌}
-use Rattle.lists.proofs.Search.{looking_start, looking_on, looking_found, looking_none}
-use Rattle.session.proofs.Searches.{absent_is}
+-- `session::first_absent` meets its contract: a chain that looks for the first. Assumes nothing.
+use borrow.Author.Rules.{rules}
+use borrow.Author.Tests.{tests}
+use mathlib.Core.Path.{◌≡◌, ap, ◌∙◌}
+use Prim.Native.Nat.{ℕ}
+use Rattle.std.specs.Prelude.{Option}
+use Rattle.std.specs.List.{position}
+use Rattle.std.specs.Option.{unwrap_or}
+use Rattle.std.proofs.lemmas.Iterator.{YieldsList-from_slice}
+use Rattle.std.proofs.lemmas.Iterator.Search.{position_from_yields_List}
+use Rattle.lists.proofs.Positions.{first-position}
+use Rattle.words.specs.declared.gate.Wire.{Wire}
+use Rattle.circuit.specs.Wires.{no_wire}
+use Rattle.circuit.specs.Held.{wires_in}
+use Rattle.session.specs.Session.{owner_absent}
+use Rattle.counts.proofs.Wires.{made-in}
 use Rattle.session.proofs.owners.first_absent.Goals as goal
 
-pub loop-w-init : goal.loop-w-init
-loop-w-init c = looking_start
-
-pub returns-then-owner_absent : goal.returns-then-owner_absent
-returns-then-owner_absent c = looking_found c.loop-w.invariant c.loop-w-test.true (absent_is c.args.circuit c.loop-w-test.true c.args.n c.owner_absent.ensures ∙ c.if-owner_absent.true)
-
-pub loop-w-preserved : goal.loop-w-preserved
-loop-w-preserved c = looking_on c.loop-w.invariant c.loop-w-test.true (absent_is c.args.circuit c.loop-w-test.true c.args.n c.owner_absent.ensures ∙ c.if-owner_absent.false)
-
 pub returns : goal.returns
-returns c = looking_none c.loop-w.invariant c.loop-w-test.false
+returns c =
+    let e : c.position.result ≡ position (λ (wire : Wire). owner_absent c.args.n wire.gate) (wires_in c.args.circuit) =
+    position_from_yields_List (λ (wire : Wire). owner_absent c.args.n wire.gate) _ _ c.position.result c.position.ensures.ran (YieldsList-from_slice _ c.iter.ensures.rest) (λ x b q k. search (rules, tests)) in
+    first-position (λ (wire : Wire). owner_absent c.args.n wire.gate) no_wire (wires_in c.args.circuit) (made-in c.requires) (c.unwrap_or.ensures ∙ ap (λ (o : Option ℕ). unwrap_or o c.args.circuit.made) e)

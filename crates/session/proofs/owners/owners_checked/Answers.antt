@@ -2,8 +2,5 @@
 use Rattle.session.proofs.Searches.{owners_met}
 use Rattle.session.proofs.owners.owners_checked.Goals as goal
 
-pub first_absent-found-requires : goal.first_absent-found-requires
-first_absent-found-requires c = c.requires
-
 pub returns : goal.returns
-returns c = owners_met _ c.args.n c.requires c.first_absent-found.ensures c.named.ensures
+returns c = owners_met _ c.args.n c.requires c.first_absent.ensures c.named.ensures

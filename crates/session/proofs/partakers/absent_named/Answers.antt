@@ -1,13 +1,9 @@
--- `session::partakers::absent_named` meets its contract: the shifted 1 is the power of 2 of the definition. Assumes nothing.
-use mathlib.Core.Path.{ap}
-use Prim.Native.Nat.{ℕ}
+-- `session::partakers::absent_named` meets its contract: of eight parties none is absent. Assumes nothing.
+use mathlib.Core.Path.{◌∙◌}
 use native.Mathlib.Omega.{arith}
-use lib.Dec.{leb}
-use Rattle.session.proofs.Named.{all_take_part, shifted_one}
+use borrow.Author.Tests.{le-ltb}
+use Rattle.session.proofs.Named.{all_take_part}
 use Rattle.session.proofs.partakers.absent_named.Goals as goal
 
-pub returns-then-n-ge8 : goal.returns-then-n-ge8
-returns-then-n-ge8 c = all_take_part c.args.n c.args.parties c.if-n-ge8.true (omega (arith, c.well_formed))
-
-pub returns : goal.returns
-returns c = ap (λ (k : ℕ). leb k c.args.parties) (shifted_one c.args.n c.if-n-ge8.false)
+pub returns-else-n-lt8 : goal.returns-else-n-lt8
+returns-else-n-lt8 c = le-ltb c.args.n 8 c.if-n-lt8.false ∙ all_take_part c.args.n c.args.parties c.if-n-lt8.false (omega arith)

@@ -1,12 +1,14 @@
--- `session::partakers::partakers_checked` meets its contract: 28 follows 13. Assumes nothing.
-use Rattle.session.proofs.Named.{partakers_met}
+-- `session::partakers_checked` meets its contract: the owners first, and then those that outputs name. Assumes nothing.
+use mathlib.Core.Path.{◌∙◌}
+use Rattle.checks.proofs.Answers.{passed_on, stage_refused, stage_passed}
+use Rattle.circuit.specs.Held.{named_in}
+use Rattle.session.specs.Session.{named_checked, partakers_checked}
 use Rattle.session.proofs.partakers.partakers_checked.Goals as goal
 
-pub owners_checked-owners-requires : goal.owners_checked-owners-requires
-owners_checked-owners-requires c = c.requires.room
-
-pub named_checked-named-requires : goal.named_checked-named-requires
-named_checked-named-requires c = c.requires
+pub returns-in_err-owners_checked : goal.returns-in_err-owners_checked
+unfolding partakers_checked
+returns-in_err-owners_checked c = passed_on c.from_residual.ensures.1 ∙ stage_refused c.owners_checked.ensures (named_checked c.args.n (named_in c.args.circuit)) c.in_err-owners_checked.was
 
 pub returns : goal.returns
-returns c = partakers_met _ _ _ c.owners_checked-owners.ensures c.named_checked-named.ensures c.followed.ensures
+unfolding partakers_checked
+returns c = stage_passed c.owners_checked.ensures c.in_ok-owners_checked.was c.named_checked.ensures

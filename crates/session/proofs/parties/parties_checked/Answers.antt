@@ -1,12 +1,13 @@
 -- `session::parties_checked` meets its contract: one law for each way. Assumes nothing.
-use Rattle.session.proofs.Searches.{few-parties, many-parties, parties_met}
+use borrow.Author.Rules.{rules}
+use borrow.Author.Tests.{tests}
+use mathlib.Core.Path.{◌∙◌}
+use Rattle.checks.proofs.Answers.{refused_at}
+use Rattle.session.proofs.Searches.{parties_met, parties-out}
 use Rattle.session.proofs.parties.parties_checked.Goals as goal
 
-pub returns-then-n-lt2 : goal.returns-then-n-lt2
-returns-then-n-lt2 c = few-parties c.if-n-lt2.true
+pub returns-then-contains : goal.returns-then-contains
+returns-then-contains c = parties_met (search (rules, tests)) (search (rules, tests))
 
-pub returns-then-n-gt8 : goal.returns-then-n-gt8
-returns-then-n-gt8 c = many-parties c.if-n-gt8.true
-
-pub returns : goal.returns
-returns c = parties_met c.if-n-lt2.false c.if-n-gt8.false
+pub returns-else-contains : goal.returns-else-contains
+returns-else-contains c = refused_at c.at.ensures ∙ parties-out {n = c.args.n} (search (rules, tests))

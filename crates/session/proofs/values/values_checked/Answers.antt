@@ -2,8 +2,5 @@
 use Rattle.session.proofs.Searches.{values_met}
 use Rattle.session.proofs.values.values_checked.Goals as goal
 
-pub first_too_large-found-requires : goal.first_too_large-found-requires
-first_too_large-found-requires c = c.requires
-
 pub returns : goal.returns
-returns c = values_met _ c.args.values.now c.requires.0 c.first_too_large-found.ensures c.named.ensures
+returns c = values_met _ c.args.values.now c.requires.0 c.first_too_large.ensures c.named.ensures

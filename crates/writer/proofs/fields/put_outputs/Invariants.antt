@@ -1,13 +1,8 @@
--- `writer::put_outputs` meets its contract: a loop that fills blocks of eight. Assumes nothing.
-use Prim.Native.Nat.{◌-◌}
-use lib.ListN.{get_or}
-use Rattle.lists.proofs.Steps.{Level}
+-- `writer::fields::put_outputs`: the first i records are those of the first i outputs.
+-- Assumes nothing.
+use Rattle.std.proofs.Common.{◌≡◌, ℕ, ◌<◌, get_or}
 use Rattle.writer.specs.Listed.{output_record}
-use Rattle.writer.specs.Listing.{numbers_of}
 use Rattle.writer.proofs.fields.put_outputs.Given as goal
 
 abbrev pub invariant-loop-i : goal.invariant-loop-i
-invariant-loop-i l = Level l.initial.fields 0 l.i l.circuit.given 8 (λ j. numbers_of (output_record (get_or l.circuit.outputs j 0) (get_or l.circuit.named j 0))) l.at l.fields
-
-abbrev pub decreases-loop-i : goal.decreases-loop-i
-decreases-loop-i l = l.circuit.given - l.i
+invariant-loop-i l = (k : ℕ) → k < l.i → get_or l.records k (output_record 0 0) ≡ output_record (get_or l.outputs k 0) (get_or l.named k 0)

@@ -1,13 +1,8 @@
--- `writer::copy_images` meets its contract: a loop that fills the table image by image. Assumes nothing.
-use Prim.Native.Nat.{◌-◌, ◌+◌}
-use lib.ListN.{length}
-use Rattle.lists.specs.Blocks.{tab}
-use Rattle.lists.proofs.Filled.{Filled}
+-- `writer::images::copy_images`: the first v bytes are images of the file.
+-- Assumes nothing.
+use Rattle.std.proofs.Common.{◌≡◌, ℕ, ◌+◌, ◌<◌, get_or}
 use Rattle.words.specs.Bits.{word_at, image}
 use Rattle.writer.proofs.images.copy_images.Given as goal
 
 abbrev pub invariant-loop-v : goal.invariant-loop-v
-invariant-loop-v l = Filled l.initial.table l.v (length l.initial.table) (tab (length l.initial.table) (λ i. image (word_at l.file (l.first + i)))) l.table
-
-abbrev pub decreases-loop-v : goal.decreases-loop-v
-decreases-loop-v l = length l.initial.table - l.v
+invariant-loop-v l = (k : ℕ) → k < l.v → get_or l.table k 0 ≡ image (word_at l.file (l.first + k))

@@ -1,12 +1,9 @@
--- `writer::entries_in` meets its contract: a loop that adds up the sizes of the tables. Assumes nothing.
-use Prim.Native.Nat.{◌-◌}
+-- `writer::images::entries_in`: the sizes of the first tables are added up.
+-- Assumes nothing.
 use Rattle.circuit.specs.Held.{wires_in}
 use Rattle.counts.proofs.Counting.{Summed}
 use Rattle.writer.specs.Listing.{entries_of}
 use Rattle.writer.proofs.images.entries_in.Given as goal
 
-abbrev pub invariant-loop-w : goal.invariant-loop-w
-invariant-loop-w l = Summed 255 (entries_of (wires_in l.circuit)) l.circuit.made l.w l.total
-
-abbrev pub decreases-loop-w : goal.decreases-loop-w
-decreases-loop-w l = l.circuit.made - l.w
+abbrev pub invariant-loop-wire : goal.invariant-loop-wire
+invariant-loop-wire l = Summed 255 (entries_of (wires_in l.fn.circuit)) l.fn.circuit.made l.wire-index l.total

@@ -5,10 +5,10 @@ use Rattle.writer.specs.Desk.{desk}
 use Rattle.writer.proofs.Desks.{lay_off, lay_on}
 use Rattle.writer.proofs.items.lay_branches.Goals as goal
 
-pub returns-in-Accepted : goal.returns-in-Accepted
-returns-in-Accepted c = let a = c.args in
-    lay_on a.lay a.place (Branches a.a a.b) (desk a.pen a.moduli.now a.file.now) c.in-Accepted.is c.branches_on.ensures
+pub returns-in-Ok : goal.returns-in-Ok
+returns-in-Ok c = let a = c.args in
+    lay_on a.lay a.place (Branches a.a a.b) (desk a.pen a.moduli.now a.file.now) c.in-Ok.is c.branches_on.ensures
 
-pub returns-in-Refused : goal.returns-in-Refused
-returns-in-Refused c = let a = c.args in
-    lay_off a.lay a.place (Branches a.a a.b) (desk a.pen a.moduli.now a.file.now) c.in-Refused.is
+pub returns-in-Err : goal.returns-in-Err
+returns-in-Err c = let a = c.args in
+    lay_off a.lay a.place (Branches a.a a.b) (desk a.pen a.moduli.now a.file.now) c.in-Err.is

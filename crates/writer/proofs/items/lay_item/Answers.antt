@@ -7,10 +7,10 @@ use Rattle.writer.proofs.items.lay_item.Goals as goal
 pub item_on-requires : goal.item_on-requires
 item_on-requires c = c.requires
 
-pub returns-in-Accepted : goal.returns-in-Accepted
-returns-in-Accepted c = let a = c.args in
-    lay_on a.lay a.place a.item (desk a.pen a.moduli.now a.file.now) c.in-Accepted.is c.item_on.ensures
+pub returns-in-Ok : goal.returns-in-Ok
+returns-in-Ok c = let a = c.args in
+    lay_on a.lay a.place a.item (desk a.pen a.moduli.now a.file.now) c.in-Ok.is c.item_on.ensures
 
-pub returns-in-Refused : goal.returns-in-Refused
-returns-in-Refused c = let a = c.args in
-    lay_off a.lay a.place a.item (desk a.pen a.moduli.now a.file.now) c.in-Refused.is
+pub returns-in-Err : goal.returns-in-Err
+returns-in-Err c = let a = c.args in
+    lay_off a.lay a.place a.item (desk a.pen a.moduli.now a.file.now) c.in-Err.is

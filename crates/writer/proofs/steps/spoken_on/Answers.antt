@@ -10,10 +10,10 @@ pub rest_on-requires : goal.rest_on-requires
 rest_on-requires c = let a = c.args in
     (steady-laid a.lay a.place _ (desk a.pen a.moduli.now a.file.now) c.lay_item-begun.ensures c.requires.steady, omega (arith, near_enough c.requires, at-laid a.lay a.place _ (desk a.pen a.moduli.now a.file.now) c.lay_item-begun.ensures))
 
-pub returns-in-Nothing : goal.returns-in-Nothing
-returns-in-Nothing c = let a = c.args in
-    nothing-done a.lay a.tables.now a.place (desk a.pen a.moduli.now a.file.now) c.in-Nothing.is (c.refuse.ensures a.moduli.now a.file.now)
+pub returns-in-None : goal.returns-in-None
+returns-in-None c = let a = c.args in
+    nothing-done a.lay a.tables.now a.place (desk a.pen a.moduli.now a.file.now) c.in-None.is (c.refuse.ensures a.moduli.now a.file.now)
 
-pub returns-in-Says : goal.returns-in-Says
-returns-in-Says c = let a = c.args in
-    says-done a.lay a.tables.now a.place (desk a.pen a.moduli.now a.file.now) c.in-Says.is c.lay_item-begun.ensures c.rest_on.ensures
+pub returns-in-Some : goal.returns-in-Some
+returns-in-Some c = let a = c.args in
+    says-done a.lay a.tables.now a.place (desk a.pen a.moduli.now a.file.now) c.in-Some.is c.lay_item-begun.ensures c.rest_on.ensures

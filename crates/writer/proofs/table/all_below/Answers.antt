@@ -1,16 +1,15 @@
--- `writer::table::all_below` meets its contract: what is left to judge comes to the same.
--- Assumes nothing.
+-- `writer::table::all_below`. Assumes nothing.
 use mathlib.Core.Path.{refl, ◌∙◌}
 use native.Mathlib.Omega.{arith}
-use borrow.Author.Rules.{rules}
 use Rattle.writer.proofs.Tables.{below_next, below-done}
 use Rattle.writer.proofs.table.all_below.Goals as goal
 
-pub loop-i-init : goal.loop-i-init
-loop-i-init c = (search rules, refl)
+pub loop-image-init : goal.loop-image-init
+loop-image-init c = refl
 
-pub loop-i-preserved : goal.loop-i-preserved
-loop-i-preserved c = (omega arith, below_next c.args.modulus c.args.images.now c.loop-i.i c.loop-i.good (omega arith) ∙ c.loop-i.invariant.1)
+pub loop-image-preserved : goal.loop-image-preserved
+loop-image-preserved c =
+    below_next c.args.modulus c.args.images.now c.loop-image.image-index c.loop-image.good (omega arith) ∙ c.loop-image.invariant
 
 pub returns : goal.returns
-returns c = below-done c.args.modulus c.args.images.now c.loop-i.i c.loop-i.good (omega arith) ∙ c.loop-i.invariant.1
+returns c = below-done c.args.modulus c.args.images.now c.loop-image.image-index c.loop-image.good (omega arith) ∙ c.loop-image.invariant

@@ -4,14 +4,14 @@ use Rattle.std.proofs.Common.{◌≡◌, length, arith}
 use Rattle.writer.proofs.Walks.{start, ready, more}
 use Rattle.writer.proofs.walk.over.Goals as goal
 
-pub loop-i-init : goal.loop-i-init
-loop-i-init c = record { in_range = omega arith; walked = start c.requires c.begin-pen.ensures }
+pub loop-entry-init : goal.loop-entry-init
+loop-entry-init c = start c.requires c.begin-pen.ensures
 
 pub step-pen-requires : goal.step-pen-requires
-step-pen-requires c = ready c.loop-i.invariant.walked
+step-pen-requires c = ready c.loop-entry.invariant
 
-pub loop-i-preserved : goal.loop-i-preserved
-loop-i-preserved c = record { in_range = omega arith; walked = more c.loop-i-test.true c.loop-i.invariant.walked c.step-pen.ensures }
+pub loop-entry-preserved : goal.loop-entry-preserved
+loop-entry-preserved c = more c.loop-entry-test.true c.loop-entry.invariant c.step-pen.ensures
 
 pub returns : goal.returns
-returns c = let all : c.loop-i.i ≡ length c.args.records.now = omega arith in rw (← all) c.loop-i.invariant.walked
+returns c = let all : c.loop-entry.entry-index ≡ length c.args.records.now = omega arith in rw (← all) c.loop-entry.invariant

@@ -1,7 +1,6 @@
 -- `zero::masks::wire_masks` meets its contract: element by element, a wire each, with the cursor over the records.
 -- Assumes nothing.
 use mathlib.Core.Path.{◌≡◌}
-use Prim.Native.Nat.{◌-◌}
 use lib.ListN.{length, replicate}
 use Rattle.lists.proofs.Filled.{Filled}
 use Rattle.circuit.specs.Held.{wires_in}
@@ -11,7 +10,4 @@ use Rattle.zero.specs.Ready.{drawn_in}
 use Rattle.zero.proofs.masks.wire_masks.Given as goal
 
 abbrev pub invariant-loop-w : goal.invariant-loop-w
-invariant-loop-w l = (l.at ≡ record_at l.k (wires_in l.circuit) l.w) × (length l.masks ≡ 1024) × (l.initial.masks ≡ replicate 1024 0) × Filled l.initial.masks l.w l.circuit.made (masks_to (wires_in l.circuit) (drawn_in l.circuit l.n l.k l.contributions) l.circuit.made) l.masks
-
-abbrev pub decreases-loop-w : goal.decreases-loop-w
-decreases-loop-w l = l.circuit.made - l.w
+invariant-loop-w l = (l.at ≡ record_at l.drawn.k (wires_in l.fn.circuit) l.w) × (length l.masks ≡ 1024) × (l.initial.masks ≡ replicate 1024 0) × Filled l.initial.masks l.w l.fn.circuit.made (masks_to (wires_in l.fn.circuit) (drawn_in l.fn.circuit l.drawn.n l.drawn.k l.drawn.contributions.now) l.fn.circuit.made) l.masks

@@ -1,8 +1,0 @@
--- `counts::modulus_of` meets its contract: past the end a look-up gives 0. Assumes nothing.
-use mathlib.Core.Path.{sym}
-use lib.ListN.{get_or-eq_default}
-use borrow.Author.Rules.{rules}
-use Rattle.counts.proofs.count.modulus_of.Goals as goal
-
-pub returns-else-at-moduli : goal.returns-else-at-moduli
-returns-else-at-moduli c = record { is = sym (get_or-eq_default c.args.moduli.now 0 c.if-at-moduli.false); most = search rules }

@@ -1,6 +1,0 @@
--- `lupiknam_open` meets its contract: the call's answer as number and place. Assumes nothing.
-use Rattle.engine.proofs.Faces.{told_so}
-use Rattle.engine.proofs.garbled.lupiknam_open.Goals as goal
-
-pub returns : goal.returns
-returns c = let d = c.open_rows-answer.ensures in record { answer = told_so c.open_rows-answer.result d.answer c.told.ensures; wire_keys_is = d.wire_keys_is; wire_externals_is = d.wire_externals_is }

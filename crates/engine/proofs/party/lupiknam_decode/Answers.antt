@@ -1,6 +1,0 @@
--- `lupiknam_decode` meets its contract: the call's answer as number and place. Assumes nothing.
-use Rattle.engine.proofs.Faces.{told_so}
-use Rattle.engine.proofs.party.lupiknam_decode.Goals as goal
-
-pub returns : goal.returns
-returns c = let d = c.decode-answer.ensures in record { answer = told_so c.decode-answer.result d.answer c.told.ensures; results_is = d.results_is }

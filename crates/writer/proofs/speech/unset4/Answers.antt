@@ -1,9 +1,0 @@
--- `writer::speech::unset4` meets its contract.
--- Assumes nothing.
-use mathlib.Core.Path.{ap}
-use mathlib.Core.Bool.{Bool, ◌&&◌}
-use lib.Dec.{eqb}
-use Rattle.writer.proofs.speech.unset4.Goals as goal
-
-pub returns : goal.returns
-returns c = ap (λ (b : Bool). eqb c.args.p 0 && b) c.unset3.ensures
