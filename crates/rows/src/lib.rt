@@ -11,4 +11,4 @@ mod rows;
 pub use factors::{image_of, linear_factors, table_factors};
 pub use gates::{Made, choice_rows, product_rows, table_rows};
 pub use keyed::Keyed;
-pub use rows::{Row, put_row};
+pub use rows::{Line, Row, put_keyed_row, put_row};

@@ -22,8 +22,8 @@ const RATE_LANES: usize = 17;
 // The lanes of the state, and the place in the block, 0 to 135, of the next byte.
 #[derive(Clone, Copy)]
 pub struct Sponge {
-    lanes: [u64; 25],
-    at: usize,
+    pub lanes: [u64; 25],
+    pub at: usize,
 }
 
 impl Model for Sponge {

@@ -21,4 +21,7 @@ mod writing;
 pub use entry::Record;
 pub use laying::{put_entries, put_word};
 pub use listing::list;
+pub use pen::Pen;
+pub use settling::{lay_end, settle};
+pub use walk::over;
 pub use writing::write;
