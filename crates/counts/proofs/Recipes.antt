@@ -6,7 +6,7 @@ use mathlib.Core.Bool.{Bool, true, false}
 use mathlib.Core.List.{List}
 use Prim.Native.Nat.{ℕ, ◌+◌, ◌*◌, ◌/◌, ◌<◌}
 use native.Mathlib.Omega.{arith}
-use borrow.Author.Tests.{ltb-true, eqb-true, eq-eqb}
+use borrow.Author.Tests.{ltb-true, eqb-true, eq-eqb, ne_eqb}
 use lib.Dec.{ltb, eqb}
 use lib.ListN.{length}
 use Rattle.words.specs.declared.gate.Gate.{Gate}
@@ -19,7 +19,7 @@ use Rattle.circuit.specs.Accepted.{Alike, GateFits, PairFits, ScalingFits, Choic
 use Rattle.circuit.proofs.Moduli.{wire-positive}
 use Rattle.residue.proofs.Vectors.{mul-below}
 use Rattle.counts.specs.declared.recipe.Images.{Images}
-use Rattle.counts.specs.declared.recipe.Images.TheVariants.{File}
+use Rattle.counts.specs.declared.recipe.Images.TheVariants.{File, Squares}
 use Rattle.counts.specs.declared.recipe.Lookup.{Lookup}
 use Rattle.counts.specs.declared.recipe.Recipe.{Recipe}
 use Rattle.counts.specs.declared.recipe.Recipe.TheVariants.{Entered, Sum, Multiple, Table, Product, Choice}
@@ -35,9 +35,15 @@ by-gate wire e = ap (λ (g : Gate). recipe_of g wire.modulus) e
 pub a_square : (g : Pair) (p : ℕ) → g.a ≡ g.b → square_or_product g p ≡ square_of g.a p
 a_square g p e = rw (eq-eqb g.a g.b e)
 
+pub a-product : (g : Pair) (p : ℕ) → (g.a ≡ g.b → ⊥) → square_or_product g p ≡ Product g
+a-product g p e = rw (ne_eqb g.a g.b e)
+
 -- and where its modulus is compared with 2, that of a square
 pub a_copy : (a p : ℕ) → p ≡ 2 → square_of a p ≡ Multiple (record { constant = 1; a = a })
 a_copy a p e = rw (eq-eqb p 2 e)
+
+pub a-table : (a p : ℕ) → (p ≡ 2 → ⊥) → square_of a p ≡ Table (record { a = a; images = Squares })
+a-table a p e = rw (ne_eqb p 2 e)
 
 -- where the sort of images is known: those of a file stand there
 held-inside : {file : List ℕ} {v table : ℕ} → ImageHeld file v (File table) → 4 * (table + v) < length file

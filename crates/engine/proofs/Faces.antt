@@ -13,6 +13,11 @@ use Rattle.circuit.specs.File.{read_file}
 use Rattle.read_calls.specs.declared.summary.Summary.{Summary}
 use Rattle.read_calls.specs.Summary.{Summarizes}
 use Rattle.read_calls.specs.Read.{ReadCall}
+use Rattle.pair.specs.Count.{pair_rows_in}
+use Rattle.pair.specs.Bytes.{pair_file_checked}
+use Rattle.pair.specs.Read.{PairReadCall}
+use Rattle.pair_calls.specs.Counted.{CountsRows}
+use Rattle.writer.specs.Closing.{words_told, Tells}
 use Rattle.engine.specs.Told.{value_told, Told}
 
 -- what a call that gives a value answers, from what it ensures of the value and of a refusal
@@ -61,3 +66,20 @@ module _ (file : List ℕ) (wires inputs outputs rows moduli keys : ℕ) {number
         moduli_is = afterwards-refused e _ moduli;
         record_keys_is = afterwards-refused e _ keys;
       }
+
+-- reading a circuit for two
+module _ (file : List ℕ) (rows : ℕ) {number place : ℕ} where
+  pub pair-accepted : {found : ℕ} → CountsRows file found → (number ≡ 0) × (place ≡ 0) → PairReadCall file rows number place found
+  pair-accepted k f = record { answer = told (sym k.accepted) f.0 f.1; rows_is = k.rows_is ∙ sym (afterwards_passed k.accepted _ rows) }
+
+  pub pair-refused : {why : Refused} → pair_file_checked file ≡ Err why → (number ≡ number_of why.reason) × (place ≡ why.place)
+      → PairReadCall file rows number place rows
+  pair-refused e f = record { answer = told (sym e) f.0 f.1; rows_is = afterwards-refused e (pair_rows_in (read_file file).wires) rows }
+
+-- what is told of a file that was written
+words_so : (found : Result ℕ Refused) (before : ℕ) → value_told found before ≡ words_told found before
+words_so (Ok n) before = refl
+words_so (Err why) before = refl
+
+pub words_tell : {found : Result ℕ Refused} {before number place after : ℕ} → Told found before number place after → Tells found before number place after
+words_tell {found} {before} t = record { number_is = t.number_is; place_is = t.place_is; words_is = t.after_is ∙ words_so found before }

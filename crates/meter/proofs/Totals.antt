@@ -1,15 +1,17 @@
 -- The meter's two checks pass exactly where there is such an account and where it has space; a charge moves the named total alone.
 -- Assumes nothing.
-use mathlib.Core.Path.{◌≡◌}
-use Prim.Native.Nat.{ℕ, ◌+◌, ◌<◌}
-use borrow.Author.Tests.{leb-true, le-leb, ltb-true, lt-ltb}
+use mathlib.Core.Path.{◌≡◌, sym}
+use Prim.Native.Nat.{ℕ, ◌+◌, ◌-◌, ◌≤◌, ◌<◌}
+use native.Mathlib.Omega.{arith}
+use borrow.Author.Tests.{leb-true, le-leb, lt-leb, ltb-true, lt-ltb, le-ltb}
 use lib.Dec.{leb, ltb}
 use lib.ListN.{length, get_or, length-set}
 use lib.Seq.{get_or-set_same, get_or-set_other}
 use Rattle.checks.specs.declared.Refusal.TheVariants.{MeterFull, NoSuchAccount}
 use Rattle.checks.proofs.Passed.{unless_passed, unless-true}
+use Rattle.checks.proofs.Answers.{unless-refused}
 use Rattle.meter.specs.Meter.{meter_limit, accounts, Charge, named_total, account_checked, HasSpace, meter_checked, charged}
-use Rattle.checks.specs.Answer.{accepts}
+use Rattle.checks.specs.Answer.{accepts, refuses}
 
 -- ---- 25
 
@@ -22,6 +24,10 @@ module _ (account : ℕ) where
   unfolding account_checked
   passed_account e = ltb-true account accounts (unless-true (ltb account accounts) NoSuchAccount 0 e)
 
+  pub no_account_met : accounts ≤ account → refuses NoSuchAccount 0 ≡ account_checked account
+  unfolding account_checked
+  no_account_met h = sym (unless-refused NoSuchAccount 0 (le-ltb account accounts h))
+
 -- ---- 21, and the charge
 
 module _ (meter : Charge) (rows : ℕ) where
@@ -32,6 +38,12 @@ module _ (meter : Charge) (rows : ℕ) where
   pub passed_space : meter_checked meter rows ≡ accepts → HasSpace meter rows
   unfolding meter_checked
   passed_space e = leb-true (named_total meter + rows) meter_limit (unless-true (leb (named_total meter + rows) meter_limit) MeterFull 0 e)
+
+  -- what the code compares: the named total with what the rows leave of the limit
+  module _ {total : ℕ} (is : total ≡ named_total meter) (few : rows ≤ meter_limit) where
+    pub full_met : meter_limit - rows < total → refuses MeterFull 0 ≡ meter_checked meter rows
+    unfolding meter_checked
+    full_met h = sym (unless-refused MeterFull 0 (lt-leb (named_total meter + rows) meter_limit (omega (arith, is))))
 
   pub charged-length : length (charged meter rows) ≡ length meter.totals
   charged-length = length-set meter.totals meter.account (named_total meter + rows)

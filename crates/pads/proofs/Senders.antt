@@ -3,11 +3,12 @@
 use mathlib.Core.Path.{◌≡◌, refl, sym, ap, ◌∙◌}
 use mathlib.Core.Bool.{Bool, not}
 use mathlib.Core.List.{List}
-use Prim.Native.Nat.{ℕ, ◌+◌, ◌<◌}
+use Prim.Native.Nat.{ℕ, ◌+◌, ◌*◌, ◌≤◌, ◌<◌}
 use native.Mathlib.Numerals.{add-one}
 use native.Mathlib.Omega.{arith}
 use lib.ListN.{length}
 use Rattle.lists.specs.Blocks.{nth_piece}
+use Rattle.lists.proofs.Sums.{times-fits}
 use Rattle.residue.specs.Vector.{add_v, AllBelow}
 use Rattle.pads.specs.declared.input.Bound.{Bound}
 use Rattle.pads.specs.Moved.{moved, Asked}
@@ -47,6 +48,10 @@ module _ (minus : Bool) (q : ℕ) (b : Bound) (receiver : ℕ) (keys : List ℕ)
     module _ (j : ℕ) {out : List ℕ} (e : out ≡ sums minus q b receiver keys before j) where
       pub sums-length : length out ≡ length before
       sums-length = ap length e ∙ moved_length minus q before (pads (length before) j) (sym (pads_length (length before) j))
+
+      -- sender j has a key
+      pub sums-fits : {n : ℕ} → j < n → length keys ≡ n * length before → j * length out + length out ≤ length keys
+      sums-fits {n} h l = rw (sums-length, l) (times-fits j n (length before) h)
 
       pub sums_asked : Asked q (length before) before → Asked q (length out) out
       sums_asked a = record { modulus = a.modulus; short = omega (arith, sums-length); below = rw e (moved-below minus (omega arith) before (pads (length before) j)) }

@@ -6,7 +6,7 @@ use mathlib.Core.List.{List}
 use Prim.Native.Nat.{ℕ}
 use native.Mathlib.Omega.{arith}
 use lib.ListN.{get_or}
-use Rattle.std.specs.Prelude.{Err}
+use Rattle.std.specs.Prelude.{Ok, Err}
 use Rattle.checks.specs.declared.Refused.{Refused}
 use Rattle.checks.specs.Answer.{Answer, number_in, place_in, accepts}
 use Rattle.checks.specs.Checked.{Reports, and_then, afterwards}
@@ -20,6 +20,13 @@ use Rattle.circuit.specs.Held.{wires_in, outputs_in, Holds}
 use Rattle.circuit.proofs.Accepted.{accepted}
 use Rattle.session.specs.Session.{file_checked, lengths_checked}
 use Rattle.session.proofs.Sessions.{lengths_same}
+
+-- ---- one stage of checks, and then the next: what follows both follows the second
+
+pub stage_within : (a b c : Answer) → and_then (and_then a b) c ≡ and_then a (and_then b c)
+unfolding and_then
+stage_within (Ok done) b c = refl
+stage_within (Err why) b c = refl
 
 -- ---- where the lengths pass, each is the one wanted
 

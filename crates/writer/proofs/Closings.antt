@@ -12,7 +12,7 @@ use borrow.Author.Tests.{leb-true, le-leb, lt-leb}
 use Rattle.checks.specs.declared.Refusal.{Refusal}
 use Rattle.checks.specs.declared.Refusal.TheVariants.{NotDue, NoOutput, WrongLength, TooShort}
 use Rattle.checks.specs.Answer.{accepts, refuses}
-use Rattle.checks.proofs.Answers.{afterwards-refused, unless-refused, and_then_stop, and_then-next}
+use Rattle.checks.proofs.Answers.{afterwards-refused, unless-refused, and_then_stop, and_then-next, told}
 use Rattle.checks.proofs.Passed.{and_then_passed, unless_passed, afterwards_passed}
 use Rattle.words.specs.declared.gate.Due.{Due}
 use Rattle.words.specs.declared.gate.Step.TheVariants.{Ends}
@@ -22,11 +22,11 @@ use Rattle.words.specs.Encode.{word_of}
 use Rattle.writer.specs.declared.entry.Record.{Record}
 use Rattle.writer.specs.declared.pen.Pen.{Pen}
 use Rattle.writer.specs.Written.{Draft, after_item, laid, Written, refused, wrote, all_taken, closed, write_from, write_records}
-use Rattle.writer.specs.Call.{file_with, answer_of, words_of, words_written, write_checked}
+use Rattle.writer.specs.Call.{file_with, answer_of, words_of, words_written, write_checked, WriteCall}
 use Rattle.writer.specs.Desk.{put_word}
 use Rattle.writer.specs.Walked.{Between, Walked}
 use Rattle.writer.specs.Settling.{Fair, room_for, all_taken_by, some_given_by, settled_from, Settles}
-use Rattle.writer.specs.Closing.{Writes}
+use Rattle.writer.specs.Closing.{Writes, Finished, Tells}
 use Rattle.writer.proofs.HoldingFiles.{put_front}
 use Rattle.writer.proofs.Walks.{ready}
 use Rattle.std.specs.Prelude.{Result, Ok, Err}
@@ -178,8 +178,8 @@ module _ {records : List Record} {tables file₀ file₁ : List ℕ} where
         omega (arith, leb-true (4 * length (d.words ++ (word_of End ∷ []))) (length file₀) fits, length-append d.words (word_of End ∷ []), ap length same) in
         words_so d.words (e ∙ ap wrote (sym words)) (long ∙ ap length (sym words)) fits h.at (h.laid refl enough)
 
-module _ {records : List Record} {tables file₀ : List ℕ} {judged : Pen} {moduli₁ file₁ : List ℕ} {settled : Result ℕ Refused} where
-  walked : Walked false tables file₀ records (length records) judged moduli₁ file₁ → Settles judged (length tables) (length file₀) settled
+module _ {records : List Record} {tables file₀ : List ℕ} {judged : Pen} {moduli₁ file₁ : List ℕ} where
+  walked : {settled : Result ℕ Refused} → Walked false tables file₀ records (length records) judged moduli₁ file₁ → Settles judged (length tables) (length file₀) settled
       → Comes records tables (length file₀) settled
   unfolding settled_from
   walked (Walked.stops answer so r kept) s =
@@ -192,12 +192,28 @@ module _ {records : List Record} {tables file₀ : List ℕ} {judged : Pen} {mod
       ∙ ap (λ (n : ℕ). outcome (ltb 0 n) (length records) d.tables (d.words ++ (word_of End ∷ []))) (sym h.given)
       ∙ ap (λ (l : List ℕ). outcome (ltb 0 judged.given) (length records) l (d.words ++ (word_of End ∷ []))) (sym ahead)))
 
-  pub writes_not : {why : Refused} {words : Result ℕ Refused} → Walked false tables file₀ records (length records) judged moduli₁ file₁
-      → Settles judged (length tables) (length file₀) settled → settled ≡ Err why → words ≡ Err why → Writes records tables file₀ words file₁
-  writes_not {words = words} w s e f = subst (λ (r : Result ℕ Refused). Writes records tables file₀ r file₁) (sym f) (stopped_so (kept_file w refl) (subst (Comes records tables (length file₀)) e (walked w s)))
+  pub written : {settled : Result ℕ Refused} {file : List ℕ} → Walked false tables file₀ records (length records) judged moduli₁ file₁
+      → Settles judged (length tables) (length file₀) settled → Finished records tables file₁ settled file → Writes records tables file₀ settled file
+  written w s (Finished.laid {pen = pen} {file₂ = file₂} w₂ end) = laid_so pen file₂ (kept_file w refl) end (walked w s) w₂
+  written w s (Finished.kept same) = stopped_so (same ∙ kept_file w refl) (walked w s)
 
-  pub writes : {n : ℕ} {laid : Pen} {moduli₂ file₂ file : List ℕ} → Walked false tables file₀ records (length records) judged moduli₁ file₁
-      → Settles judged (length tables) (length file₀) settled → settled ≡ Ok n
-      → Walked true tables file₁ records (length records) laid moduli₂ file₂ → file ≡ put_word file₂ laid.at (word_of End)
-      → Writes records tables file₀ (Ok n) file
-  writes {laid = laid} {file₂ = file₂} w s e w₂ end = laid_so laid file₂ (kept_file w refl) end (subst (Comes records tables (length file₀)) e (walked w s)) w₂
+-- .. and told, that is what the call promises, refused or not
+pub told_call : {records : List Record} {tables file₀ file : List ℕ} {words₀ number place words : ℕ} (settled : Result ℕ Refused)
+    → Writes records tables file₀ settled file → Tells settled words₀ number place words → WriteCall records tables file₀ words₀ number place file words
+told_call {words₀ = words₀} (Ok n) k t =
+    record {
+      answer = told k.answer t.number_is t.place_is;
+      file_is = k.file_is;
+      words_is = t.words_is ∙ k.words_are ∙ sym (afterwards_passed (sym k.answer) _ words₀);
+    }
+told_call {words₀ = words₀} (Err why) k t =
+    record {
+      answer = told k.answer t.number_is t.place_is;
+      file_is = k.file_is;
+      words_is = t.words_is ∙ afterwards-refused (sym k.answer) _ words₀;
+    }
+
+pub writes : {records : List Record} {tables file₀ : List ℕ} {judged : Pen} {moduli₁ file₁ : List ℕ} {settled : Result ℕ Refused} {words₀ number place words : ℕ} {file : List ℕ}
+    → Walked false tables file₀ records (length records) judged moduli₁ file₁ → Settles judged (length tables) (length file₀) settled
+    → Finished records tables file₁ settled file → Tells settled words₀ number place words → WriteCall records tables file₀ words₀ number place file words
+writes {settled = settled} w s f t = told_call settled (written w s f) t
