@@ -9,7 +9,7 @@ use super::blank::empty;
 use super::naming::named_before;
 use super::table::{after_run, entries_here};
 use checks::{Refusal, Refused};
-use lists::zeros;
+use lists::scratch;
 use words::{Due, Gate, Step, read_word, word_at};
 
 // How many inputs a gate is: 1 or 0.
@@ -37,7 +37,7 @@ pub fn read(file: &[u8]) -> Result<Circuit, Refused>
     let words = file.len() / 4;
     let mut circuit = empty();
     // The wires' moduli, one beside each: a word is judged by these alone, also where the writer judges it, which has no wires.
-    let mut moduli = zeros::<1024>();
+    let mut moduli = scratch::<1024>();
     let mut made: usize = 0;
     let mut inputs: usize = 0;
     let mut given: usize = 0;

@@ -5,7 +5,7 @@ ghost use Rattle.garbling.specs.Source.{Front, Gathers, Operand, Offsets, Own, H
 
 use super::turn::Turn;
 use contribution::offset_place;
-use lists::{nth_piece, zeros};
+use lists::{nth_piece, scratch};
 use rows::Keyed;
 use zero::Drawn;
 
@@ -28,7 +28,7 @@ impl Sources<'_> {
         ensures { Front turn (keys_at turn.n turn.k turn.size self.entry.contributions.now at) result }
     {
         let bytes = turn.n * turn.k;
-        let mut keys = zeros();
+        let mut keys = scratch();
         let drawn = Drawn {
             n: turn.n,
             k: turn.k,
@@ -71,7 +71,7 @@ impl Sources<'_> {
     {
         let bytes = turn.n * turn.k;
         let at = usize::from(a);
-        let mut key = zeros();
+        let mut key = scratch();
         key[..bytes].copy_from_slice(nth_piece(self.keys, bytes, at));
         Keyed {
             key,

@@ -14,7 +14,7 @@ use super::turn::Turn;
 use circuit::Circuit;
 use contribution::{first_record, record_size};
 use counts::{recipe_of, record_count, row_bytes};
-use lists::zeros;
+use lists::scratch;
 use session::Session;
 use zero::{Drawn, wire_masks, zero_keys};
 
@@ -86,7 +86,7 @@ pub fn garble(
 {
     let bytes = circuit.made * (session.n * session.k);
     // Zero keys of 1,024 wires, 8 parties and 128 bytes each.
-    let mut work = zeros::<1048576>();
+    let mut work = scratch::<1048576>();
     let drawn = Drawn {
         n: session.n,
         k: session.k,

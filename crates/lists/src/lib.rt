@@ -1,4 +1,4 @@
-// Bytes of lent buffers: cut out and put in, and arrays of zeros. Every crate that fills a buffer rests on these functions, on the definitions in
+// Bytes of lent buffers: cut out and put in, and arrays to begin with. Every crate that fills a buffer rests on these functions, on the definitions in
 // `specs/Blocks` (blocks one after another, a table, a part, a list written into another), and on the laws in `proofs/`: of a part (`Parts`), of sums
 // of sizes (`Sums`), of blocks (`Blocks`) and of what was written (`Written`). `Filled`, `Wrote` and `Steps` there are loop invariants with their laws,
 // and each says at its top how a loop that fills a buffer is proved with it. This crate rests on the kit alone.
@@ -34,7 +34,14 @@ pub fn put_at(out: &mut [u8], at: usize, from: &[u8])
     out[at..to].copy_from_slice(from);
 }
 
-// So many zero bytes. A function of its own, so that a proof about an array has its length and not its elements before it.
+// So many bytes to work in. No promise says what is in them, so that a proof can rest only on what was written there before it is read.
+pub fn scratch<const N: usize>() -> [u8; N]
+    ensures { length result ≡ N }
+{
+    [0; N]
+}
+
+// So many zero bytes, for one who needs zeros. A function of its own, so that a proof about an array has its length and not its elements before it.
 pub fn zeros<const N: usize>() -> [u8; N]
     ensures { result ≡ replicate N 0 }
 {

@@ -12,7 +12,7 @@ use super::turn::Turn;
 use circuit::Circuit;
 use contribution::{first_record, offset_place, ranks, record_size};
 use counts::{Recipe, moduli, modulus_of, recipe_of, row_bytes};
-use lists::{piece, put_at, zeros};
+use lists::{piece, put_at, scratch};
 use session::Seat;
 
 // The modulus of the wire that a table is over, given the moduli of all wires.
@@ -59,7 +59,7 @@ fn put_wire(turn: Turn, how: Recipe, lent: Lent, wkeys: &mut [u8], wexternals: &
         wkeys.old wexternals.old result wkeys.new wexternals.new }
 {
     let m = turn.n * turn.k;
-    let mut made = zeros::<1024>();
+    let mut made = scratch::<1024>();
     put_from(turn, how, lent, &mut made[..m], wkeys, wexternals)
 }
 

@@ -14,7 +14,7 @@ use super::gates::{open_choice, open_product, open_table};
 use super::own::own_multiplier;
 use super::turn::Turn;
 use counts::Lookup;
-use lists::{nth_piece, zeros};
+use lists::{nth_piece, scratch};
 use residue::add_multiple;
 use words::{Choice, Pair};
 
@@ -110,7 +110,7 @@ impl Before<'_> {
         ensures { Made turn (open_by turn nothing lent.entry.contribution.now lent.entry.rows.now self.entry.keys.now self.entry.externals.now (Chosen g)) out.new result }
     {
         let m = turn.n * turn.k;
-        let mut d = zeros::<1024>();
+        let mut d = scratch::<1024>();
         let found = self.held_back(turn, g, lent, &mut d[..m], &mut *out);
         if found < turn.modulus {
             self.added(turn, g.a, found, out)

@@ -9,7 +9,7 @@ ghost use Rattle.pair_garbling.specs.Source.{Ranged, Three, product_key, product
 use super::halves::{Half, make_half};
 use super::turn::Turn;
 use counts::Images;
-use lists::zeros;
+use lists::scratch;
 use residue::{add_multiple, mul};
 use rows::{linear_factors, table_factors};
 
@@ -59,7 +59,7 @@ fn add_second(half: Half, key: &mut [u8], out: &mut [u8])
     ensures { (key.new ≡ add_v half.entry.at.modulus key.old (key_by half.entry.at (second_of half.entry.at half.entry.zero.now half.entry.offset.now half.entry.vector.now)))
         × (out.new ≡ rows_by half.entry.at (second_of half.entry.at half.entry.zero.now half.entry.offset.now half.entry.vector.now)) }
 {
-    let mut room = zeros::<128>();
+    let mut room = scratch::<128>();
     let work = &mut room[..half.at.k];
     second_half(half, &mut *work, out);
     add_multiple(half.at.modulus, 1, &*work, key);

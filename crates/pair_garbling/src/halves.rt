@@ -2,7 +2,7 @@
 ghost use Rattle.std.specs.Prelude.{◌≡◌, ◌-◌, ◌*◌, length};
 ghost use Rattle.pair_garbling.specs.Halves.{Fits, Vectors, key_under, rows_under, key_made, rows_made};
 
-use lists::zeros;
+use lists::scratch;
 use pair_checks::HalfAt;
 use residue::{add_multiple, key_of, mul, scale};
 use rows::{Row, put_row};
@@ -61,7 +61,7 @@ pub fn make_half(half: Half, factors: [u8; 256], key: &mut [u8], out: &mut [u8])
 {
     let q = half.at.under;
     let minus = mul(q, q - 1, half.zero[0]);
-    let mut room = zeros::<128>();
+    let mut room = scratch::<128>();
     let work = &mut room[..half.at.k];
     key_of(q, half.zero, minus, half.offset, &mut *work);
     put_key(half.at, factors[0], &*work, half.vector, &mut *key);

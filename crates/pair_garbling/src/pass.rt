@@ -11,7 +11,7 @@ use super::turn::Turn;
 use super::wires::put_gate;
 use circuit::Circuit;
 use counts::moduli_used;
-use lists::zeros;
+use lists::scratch;
 use pair_checks::rows_size;
 use session::Session;
 use words::Gate;
@@ -24,7 +24,7 @@ fn put_wire(gate: Gate, turn: Turn, source: Source, keys: &mut [u8], rows: &mut 
         keys.old keys.new
         × (rows.new ≡ rows_here turn source.entry.file.now source.entry.draw.now source.entry.ranks.now source.entry.moduli.now keys.old gate) }
 {
-    let mut room = zeros::<128>();
+    let mut room = scratch::<128>();
     let key = &mut room[..turn.k];
     put_gate(gate, turn, source, &*keys, &mut *key, rows);
     lists::put_at(keys, turn.place, &*key);
@@ -97,7 +97,7 @@ pub fn garble(
     ensures { (rows.new ≡ rows_garbled session.k session.round circuit file.now draw.now)
         × (outputs.new ≡ masks_garbled session.k session.round circuit file.now draw.now) }
 {
-    let mut work = zeros::<131072>();
+    let mut work = scratch::<131072>();
     let keys = &mut work[..circuit.made * session.k];
     put_wires(circuit, file, session, draw, &mut *keys, rows);
     put_masks(circuit, session.k, &*keys, outputs);

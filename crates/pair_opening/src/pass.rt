@@ -11,7 +11,7 @@ use super::turn::Turn;
 use super::wire::open_wire;
 use circuit::Circuit;
 use counts::{moduli, modulus_of};
-use lists::{piece, put_at, zeros};
+use lists::{piece, put_at, scratch};
 use pair_checks::rows_size;
 use session::Session;
 use words::Gate;
@@ -41,7 +41,7 @@ fn put_wire(
     ensures { Stored turn (open_at turn keys.now rows.now wkeys.old gate)
         wkeys.old wexternals.old wkeys.new wexternals.new }
 {
-    let mut room = zeros::<128>();
+    let mut room = scratch::<128>();
     let out = &mut room[..turn.k];
     open_wire(turn, gate, keys, rows, &*wkeys, &mut *out);
     let w = turn.wire as usize;

@@ -8,7 +8,7 @@ ghost use Rattle.pair_opening.specs.Step.{product_at};
 
 use super::half::open_half;
 use super::turn::Turn;
-use lists::{piece, zeros};
+use lists::{piece, scratch};
 use residue::add_multiple;
 
 // out := out + the second half, whose rows stand behind the first's
@@ -18,7 +18,7 @@ fn add_second(turn: Turn, b: &[u8], rows: &[u8], out: &mut [u8])
         (open_half (shake_pad turn.round) turn.k turn.wire 1 turn.modulus turn.modulus rows.now b.now) }
 {
     let p = turn.modulus;
-    let mut room = zeros::<128>();
+    let mut room = scratch::<128>();
     let work = &mut room[..turn.k];
     open_half(turn.half(p, 1), b, rows, &mut *work);
     add_multiple(p, 1, &*work, out);

@@ -6,7 +6,7 @@ use mathlib.Core.List.{List, ◌++◌}
 use Prim.Native.Nat.{ℕ, ◌+◌, ◌-◌, ◌≤◌, ◌<◌}
 use native.Mathlib.Decide.{dec_lt}
 use native.Mathlib.Omega.{arith}
-use lib.ListN.{length, get_or, set, replicate, length-replicate, length-set}
+use lib.ListN.{length, get_or, set, replicate, length-set}
 use lib.Seq.{get_or-take, get_or-set_same, get_or-set_other, length-take-le}
 use Rattle.lists.specs.Blocks.{tab, sum_to}
 use Rattle.lists.proofs.Blocks.{length-tab, get_or-tab}
@@ -21,9 +21,6 @@ use Rattle.counts.proofs.Wires.{padded-modulus}
 use Rattle.calls.specs.Externals.{own_inputs}
 use Rattle.calls.proofs.OwnInputs.{owns, place_of, own-length, own_at}
 use Rattle.party_calls.specs.Tables.{Front}
-
-blank-long : {out : List ℕ} → out ≡ replicate 1024 0 → length out ≡ 1024
-blank-long e = ap length e ∙ length-replicate {A = ℕ} 1024 0
 
 -- ---- the wires
 
@@ -46,18 +43,18 @@ module _ (wires : List Wire) (outputs : List ℕ) where
   abbrev pub FilledOutputs : List ℕ → ℕ → List ℕ → Type 0
   FilledOutputs out₀ i out = Filled out₀ i (length outputs) (tab (length outputs) output_modulus) out
 
-  pub outputs_start : {out₀ : List ℕ} → length outputs ≤ 1024 → out₀ ≡ replicate 1024 0 → FilledOutputs out₀ 0 out₀
-  outputs_start h e = filled_start (length-tab (length outputs) output_modulus) (omega (arith, blank-long e))
+  pub outputs_start : {out₀ : List ℕ} → length outputs ≤ 1024 → length out₀ ≡ 1024 → FilledOutputs out₀ 0 out₀
+  outputs_start h e = filled_start (length-tab (length outputs) output_modulus) (omega (arith, e))
 
   pub outputs-step : {out₀ out : List ℕ} {i v : ℕ} → FilledOutputs out₀ i out → i < length outputs → v ≡ modulus_at wires (get_or outputs i 0)
       → FilledOutputs out₀ (i + 1) (set out i v)
   outputs-step {out₀} {out} {i} {v} r h k = filled_step r h (get_or-tab (length outputs) output_modulus i 0 h ∙ sym k)
 
-  pub outputs-front : {out₀ out : List ℕ} {i : ℕ} → out₀ ≡ replicate 1024 0 → FilledOutputs out₀ i out → length outputs ≤ i
+  pub outputs-front : {out₀ out : List ℕ} {i : ℕ} → length out₀ ≡ 1024 → FilledOutputs out₀ i out → length outputs ≤ i
       → Front 1024 (length outputs) output_modulus out
   outputs-front {out₀} {out} {i} e r h =
       record {
-        long = r.kept ∙ blank-long e;
+        long = r.kept ∙ e;
         entry = λ j l. sym (get_or-take (length outputs) out j 0 l)
             ∙ ap (λ (xs : List ℕ). get_or xs j 0) (filled_front r h)
             ∙ get_or-tab (length outputs) output_modulus j 0 l;
@@ -72,9 +69,9 @@ pub record OwnTo (party : ℕ) (wires : List Wire) (w count : ℕ) (out : List �
   pub entry : (j : ℕ) → j < count → get_or out j 0 ≡ modulus_at wires (get_or (own_inputs party wires) j 0)
 
 module _ (party : ℕ) (wires : List Wire) where
-  pub own_start : {out : List ℕ} → out ≡ replicate 1024 0 → OwnTo party wires 0 0 out
+  pub own_start : {out : List ℕ} → length out ≡ 1024 → OwnTo party wires 0 0 out
   unfolding sum_to
-  own_start e = record { counted = refl; most = omega arith; long = blank-long e; entry = λ j l. absurd (omega arith) }
+  own_start e = record { counted = refl; most = omega arith; long = e; entry = λ j l. absurd (omega arith) }
 
   module _ {w count v : ℕ} {out : List ℕ} (few : length wires ≤ 1024) (r : OwnTo party wires w count out) (h : w < length wires)
       (k : Counts 1 (mark (owned_by party (wire_at wires w).gate)) v) where

@@ -7,7 +7,7 @@ ghost use Rattle.party_calls.specs.Tables.{Front};
 
 use circuit::Circuit;
 use counts::{moduli, modulus_of, owned};
-use lists::zeros;
+use lists::scratch;
 
 // The modulus of each output's wire.
 pub fn output_moduli(circuit: Circuit) -> [u8; 1024]
@@ -15,7 +15,7 @@ pub fn output_moduli(circuit: Circuit) -> [u8; 1024]
     ensures { Front 1024 circuit.given (λ i. modulus_at (wires_in circuit) (get_or (outputs_in circuit) i 0)) result }
 {
     let table = moduli(circuit);
-    let mut out = zeros::<1024>();
+    let mut out = scratch::<1024>();
     for (i, wire) in circuit.outputs[..circuit.given].iter().enumerate() {
         out[i] = modulus_of(&table, *wire);
     }
@@ -27,7 +27,7 @@ pub fn own_moduli(circuit: Circuit, party: u32) -> [u8; 1024]
     requires { Room circuit }
     ensures { Front 1024 (length (own_inputs party (wires_in circuit))) (λ i. modulus_at (wires_in circuit) (get_or (own_inputs party (wires_in circuit)) i 0)) result }
 {
-    let mut out = zeros::<1024>();
+    let mut out = scratch::<1024>();
     let mut count = 0;
     for wire in &circuit.wires[..circuit.made] {
         out[count] = wire.modulus;

@@ -4,7 +4,7 @@ use mathlib.Core.Path.{◌≡◌, refl, sym, ap, subst, ◌∙◌}
 use mathlib.Core.List.{List}
 use Prim.Native.Nat.{ℕ, ◌+◌, ◌≤◌, ◌<◌}
 use native.Mathlib.Omega.{arith}
-use lib.ListN.{length, get_or, set, replicate, length-replicate}
+use lib.ListN.{length, get_or, set}
 use lib.Seq.{length-take-le}
 use Rattle.lists.specs.Blocks.{tab}
 use Rattle.lists.specs.Grown.{grown}
@@ -19,9 +19,9 @@ use Rattle.plain.specs.Ready.{Done, Gives}
 -- ---- the values of all wires
 
 module _ {file : List ℕ} {wires : List Wire} {values : List ℕ} where
-  pub values_start : {done : List ℕ} → done ≡ replicate 1024 0 → Done file wires values 0 done
+  pub values_start : {done : List ℕ} → length done ≡ 1024 → Done file wires values 0 done
   unfolding plain_to grown
-  values_start e = record { kept = ap length e ∙ length-replicate {A = ℕ} 1024 0; front = refl }
+  values_start e = record { kept = e; front = refl }
 
   pub values-done : {w made : ℕ} {done : List ℕ} → Done file wires values w done → w ≤ length wires → length wires ≤ w → length wires ≡ made → Done file wires values made done
   values-done {w} {made} {done} r h k m =

@@ -7,14 +7,14 @@ ghost use Rattle.plain.specs.Ready.{Feeds, Done, Gives};
 
 use super::gate::wire_value;
 use circuit::Circuit;
-use lists::zeros;
+use lists::scratch;
 
 // Each wire's value, in the order of the wires.
 pub fn wire_values(circuit: Circuit, file: &[u8], values: &[u8]) -> [u8; 1024]
     requires { Feeds file.now circuit values.now circuit.given }
     ensures { Done file.now (wires_in circuit) values.now circuit.made result }
 {
-    let mut done = zeros();
+    let mut done = scratch();
     for (w, wire) in circuit.wires[..circuit.made].iter().enumerate() {
         done[w] = wire_value(*wire, w, file, values, &done);
     }

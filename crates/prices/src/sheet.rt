@@ -7,7 +7,7 @@ ghost use Rattle.prices.specs.Placed.{Placed};
 use super::lines::{Unread, read_lines};
 use super::listing::put_circuit;
 use super::text::{put_number, put_text};
-use lists::zeros;
+use lists::scratch;
 
 fn put_bad_line(out: &mut [u8], n: usize) -> usize
     requires { 16384 ≤ length out.old }
@@ -30,7 +30,7 @@ pub fn price_list(text: &[u8], out: &mut [u8]) -> usize
     requires { 16384 ≤ length out.old }
     ensures { Placed out.old 0 (price_list text.now) result out.new }
 {
-    let mut file = zeros::<65536>();
+    let mut file = scratch::<65536>();
     match read_lines(text, &mut file) {
         Ok(n) => put_circuit(out, &file[..n]),
         Err(Unread::BadLine(n)) => put_bad_line(out, n),

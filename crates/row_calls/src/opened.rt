@@ -14,7 +14,7 @@ use circuit::{Circuit, read};
 use contribution::{
     contribution_size, contributions_checked, keys_checked, offsets_checked, rows_checked,
 };
-use lists::{nth_piece, zeros};
+use lists::{nth_piece, scratch};
 use opening::open_wires;
 use party_calls::put_keys;
 use search::same_bytes;
@@ -190,7 +190,7 @@ fn first_wrong(
     requires { Given circuit seat.n seat.k seat.party contribution.now externals.now keys.now rows.now }
     ensures { result ≡ first_wrong seat.n seat.k seat.party (wires_in circuit) contribution.now externals.now keys.now }
 {
-    let mut work = zeros::<131072>();
+    let mut work = scratch::<131072>();
     let bytes = circuit.inputs * seat.k;
     first_unlike(
         circuit,

@@ -6,7 +6,7 @@ ghost use Rattle.counts.specs.Images.{ImageHeld, ImagesFit};
 ghost use Rattle.rows.specs.Made.{Factors};
 
 use counts::Images;
-use lists::zeros;
+use lists::scratch;
 use residue::{add, mul, sub};
 
 // A factor for each alpha below `p`, as `of` says it.
@@ -14,7 +14,7 @@ fn factors<F: Fn(u8) -> u8>(p: u8, of: F) -> [u8; 256]
     requires { (α : ℕ) → α < p → F.pre of α }
     ensures { (f : ℕ → ℕ) → ((α v : ℕ) → α < p → F.post of α v → v ≡ f α) → Factors p f result }
 {
-    let mut factors = zeros();
+    let mut factors = scratch();
     for alpha in 0..p {
         factors[usize::from(alpha)] = of(alpha);
     }

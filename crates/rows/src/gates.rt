@@ -8,7 +8,7 @@ use crate::factors::{linear_factors, table_factors};
 use crate::keyed::Keyed;
 use crate::rows::{Line, Row, component_rows, put_keyed_row};
 use counts::Images;
-use lists::zeros;
+use lists::scratch;
 use pads::Bound;
 use residue::{add, mul, sub};
 
@@ -172,7 +172,7 @@ fn chooser_row(
     ensures { out.new ≡ chooser_made made offset.now pair.now (held_in made bit).key alpha (held_in made x) }
 {
     let m = made.n * made.k;
-    let mut work = zeros::<1024>();
+    let mut work = scratch::<1024>();
     let keys = Line {
         base: &bit.key[..m],
         step: pair,

@@ -4,7 +4,7 @@ ghost use Rattle.residue.specs.Vector.{key_v};
 ghost use Rattle.scheme.specs.Keyed.{less};
 ghost use Rattle.rows.specs.Made.{Operand, keyed_of};
 
-use lists::zeros;
+use lists::scratch;
 use residue::{key_of, sub};
 
 // The keys of all parties on a wire, one after another at the front of the array, and the wire's mask; or such a pair of a record.
@@ -20,7 +20,7 @@ fn keys_of(p: u8, zero: &[u8], e: u8, offset: &[u8]) -> [u8; 1024]
     ensures { (length result ≡ 1024) × (take (length zero.now) result ≡ key_v p zero.now e offset.now) }
 {
     let m = zero.len();
-    let mut out = zeros::<1024>();
+    let mut out = scratch::<1024>();
     key_of(p, zero, e, offset, &mut out[..m]);
     out
 }

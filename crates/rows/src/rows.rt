@@ -4,7 +4,7 @@ ghost use Rattle.residue.specs.Vector.{key_v};
 ghost use Rattle.session.specs.Sizes.{Vector};
 ghost use Rattle.rows.specs.Made.{Room, Four, row_of, component_rows};
 
-use lists::zeros;
+use lists::scratch;
 use pads::Bound;
 use residue::key_of;
 
@@ -59,7 +59,7 @@ pub fn component_rows(row: Row, factors: [u8; 256], keys: Line, messages: Line, 
     ensures { out.new ≡ component_rows row factors keys.entry.base.now keys.entry.step.now messages.entry.base.now messages.entry.step.now }
 {
     let m = keys.base.len();
-    let mut work = zeros::<1024>();
+    let mut work = scratch::<1024>();
     let mut at = 0;
     for alpha in 0..row.bound.modulus {
         let to = at + m;

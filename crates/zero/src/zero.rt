@@ -10,7 +10,7 @@ use super::shares::Drawn;
 use circuit::Circuit;
 use contribution::{first_record, record_size};
 use counts::{Recipe, recipe_of};
-use lists::{nth_piece, put_at, zeros};
+use lists::{nth_piece, put_at, scratch};
 use words::{Choice, Pair, Scaling, Wire};
 
 fn sum(p: u8, gate: Pair, keys: &[u8], out: &mut [u8])
@@ -68,7 +68,7 @@ fn put_wire(wire: Wire, at: usize, to: usize, drawn: Drawn, keys: &mut [u8])
     ensures { Put drawn.entry.n drawn.entry.k to (key_here drawn.entry.n drawn.entry.k drawn.entry.size at drawn.entry.contributions.now keys.old wire) keys.old keys.new }
 {
     let m = drawn.n * drawn.k;
-    let mut key = zeros::<1024>();
+    let mut key = scratch::<1024>();
     put_zero_key(wire, at, drawn, &*keys, &mut key[..m]);
     put_at(keys, to, &key[..m]);
 }

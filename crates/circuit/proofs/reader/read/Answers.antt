@@ -5,7 +5,7 @@ use mathlib.Core.Path.{◌≡◌, refl, ◌∙◌, sym, ap}
 use mathlib.Core.Bool.{Bool, true, false, cond}
 use Prim.Native.Nat.{ℕ, ◌≤◌, ◌<◌}
 use native.Mathlib.Omega.{arith}
-use lib.ListN.{take, length, length-replicate}
+use lib.ListN.{take}
 use lib.Seq.{length-take-le}
 use mathlib.Core.List.{List}
 use Rattle.words.specs.declared.gate.Due.{Due}
@@ -36,7 +36,7 @@ pub returns-then-not-has_head : goal.returns-then-not-has_head
 returns-then-not-has_head c = record { ok = tt; err = refused-there _ (no_head _ (sym c.if-not-has_head.ensures)) c.at.ensures }
 
 pub loop-at-init : goal.loop-at-init
-loop-at-init c = (refl, start _ _ _ _ (ap (λ (e : Circuit). e.wires) c.empty-circuit.ensures) (ap length c.zeros-moduli.ensures ∙ length-replicate {A = ℕ} 1024 0) (ap (λ (e : Circuit). e.outputs) c.empty-circuit.ensures) (sym c.if-not-has_head.ensures))
+loop-at-init c = (refl, start _ _ _ _ (ap (λ (e : Circuit). e.wires) c.empty-circuit.ensures) c.scratch-moduli.ensures (ap (λ (e : Circuit). e.outputs) c.empty-circuit.ensures) (sym c.if-not-has_head.ensures))
 
 pub loop-at-preserved-then-run-gt0 : goal.loop-at-preserved-then-run-gt0
 loop-at-preserved-then-run-gt0 c = let l = c.loop-at.invariant.1 in (

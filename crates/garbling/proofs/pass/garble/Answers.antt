@@ -1,8 +1,7 @@
-use mathlib.Core.Path.{refl, sym, ap, subst, ◌∙◌}
+use mathlib.Core.Path.{refl, sym, subst, ◌∙◌}
 use mathlib.Core.List.{List}
 use Prim.Native.Nat.{ℕ, ◌*◌}
 use native.Mathlib.Omega.{arith}
-use lib.ListN.{length, length-replicate}
 use lib.Seq.{length-take-le}
 use Rattle.lists.proofs.Wrote.{wrote_front, wrote_take}
 use Rattle.contribution.proofs.Sizes.{vector-fits}
@@ -28,32 +27,32 @@ pub returns : goal.returns
 returns c = (c.put_rows.ensures, (c.put_input_masks.ensures ∙ inputs_are c.requires.contributed c.wire_masks-masks.ensures c.requires.rows_len.1.0, c.put_sheets.ensures ∙ sheets_are c.requires.contributed c.wire_masks-masks.ensures))
 
 pub slice_bounds-work-end : goal.slice_bounds-work-end
-slice_bounds-work-end c = omega (arith, keys_fit c.requires.contributed, ap length c.zeros-work.ensures ∙ length-replicate {A = ℕ} 1048576 0)
+slice_bounds-work-end c = omega (arith, keys_fit c.requires.contributed, c.scratch-work.ensures)
 
 pub slice_bounds-zero_keys-end : goal.slice_bounds-zero_keys-end
 slice_bounds-zero_keys-end c = let a = c.args in
-    sym (length-take-le (a.circuit.made * (a.session.n * a.session.k)) _ (omega (arith, keys_fit c.requires.contributed, ap length c.zeros-work.ensures ∙ length-replicate {A = ℕ} 1048576 0)))
+    sym (length-take-le (a.circuit.made * (a.session.n * a.session.k)) _ (omega (arith, keys_fit c.requires.contributed, c.scratch-work.ensures)))
 
 pub zero_keys-requires : goal.zero_keys-requires
 zero_keys-requires c = let a = c.args in
     record {
       contributed = c.requires.contributed;
-      keys_len = length-take-le (a.circuit.made * (a.session.n * a.session.k)) _ (omega (arith, keys_fit c.requires.contributed, ap length c.zeros-work.ensures ∙ length-replicate {A = ℕ} 1048576 0));
+      keys_len = length-take-le (a.circuit.made * (a.session.n * a.session.k)) _ (omega (arith, keys_fit c.requires.contributed, c.scratch-work.ensures));
     }
 
 pub slice_bounds-work-end-2 : goal.slice_bounds-work-end-2
 slice_bounds-work-end-2 c = let a = c.args in
-    let q = wrote_front _ (a.circuit.made * (a.session.n * a.session.k)) {ys = c.zero_keys.new.keys} (omega (arith, keys_fit c.requires.contributed, ap length c.zeros-work.ensures ∙ length-replicate {A = ℕ} 1048576 0)) c.zero_keys.auto.keys refl in
+    let q = wrote_front _ (a.circuit.made * (a.session.n * a.session.k)) {ys = c.zero_keys.new.keys} (omega (arith, keys_fit c.requires.contributed, c.scratch-work.ensures)) c.zero_keys.auto.keys refl in
     omega (arith, q.kept, q.room)
 
 pub slice_bounds-keys-end : goal.slice_bounds-keys-end
 slice_bounds-keys-end c = let a = c.args in
-    let q = wrote_front _ (a.circuit.made * (a.session.n * a.session.k)) {ys = c.zero_keys.new.keys} (omega (arith, keys_fit c.requires.contributed, ap length c.zeros-work.ensures ∙ length-replicate {A = ℕ} 1048576 0)) c.zero_keys.auto.keys refl in
+    let q = wrote_front _ (a.circuit.made * (a.session.n * a.session.k)) {ys = c.zero_keys.new.keys} (omega (arith, keys_fit c.requires.contributed, c.scratch-work.ensures)) c.zero_keys.auto.keys refl in
     sym (length-take-le (a.circuit.made * (a.session.n * a.session.k)) _ (omega (arith, q.kept, q.room)))
 
 pub put_rows-requires : goal.put_rows-requires
 put_rows-requires c = let a = c.args in
-    let q = wrote_front _ (a.circuit.made * (a.session.n * a.session.k)) {ys = c.zero_keys.new.keys} (omega (arith, keys_fit c.requires.contributed, ap length c.zeros-work.ensures ∙ length-replicate {A = ℕ} 1048576 0)) c.zero_keys.auto.keys refl in
+    let q = wrote_front _ (a.circuit.made * (a.session.n * a.session.k)) {ys = c.zero_keys.new.keys} (omega (arith, keys_fit c.requires.contributed, c.scratch-work.ensures)) c.zero_keys.auto.keys refl in
     record {
       contributed = c.requires.contributed;
       zero_keys = (subst (λ (l : List ℕ). ZeroKeys a.circuit a.session.n a.session.k a.contributions.now l) (sym (wrote_take q)) c.zero_keys.ensures, c.wire_masks-masks.ensures);

@@ -1,16 +1,14 @@
 -- `pair_garbling::pass::garble` meets its contract: the masks are read in the zero keys of all wires.
 -- Assumes nothing.
-use mathlib.Core.Path.{ap, ◌∙◌}
+use mathlib.Core.Path.{◌∙◌}
 use native.Mathlib.Omega.{arith}
-use Prim.Native.Nat.{ℕ}
-use lib.ListN.{length, length-replicate}
 use Rattle.pair_garbling.proofs.Masks.{work-long, gives_keys, masks_are}
 use Rattle.pair_garbling.proofs.pass.garble.Goals as goal
 
 pub put_wires-requires-clause-drawn : goal.put_wires-requires-clause-drawn
 put_wires-requires-clause-drawn c = (
   c.requires.drawn,
-  work-long c.requires.drawn c.args.session.round c.zeros-work.result (omega (arith, ap length c.zeros-work.ensures ∙ length-replicate {A = ℕ} 131072 0)),
+  work-long c.requires.drawn c.args.session.round c.scratch-work.result (omega (arith, c.scratch-work.ensures)),
 )
 
 pub put_masks-requires : goal.put_masks-requires

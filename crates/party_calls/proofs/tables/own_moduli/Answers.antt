@@ -4,7 +4,7 @@ use Rattle.party_calls.proofs.TableLoops.{wires_few, own_start, own-step, own-fr
 use Rattle.party_calls.proofs.tables.own_moduli.Goals as goal
 
 pub loop-wire-init : goal.loop-wire-init
-loop-wire-init c = own_start c.args.party _ c.zeros-out.ensures
+loop-wire-init c = own_start c.args.party _ c.scratch-out.ensures
 
 pub loop-wire-preserved : goal.loop-wire-preserved
 loop-wire-preserved c = own-step c.args.party _ (wires_few c.requires) c.loop-wire.invariant c.loop-wire-test.true c.owned.ensures

@@ -5,7 +5,7 @@ use Rattle.plain.proofs.Arrays.{values_start, values-done}
 use Rattle.plain.proofs.wires.wire_values.Goals as goal
 
 pub loop-w-init : goal.loop-w-init
-loop-w-init c = values_start c.zeros-done.ensures
+loop-w-init c = values_start c.scratch-done.ensures
 
 pub wire_value-requires : goal.wire_value-requires
 wire_value-requires c = ready c.requires.fed c.loop-w-test.true c.loop-w.invariant
