@@ -1,19 +1,17 @@
 -- Laws of the marks: a table of 0 and 1, one more wire at a time.
 -- Assumes nothing.
-use mathlib.Core.Path.{◌≡◌, refl, sym, ap, ap₂, ◌∙◌}
-use mathlib.Core.Bool.{Bool, true, false, cond, ◌||◌}
+use mathlib.Core.Path.{◌≡◌, refl, sym, ap, ◌∙◌}
+use mathlib.Core.Bool.{Bool, true, false, ◌||◌}
 use mathlib.Core.List.{List}
-use Prim.Native.Nat.{ℕ, zero, suc, ◌+◌, ◌≤◌, ◌<◌}
+use Prim.Native.Nat.{ℕ, ◌+◌, ◌≤◌, ◌<◌}
+use mir.Val.{bool_byte}
 use native.Mathlib.Numerals.{add-one}
 use native.Mathlib.Omega.{arith}
 use native.Mathlib.Decide.{ℕ_discrete}
 use borrow.Author.Tests.{eq-eqb, ne_eqb}
 use lib.Dec.{eqb}
-use lib.ListN.{length, get_or, take, set, replicate, length-set}
-use lib.Seq.{take_all, get_or-set_same, get_or-set_other}
-use Rattle.std.specs.List.{filter, count_by}
-use Rattle.std.proofs.lemmas.List.Sums.{length-filter, count_by-le-length}
-use Rattle.std.proofs.lemmas.List.Filters.{length-filter_more}
+use lib.ListN.{length, get_or, set, replicate, length-set}
+use lib.Seq.{get_or-set_same, get_or-set_other}
 use Rattle.lists.specs.Blocks.{tab, sum_to}
 use Rattle.lists.proofs.Sums.{sum_to_ext}
 use Rattle.lists.proofs.Blocks.{length-tab, get_or-tab, is-tab, replicate-tab}
@@ -62,27 +60,10 @@ marked_next n f i q h e =
             ∙ other_mark (some_below i (λ w. eqb (f w) p))
             ∙ ap (λ (b : Bool). mark (some_below i (λ w. eqb (f w) p) || b)) (sym (ne_eqb (f i) p (λ z. k (sym z ∙ sym e))))
 
--- how many elements of a list pass a test is a sum of marks
-cond_mark : (b : Bool) → cond b 1 0 ≡ mark b
-cond_mark true = refl
-cond_mark false = refl
-
-front-summed : (test : ℕ → Bool) (xs : List ℕ) (i : ℕ) → i ≤ length xs → length (filter test (take i xs)) ≡ sum_to i (λ j. mark (test (get_or xs j 0)))
-unfolding sum_to
-front-summed test xs zero h = refl
-front-summed test xs (suc i) h =
-    rw (← add-one i) (length-filter_more test xs i 0 (omega arith))
-    ∙ ap₂ ◌+◌ (front-summed test xs i (omega arith)) (cond_mark (test (get_or xs i 0)))
-
-pub count-summed : (test : ℕ → Bool) (xs : List ℕ) (n : ℕ) {r : ℕ} → length xs ≡ n → r ≡ count_by test xs → Counts n (sum_to n (λ j. mark (test (get_or xs j 0)))) r
-count-summed test xs n {r} long e =
-    record {
-      is =
-          e ∙ sym (length-filter test xs)
-          ∙ ap (λ (l : List ℕ). length (filter test l)) (sym (take_all n xs (omega arith)))
-          ∙ front-summed test xs n (omega arith);
-      most = omega (arith, count_by-le-length test xs);
-    }
+-- a test as a number is a mark
+pub test_counts : (b : Bool) {r : ℕ} → r ≡ bool_byte b → Counts 1 (mark b) r
+test_counts true e = record { is = e; most = omega (arith, e) }
+test_counts false e = record { is = e; most = omega (arith, e) }
 
 -- all turns are taken
 pub marked_all : (f : ℕ → ℕ) {i n : ℕ} {out : List ℕ} → out ≡ marked 256 f i → i ≤ n → n ≤ i → out ≡ marked 256 f n

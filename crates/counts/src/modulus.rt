@@ -33,11 +33,15 @@ pub fn marks(circuit: Circuit) -> [u8; 256]
     marks
 }
 
-// How many marks are set.
+// How many marks are set. They are added up: as the number of those that a filter leaves, the compiler took them one by one.
 pub fn marks_set(marks: [u8; 256]) -> u32
     ensures { SetMarks marks result }
 {
-    marks.iter().filter(|mark| **mark == 1).count() as u32
+    let mut total = 0;
+    for mark in &marks {
+        total += u32::from(*mark == 1);
+    }
+    total
 }
 
 // How many moduli the wires have.

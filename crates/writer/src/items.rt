@@ -1,12 +1,13 @@
 // One item, judged as the reader judges it and laid down.
 ghost use Rattle.std.specs.Prelude.{◌≡◌, ◌<◌, take};
+ghost use Rattle.checks.specs.Answer.{accepts};
 ghost use Rattle.words.specs.Cut.{cut_word};
 ghost use Rattle.words.specs.Items.{judged};
 ghost use Rattle.writer.specs.Desk.{desk, desk_after, lay_item};
 ghost use Rattle.writer.specs.Walked.{Steady, RoomFor};
 
 use super::laying::lay_word;
-use super::pen::{Pen, pen_of, stop};
+use super::pen::{Pen, go_on, stop};
 use checks::Answer;
 use words::{Due, Item, Step, branches_item, encode, judge};
 
@@ -17,11 +18,11 @@ fn went(
     place: usize,
     moduli: &mut [u8],
     file: &mut [u8],
-    pen: Pen,
+    pen: &mut Pen,
     lay: bool,
-) -> Pen
-    requires { Steady pen moduli.old × RoomFor step pen moduli.old × (pen.at < 900000) }
-    ensures { desk result moduli.new file.new ≡ desk_after lay place w (desk pen moduli.old file.old) step }
+)
+    requires { (pen.old.answer ≡ accepts) × Steady pen.old moduli.old × RoomFor step pen.old moduli.old × (pen.old.at < 900000) }
+    ensures { desk pen.new moduli.new file.new ≡ desk_after lay place w (desk pen.old moduli.old file.old) step }
 {
     let due = pen.due;
     let made = pen.made;
@@ -34,34 +35,34 @@ fn went(
         Step::Makes(wire, then) => {
             moduli[made] = wire.modulus;
             lay_word(file, at, w, lay);
-            pen_of(then, made + 1, given, taken, next)
+            go_on(pen, then, made + 1, given, taken, next);
         }
         Step::Goes(then) => {
             lay_word(file, at, w, lay);
-            pen_of(then, made, given, taken, next)
+            go_on(pen, then, made, given, taken, next);
         }
         Step::Gives(_) => {
             lay_word(file, at, w, lay);
-            pen_of(Due::Outputs, made, given + 1, taken, next)
+            go_on(pen, Due::Outputs, made, given + 1, taken, next);
         }
         Step::Ends => {
             lay_word(file, at, w, lay);
-            pen_of(due, made, given, taken, next)
+            go_on(pen, due, made, given, taken, next);
         }
     }
 }
 
 // An item, where nothing was refused before.
-fn item_on(item: Item, place: usize, moduli: &mut [u8], file: &mut [u8], pen: Pen, lay: bool) -> Pen
-    requires { Steady pen moduli.old × (pen.at < 900000) }
-    ensures { desk result moduli.new file.new ≡ desk_after lay place (cut_word item) (desk pen moduli.old file.old)
-        (judged (take pen.made moduli.old) pen.given pen.at pen.due item) }
+fn item_on(item: Item, place: usize, moduli: &mut [u8], file: &mut [u8], pen: &mut Pen, lay: bool)
+    requires { (pen.old.answer ≡ accepts) × Steady pen.old moduli.old × (pen.old.at < 900000) }
+    ensures { desk pen.new moduli.new file.new ≡ desk_after lay place (cut_word item) (desk pen.old moduli.old file.old)
+        (judged (take pen.old.made moduli.old) pen.old.given pen.old.at pen.old.due item) }
 {
     let due = pen.due;
     let at = pen.at as u32;
     let w = encode(item);
     let step = judge(&moduli[..pen.made], pen.given, at, due, item);
-    went(step, w, place, moduli, file, pen, lay)
+    went(step, w, place, moduli, file, pen, lay);
 }
 
 // An item; once the pen is put down nothing happens.
@@ -70,16 +71,15 @@ pub fn lay_item(
     place: usize,
     moduli: &mut [u8],
     file: &mut [u8],
-    pen: Pen,
+    pen: &mut Pen,
     lay: bool,
-) -> Pen
-    requires { Steady pen moduli.old × (pen.at < 900000) }
-    ensures { desk result moduli.new file.new ≡ lay_item lay place item (desk pen moduli.old file.old) }
+)
+    requires { Steady pen.old moduli.old × (pen.old.at < 900000) }
+    ensures { desk pen.new moduli.new file.new ≡ lay_item lay place item (desk pen.old moduli.old file.old) }
 {
-    let answer = pen.answer;
-    match answer {
+    match pen.answer {
         Ok(()) => item_on(item, place, moduli, file, pen, lay),
-        Err(_) => pen,
+        Err(_) => {}
     }
 }
 
@@ -90,17 +90,17 @@ fn branches_on(
     place: usize,
     moduli: &mut [u8],
     file: &mut [u8],
-    pen: Pen,
+    pen: &mut Pen,
     lay: bool,
-) -> Pen
-    requires { Steady pen moduli.old × (pen.at < 900000) }
-    ensures { desk result moduli.new file.new ≡ desk_after lay place (cut_word (Item.Branches a b)) (desk pen moduli.old file.old)
-        (judged (take pen.made moduli.old) pen.given pen.at pen.due (Item.Branches a b)) }
+)
+    requires { (pen.old.answer ≡ accepts) × Steady pen.old moduli.old × (pen.old.at < 900000) }
+    ensures { desk pen.new moduli.new file.new ≡ desk_after lay place (cut_word (Item.Branches a b)) (desk pen.old moduli.old file.old)
+        (judged (take pen.old.made moduli.old) pen.old.given pen.old.at pen.old.due (Item.Branches a b)) }
 {
     let due = pen.due;
     let w = encode(Item::Branches(a, b));
     let step = branches_item(&moduli[..pen.made], due, a, b);
-    went(step, w, place, moduli, file, pen, lay)
+    went(step, w, place, moduli, file, pen, lay);
 }
 
 // The branches of a choice, as `lay_item` would lay them. They do not go by it, because it has one caller, and so the compiler puts it into the loop over
@@ -111,15 +111,14 @@ pub fn lay_branches(
     place: usize,
     moduli: &mut [u8],
     file: &mut [u8],
-    pen: Pen,
+    pen: &mut Pen,
     lay: bool,
-) -> Pen
-    requires { Steady pen moduli.old × (pen.at < 900000) }
-    ensures { desk result moduli.new file.new ≡ lay_item lay place (Item.Branches a b) (desk pen moduli.old file.old) }
+)
+    requires { Steady pen.old moduli.old × (pen.old.at < 900000) }
+    ensures { desk pen.new moduli.new file.new ≡ lay_item lay place (Item.Branches a b) (desk pen.old moduli.old file.old) }
 {
-    let answer = pen.answer;
-    match answer {
+    match pen.answer {
         Ok(()) => branches_on(a, b, place, moduli, file, pen, lay),
-        Err(_) => pen,
+        Err(_) => {}
     }
 }

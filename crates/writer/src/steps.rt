@@ -21,13 +21,12 @@ pub fn begin(file: &mut [u8], lay: bool) -> Pen
 }
 
 // A record that says nothing; once the pen is put down nothing happens.
-fn refuse(pen: Pen, place: usize) -> Pen
-    ensures { (moduli file : List ℕ) → desk result moduli file ≡ refuse place (desk pen moduli file) pen.answer }
+fn refuse(pen: &mut Pen, place: usize)
+    ensures { (moduli file : List ℕ) → desk pen.new moduli file ≡ refuse place (desk pen.old moduli file) pen.old.answer }
 {
-    let answer = pen.answer;
-    match answer {
+    match pen.answer {
         Ok(()) => stop(pen, Refusal::UnknownWord, place),
-        Err(_) => pen,
+        Err(_) => {}
     }
 }
 
@@ -38,14 +37,14 @@ fn rest_on(
     tables: &[u8],
     moduli: &mut [u8],
     file: &mut [u8],
-    pen: Pen,
+    pen: &mut Pen,
     lay: bool,
-) -> Pen
-    requires { Steady pen moduli.old × (pen.at < 900000) }
-    ensures { desk result moduli.new file.new ≡ rest_on lay tables.now place rest (desk pen moduli.old file.old) }
+)
+    requires { Steady pen.old moduli.old × (pen.old.at < 900000) }
+    ensures { desk pen.new moduli.new file.new ≡ rest_on lay tables.now place rest (desk pen.old moduli.old file.old) }
 {
     match rest {
-        Rest::Alone => pen,
+        Rest::Alone => {}
         Rest::Table => lay_table(tables, place, file, pen, lay),
         Rest::Branches(a, b) => lay_branches(a, b, place, moduli, file, pen, lay),
     }
@@ -58,17 +57,17 @@ fn spoken_on(
     tables: &[u8],
     moduli: &mut [u8],
     file: &mut [u8],
-    pen: Pen,
+    pen: &mut Pen,
     lay: bool,
-) -> Pen
-    requires { Ready pen moduli.old }
-    ensures { desk result moduli.new file.new ≡ spoken_on lay tables.now place said (desk pen moduli.old file.old) }
+)
+    requires { Ready pen.old moduli.old }
+    ensures { desk pen.new moduli.new file.new ≡ spoken_on lay tables.now place said (desk pen.old moduli.old file.old) }
 {
     match said {
         None => refuse(pen, place),
         Some(Said { first, rest }) => {
-            let begun = lay_item(first, place, moduli, file, pen, lay);
-            rest_on(rest, place, tables, moduli, file, begun, lay)
+            lay_item(first, place, moduli, file, pen, lay);
+            rest_on(rest, place, tables, moduli, file, pen, lay);
         }
     }
 }
@@ -79,12 +78,12 @@ pub fn step(
     tables: &[u8],
     moduli: &mut [u8],
     file: &mut [u8],
-    pen: Pen,
+    pen: &mut Pen,
     lay: bool,
-) -> Pen
-    requires { Ready pen moduli.old }
-    ensures { Stepped lay tables.now entry pen moduli.old file.old result moduli.new file.new }
+)
+    requires { Ready pen.old moduli.old }
+    ensures { Stepped lay tables.now entry pen.old moduli.old file.old pen.new moduli.new file.new }
 {
     let place = pen.made + pen.given;
-    spoken_on(speak(entry), place, tables, moduli, file, pen, lay)
+    spoken_on(speak(entry), place, tables, moduli, file, pen, lay);
 }

@@ -1,10 +1,11 @@
 // A projection's table: its entries are taken from the lent tables, judged in one tight loop and laid down in another.
 ghost use Rattle.std.specs.Prelude.{◌≡◌, List, ℕ, ◌<◌};
+ghost use Rattle.checks.specs.Answer.{accepts};
 ghost use Rattle.words.specs.declared.gate.Due.TheVariants.{Entries};
 ghost use Rattle.writer.specs.Desk.{desk, all_below, table_due, lay_table};
 
 use super::laying::lay_entries;
-use super::pen::{Pen, pen_of, stop};
+use super::pen::{Pen, go_on, stop};
 use checks::{Answer, Refusal};
 use words::Due;
 
@@ -24,16 +25,18 @@ fn table_due(
     tables: &[u8],
     place: usize,
     file: &mut [u8],
-    pen: Pen,
+    pen: &mut Pen,
     lay: bool,
     left: u8,
     modulus: u8,
-) -> Pen
-    requires { pen.at < 900000 }
-    ensures { (moduli : List ℕ) → desk result moduli file.new ≡ table_due lay place tables.now (desk pen moduli file.old) (Entries left modulus) }
+)
+    requires { (pen.old.answer ≡ accepts) × (pen.old.at < 900000) }
+    ensures { (moduli : List ℕ) → desk pen.new moduli file.new ≡ table_due lay place tables.now (desk pen.old moduli file.old) (Entries left modulus) }
 {
     let taken = pen.taken;
     let at = pen.at;
+    let made = pen.made;
+    let given = pen.given;
     let n = tables.len();
     let wanted = usize::from(left);
     // never more entries are taken than there are
@@ -52,20 +55,18 @@ fn table_due(
         return stop(pen, Refusal::OutOfRange, place);
     }
     lay_entries(file, at, images, lay);
-    pen_of(Due::Gates, pen.made, pen.given, past, at + wanted)
+    go_on(pen, Due::Gates, made, given, past, at + wanted);
 }
 
 // The table that is due after a projection's own word; once the pen is put down nothing happens.
-pub fn lay_table(tables: &[u8], place: usize, file: &mut [u8], pen: Pen, lay: bool) -> Pen
-    requires { pen.at < 900000 }
-    ensures { (moduli : List ℕ) → desk result moduli file.new ≡ lay_table lay place tables.now (desk pen moduli file.old) }
+pub fn lay_table(tables: &[u8], place: usize, file: &mut [u8], pen: &mut Pen, lay: bool)
+    requires { pen.old.at < 900000 }
+    ensures { (moduli : List ℕ) → desk pen.new moduli file.new ≡ lay_table lay place tables.now (desk pen.old moduli file.old) }
 {
-    let answer = pen.answer;
-    if let Err(_) = answer {
-        return pen;
+    if let Err(_) = pen.answer {
+        return;
     }
-    match pen.due {
-        Due::Entries(left, modulus) => table_due(tables, place, file, pen, lay, left, modulus),
-        _ => pen,
+    if let Due::Entries(left, modulus) = pen.due {
+        table_due(tables, place, file, pen, lay, left, modulus);
     }
 }

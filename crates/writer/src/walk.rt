@@ -13,7 +13,7 @@ pub fn over(records: &[Record], tables: &[u8], moduli: &mut [u8], file: &mut [u8
 {
     let mut pen = begin(file, lay);
     for entry in records {
-        pen = step(*entry, tables, moduli, file, pen, lay);
+        step(*entry, tables, moduli, file, &mut pen, lay);
     }
     pen
 }

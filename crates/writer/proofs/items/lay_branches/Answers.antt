@@ -7,8 +7,8 @@ use Rattle.writer.proofs.items.lay_branches.Goals as goal
 
 pub returns-in-Ok : goal.returns-in-Ok
 returns-in-Ok c = let a = c.args in
-    lay_on a.lay a.place (Branches a.a a.b) (desk a.pen a.moduli.now a.file.now) c.in-Ok.is c.branches_on.ensures
+    lay_on a.lay a.place (Branches a.a a.b) (desk a.pen.now a.moduli.now a.file.now) c.in-Ok.is c.branches_on.ensures
 
 pub returns-in-Err : goal.returns-in-Err
 returns-in-Err c = let a = c.args in
-    lay_off a.lay a.place (Branches a.a a.b) (desk a.pen a.moduli.now a.file.now) c.in-Err.is
+    lay_off a.lay a.place (Branches a.a a.b) (desk a.pen.now a.moduli.now a.file.now) c.in-Err.is

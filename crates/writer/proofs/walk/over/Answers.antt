@@ -7,11 +7,11 @@ use Rattle.writer.proofs.walk.over.Goals as goal
 pub loop-entry-init : goal.loop-entry-init
 loop-entry-init c = start c.requires c.begin-pen.ensures
 
-pub step-pen-requires : goal.step-pen-requires
-step-pen-requires c = ready c.loop-entry.invariant
+pub step-requires : goal.step-requires
+step-requires c = ready c.loop-entry.invariant
 
 pub loop-entry-preserved : goal.loop-entry-preserved
-loop-entry-preserved c = more c.loop-entry-test.true c.loop-entry.invariant c.step-pen.ensures
+loop-entry-preserved c = more c.loop-entry-test.true c.loop-entry.invariant c.step.ensures
 
 pub returns : goal.returns
 returns c = let all : c.loop-entry.entry-index ≡ length c.args.records.now = omega arith in rw (← all) c.loop-entry.invariant
