@@ -26,7 +26,9 @@ fn has_head(file: &[u8]) -> bool
     4 <= file.len() && word_at(file, 0) == 0x1000_0000
 }
 
-// What a file comes to. Wires, their moduli and outputs fill their arrays from the front.
+// What a file comes to. Wires, their moduli and outputs fill their arrays from the front. It goes into each call that reads, where the compiler makes no result
+// with room for a circuit, which would be cleared first and copied.
+#[inline(always)]
 pub fn read(file: &[u8]) -> Result<Circuit, Refused>
     ensures ok { IfOk result (λ circuit. Holds circuit (read_file file.now)) }
     ensures err { IfErr result (λ why. (read_file file.now).answer ≡ Err why) }

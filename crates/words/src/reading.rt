@@ -12,7 +12,9 @@ use super::items::{
 use checks::Refusal;
 
 // What a word does at an index of the file, where the wires made so far have these moduli, `given` outputs are given, and `due` is due. Kinds are the numbers
-// that a word has for them, as in the definition: to make an enum of them first would list the eleven once more.
+// that a word has for them, as in the definition: to make an enum of them first would list the eleven once more. It goes into the reader's loop wherever that
+// stands, so that what a word does never goes through memory.
+#[inline(always)]
 #[tactic(auto, unfolding(crate::specs::Reading::read_word, crate::specs::Reading::said))]
 pub fn read_word(moduli: &[u8], given: usize, at: u32, due: Due, w: u32) -> Step
     requires { (length moduli.now ≤ 1024) × (at + 1 < 2 ^ 32) }
